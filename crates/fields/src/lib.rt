@@ -1,0 +1,2 @@
+// Numbers that a file stores.
+pub mod bytes;

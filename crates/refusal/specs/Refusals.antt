@@ -1,0 +1,21 @@
+-- Refusals, and tests that are made in an order.
+use Prim.Native.Nat.{ℕ}
+use mathlib.Core.Bool.{Bool, cond}
+use Rattle.refusal.specs.declared.Refusal.{Refusal}
+use Rattle.refusal.specs.declared.Checked.{Checked}
+use Rattle.refusal.specs.declared.Checked.the-variants.{Passed, Refused}
+
+-- The number and the figures of each answer; 0 where nothing is refused.
+unfoldable pub refusalOf : Checked → Refusal
+refusalOf Passed = record { number = 0; first = 0; second = 0 }
+refusalOf (Refused r) = r
+
+-- refused with this number and these figures where b holds
+unfoldable pub refuse : ℕ → ℕ → ℕ → Bool → Checked
+refuse number first second b = cond b (Refused (record { number = number; first = first; second = second })) Passed
+
+-- The second test is made only where the first has passed.
+infixr 10 _then_
+unfoldable pub _then_ : Checked → Checked → Checked
+Passed then t = t
+Refused r then t = Refused r
