@@ -1,5 +1,5 @@
 -- Refusals, and tests that are made in an order.
-use Prim.Native.Nat.{ℕ}
+use Prim.Native.Nat.{ℕ, _-_, _^_, min}
 use mathlib.Core.Bool.{Bool, cond}
 use Rattle.refusal.specs.declared.Refusal.{Refusal}
 use Rattle.refusal.specs.declared.Checked.{Checked}
@@ -9,6 +9,13 @@ use Rattle.refusal.specs.declared.Checked.the-variants.{Passed, Refused}
 unfoldable pub refusalOf : Checked → Refusal
 refusalOf Passed = record { number = 0; first = 0; second = 0 }
 refusalOf (Refused r) = r
+
+-- Beyond 2^64 − 1 a figure in a refusal is given as 2^64 − 1.
+abbrev pub largest64 : ℕ
+largest64 = 2 ^ 64 - 1
+
+unfoldable pub figure : ℕ → ℕ
+figure n = min n largest64
 
 -- refused with this number and these figures where b holds
 unfoldable pub refuse : ℕ → ℕ → ℕ → Bool → Checked
