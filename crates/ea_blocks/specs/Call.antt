@@ -1,0 +1,21 @@
+-- What a list or a lookup looks at, and what it gives.
+use Prim.Native.Nat.{ℕ}
+use mathlib.Core.List.{List}
+use Rattle.chunk_grid.specs.Grid.{Grid}
+use Rattle.ea_header.specs.declared.ExtensibleArrayHeader.{ExtensibleArrayHeader}
+use Rattle.ea_blocks.specs.declared.Entry.{Entry}
+
+-- The file, the checksum, the header that was read, the size of an address, the grid, and the bytes of one element of the dataset.
+-- The checksum is lookup3 in every contract; another stands in its place only where a small file is computed by hand.
+pub record Call : Type 0 where
+  pub file : List ℕ
+  pub sum : List ℕ → ℕ
+  pub header : ExtensibleArrayHeader
+  pub offsetSize : ℕ
+  pub grid : Grid
+  pub elementBytes : ℕ
+
+-- a record of the list: what the chunk's place holds, and the chunk's corner
+pub record Rec : Type 0 where
+  pub entry : Entry
+  pub corner : List ℕ

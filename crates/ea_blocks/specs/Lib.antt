@@ -1,0 +1,4 @@
+pub mod Call
+pub mod Structures
+pub mod Elements
+pub mod Places
