@@ -15,7 +15,7 @@ use Rattle.ea_header.proofs.is_power_of_two.Lts as lts
 
 -- src/lib.rt:67:9
 returns : tie.Need-returns
-returns c =    let n = c .before .args .n in
+returns c = let n = c .before .args .n in
     sym (ne-eqb n (2 ^ log2 n) (λ e. omega (arith, pow-pos (log2 n))))
 
 -- src/lib.rt:69:21
@@ -32,7 +32,7 @@ shl-result c = search needs
 
 -- src/lib.rt:63:1
 returns-2 : tie.Need-returns-2
-returns-2 c =    let n = c .before .args .n in
+returns-2 c = let n = c .before .args .n in
     let t = top-place n (omega arith) (omega arith) in
     ap (λ (p : ℕ). eqb n p) (one-shl (63 - leadingZeros 64 n) (omega arith) ∙ ap (λ (k : ℕ). 2 ^ k) (t .1))
 

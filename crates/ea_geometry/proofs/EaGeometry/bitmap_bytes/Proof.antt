@@ -25,13 +25,13 @@ pages-requires c κs = search needs
 
 -- src/lib.rt:172:39
 add-result : tie.Need-add-result
-add-result c =    let a = c .before .before .before .before in
+add-result c = let a = c .before .before .before .before in
     omega (arith, elements-few (a .args .self .header) (a .pre .1) (a .args .u) (a .pre .0), pages-few (a .args .self .header) (a .pre .1) (a .args .u) (a .pre .0), c .pages .ensures)
 
 -- src/lib.rt:172:20
 mul-result : tie.Need-mul-result
 unfolding bitBytes
-mul-result c =    let a = c .before .before .before .before in
+mul-result c = let a = c .before .before .before .before in
     rw (c .before .blocks2 .ensures, c .pages .ensures) (omega (arith, bitmap-few (a .args .self .header) (a .pre .1) (a .args .u) (a .pre .0)))
 
 -- src/lib.rt:172:13

@@ -25,7 +25,7 @@ shl-result c = omega (arith, supers-few (c .before .args .self .header) (c .befo
 -- src/lib.rt:93:5
 returns : tie.Need-returns
 unfolding blockElements
-returns c =    let a = c .before .args in
+returns c = let a = c .before .args in
     rw (c .least-block-elements .ensures) (shl-exact 8 ((a .u + 1) / 2) 64 (omega arith) (omega (arith, supers-few (a .self .header) (c .before .pre .1))))
 
 pub block-elements-spec : {M : Type 1} → statement M

@@ -22,7 +22,7 @@ shl-result c = omega (arith, few c)
 
 -- src/lib.rt:115:10
 sub-result : tie.Need-sub-result
-sub-result c =    let k = (c .args .u + 1) / 2 in
+sub-result c = let k = (c .args .u + 1) / 2 in
     omega (arith, one-shl k (omega (arith, few c)), pow-pos k)
 
 -- src/lib.rt:115:40
@@ -31,18 +31,18 @@ shl-result-2 c = omega (arith, few c)
 
 -- src/lib.rt:115:39
 sub-result-2 : tie.Need-sub-result-2
-sub-result-2 c =    let k = c .args .u / 2 in
+sub-result-2 c = let k = c .args .u / 2 in
     omega (arith, one-shl k (omega (arith, few c)), pow-pos k)
 
 -- src/lib.rt:115:9
 add-result-2 : tie.Need-add-result-2
-add-result-2 c =    let u = c .args .u in
+add-result-2 c = let u = c .args .u in
     rw (one-shl ((u + 1) / 2) (omega (arith, few c)), one-shl (u / 2) (omega (arith, few c)))
     (omega (arith, blocks-before-is u, blocks-before-few (c .args .self .header) (c .pre .1) u (c .pre .0)))
 
 -- src/lib.rt:111:5
 returns : tie.Need-returns
-returns c =    let u = c .args .u in
+returns c = let u = c .args .u in
     rw (one-shl ((u + 1) / 2) (omega (arith, few c)), one-shl (u / 2) (omega (arith, few c))) (sym (blocks-before-is u))
 
 pub blocks-before-spec : {M : Type 1} → statement M

@@ -29,7 +29,7 @@ sub-result c = omega (arith, one-shl (c .before .args .u) (few c), pow-pos (c .b
 -- src/lib.rt:139:9
 mul-result : tie.Need-mul-result
 unfolding elementsBefore
-mul-result c =    let a = c .before in
+mul-result c = let a = c .before in
     rw (one-shl (a .args .u) (few c), c .least-block-elements .ensures)
     (omega (arith, elements-before-few (a .args .self .header) (a .pre .1) (a .args .u) (a .pre .0)))
 

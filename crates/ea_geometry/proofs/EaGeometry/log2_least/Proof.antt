@@ -18,7 +18,7 @@ cast-result c = omega (arith, trailing-le 64 (c .least-block-elements .result))
 
 -- src/lib.rt:65:5
 returns : tie.Need-returns
-returns c =    let a = c .before in
+returns c = let a = c .before in
     rw (c .least-block-elements .ensures) (trailing-log2 (a .args .self .header .«min_dblk_nelmts») (a .pre .power) (a .pre .least))
 
 pub log2-least-spec : {M : Type 1} → statement M

@@ -32,17 +32,17 @@ returns c = not-power (c .before .before .before .args .self) (sym (c .before .i
 
 -- src/lib.rt:39:13
 returns-2 : tie.Need-returns-2
-returns-2 c =    let h = c .before .before .before .before .before .args .self in
+returns-2 c = let h = c .before .before .before .before .before .args .self in
     rw (rest (c .before .before), lt-leb (h .«max_nelmts_bits») 62 (c .if2 .taken))
 
 -- src/lib.rt:42:13
 returns-3 : tie.Need-returns-3
-returns-3 c =    let h = c .before .before .before .before .before .before .before .args .self in
+returns-3 c = let h = c .before .before .before .before .before .before .before .args .self in
     rw (rest (c .before .before .before .before), le-leb (h .«max_nelmts_bits») 62 (c .before .before .if2 .left), lt-leb (h .«super_blk_min_nelmts») 32 (c .if3 .taken))
 
 -- src/lib.rt:32:5
 returns-4 : tie.Need-returns-4
-returns-4 c =    let h = c .before .before .before .before .before .before .before .before .args .self in
+returns-4 c = let h = c .before .before .before .before .before .before .before .before .args .self in
     rw (rest (c .before .before .before .before .before), le-leb (h .«max_nelmts_bits») 62 (c .before .before .before .if2 .left), le-leb (h .«super_blk_min_nelmts») 32 (c .before .if3 .left))
 
 pub is-served-spec : {M : Type 1} → statement M
