@@ -1,0 +1,21 @@
+use Prim.Native.Nat.{_/_}
+use native.Mathlib.Omega.{arith}
+use Rattle.ea_header.proofs.Log.{one-shl}
+use Rattle.ea_geometry.specs.Sizes.{blocks}
+use Rattle.ea_geometry.proofs.Counts.{supers-few}
+use Rattle.ea_geometry.proofs.EaGeometry.blocks.Statement.{statement}
+use Rattle.ea_geometry.proofs.EaGeometry.blocks.Tie as tie
+use Rattle.ea_geometry.proofs.EaGeometry.blocks.Reads as reads
+use Rattle.ea_geometry.proofs.EaGeometry.blocks.Lts as lts
+
+-- src/lib.rt:89:9
+shl-result : tie.Need-shl-result
+shl-result c = omega (arith, supers-few (c .args .self .header) (c .pre .1))
+
+-- src/lib.rt:85:5
+returns : tie.Need-returns
+unfolding blocks
+returns c = one-shl (c .args .u / 2) (omega (arith, supers-few (c .args .self .header) (c .pre .1)))
+
+pub blocks-spec : {M : Type 1} → statement M
+blocks-spec = tie.close (tie.spec shl-result returns)

@@ -1,0 +1,29 @@
+use borrow.Author.Needs.{needs}
+use Rattle.ea_geometry.proofs.page_bits.page_is_initialized.Statement.{statement}
+use Rattle.ea_geometry.proofs.page_bits.page_is_initialized.Tie as tie
+use Rattle.ea_geometry.proofs.page_bits.page_is_initialized.Reads as reads
+use Rattle.ea_geometry.proofs.page_bits.page_is_initialized.Lts as lts
+
+-- src/page_bits.rt:25:7
+add-result : tie.Need-add-result
+add-result c = search needs
+
+-- src/page_bits.rt:25:5
+shared-slice-read-result : tie.Need-shared-slice-read-result
+shared-slice-read-result c = ?
+
+-- src/page_bits.rt:25:34
+cast-result : tie.Need-cast-result
+cast-result c = search needs
+
+-- src/page_bits.rt:25:25
+shr-result : tie.Need-shr-result
+shr-result c = search needs
+
+-- src/page_bits.rt:21:1
+returns : tie.Need-returns
+returns c = ?
+
+pub page-is-initialized-spec : {M : Type 1} → statement M
+page-is-initialized-spec =
+    tie.close (tie.spec add-result shared-slice-read-result cast-result shr-result returns)

@@ -1,0 +1,5 @@
+pub mod Sizes
+pub mod Extents
+pub mod PageBits
+pub mod Place
+pub mod Bounded

@@ -1,0 +1,31 @@
+-- Which headers are served.
+use Prim.Native.Nat.{ℕ, _^_, _≤_}
+use mathlib.Core.Bool.{Bool, not, _&&_}
+use mathlib.Core.Path.{_≡_}
+use lib.Dec.{eqb, leb}
+use Rattle.refusal.specs.declared.Checked.{Checked}
+use Rattle.refusal.specs.Refusals.{refuse}
+use Rattle.ea_header.specs.Log.{log2}
+use Rattle.ea_header.specs.declared.ExtensibleArrayHeader.{ExtensibleArrayHeader}
+
+-- A served header has least block elements that are a power of two, 1 to 128, max bits up to 62, a super block minimum up to 32
+-- and a page exponent up to 32.
+unfoldable pub served : ExtensibleArrayHeader → Bool
+served h =
+    eqb (h .«min_dblk_nelmts») (2 ^ log2 (h .«min_dblk_nelmts»))
+    && leb (h .«min_dblk_nelmts») 128
+    && leb (h .«max_nelmts_bits») 62
+    && leb (h .«super_blk_min_nelmts») 32
+    && leb (h .«max_dblk_nelmts_bits») 32
+
+-- 27 header not served
+unfoldable pub servedTest : ExtensibleArrayHeader → Checked
+servedTest h = refuse 27 0 0 (not (served h))
+
+-- the same as facts, for functions that are called on served headers only
+pub record Served (h : ExtensibleArrayHeader) : Type 0 where
+  pub power : h .«min_dblk_nelmts» ≡ 2 ^ log2 (h .«min_dblk_nelmts»)
+  pub least : h .«min_dblk_nelmts» ≤ 128
+  pub bits : h .«max_nelmts_bits» ≤ 62
+  pub minimum : h .«super_blk_min_nelmts» ≤ 32
+  pub page : h .«max_dblk_nelmts_bits» ≤ 32
