@@ -1,0 +1,1 @@
+// One chunk by its corner.
