@@ -38,8 +38,8 @@ unfoldable pub undefinedAt : List ℕ → ℕ → ℕ → Bool
 undefinedAt s pos o = undefined o (addressAt s pos o)
 
 -- A field of such a width is read where the width is right and the field lies in the file.
-unfoldable pub sizedTest : ℕ → List ℕ → ℕ → ℕ → Checked
-sizedTest number s pos w = widthTest number w then inFile s pos w
+unfoldable pub fieldTest : ℕ → List ℕ → ℕ → ℕ → Checked
+fieldTest number s pos w = widthTest number w then inFile s pos w
 
 -- A size field has a width of its own, 0 to 8 bytes; over 8 is 29.
 unfoldable pub sizeFieldTest : List ℕ → ℕ → ℕ → Checked
@@ -56,13 +56,13 @@ optionalAfter (Refused r) b a = OptionalRefused r
 
 -- an address, an address that may be undefined, a length, a size
 unfoldable pub offsetField : List ℕ → ℕ → ℕ → Field
-offsetField s pos o = fieldAfter (sizedTest 1 s pos o) (addressAt s pos o)
+offsetField s pos o = fieldAfter (fieldTest 1 s pos o) (addressAt s pos o)
 
 unfoldable pub optionalOffsetField : List ℕ → ℕ → ℕ → OptionalOffset
-optionalOffsetField s pos o = optionalAfter (sizedTest 1 s pos o) (undefinedAt s pos o) (addressAt s pos o)
+optionalOffsetField s pos o = optionalAfter (fieldTest 1 s pos o) (undefinedAt s pos o) (addressAt s pos o)
 
 unfoldable pub lengthField : List ℕ → ℕ → ℕ → Field
-lengthField s pos l = fieldAfter (sizedTest 2 s pos l) (leAt s pos l)
+lengthField s pos l = fieldAfter (fieldTest 2 s pos l) (leAt s pos l)
 
 unfoldable pub sizeField : List ℕ → ℕ → ℕ → Field
 sizeField s pos w = fieldAfter (sizeFieldTest s pos w) (leAt s pos w)

@@ -3,8 +3,9 @@ ghost use mathlib.Core.Path.{_≡_};
 ghost use mathlib.Core.Bool.{true};
 ghost use Prim.Native.Nat.{_+_, _*_, _^_, _<_, _≤_};
 ghost use lib.ListN.{length};
-ghost use Rattle.fields.specs.LittleEndian.{leAt};
-ghost use Rattle.fields.specs.Fields.{isWidth, widthTest, inFile, sizedTest, addressAt};
+ghost use lib.Seq.{sets};
+ghost use Rattle.fields.specs.LittleEndian.{leAt, leBytes};
+ghost use Rattle.fields.specs.Fields.{isWidth, widthTest, inFile, fieldTest, addressAt};
 ghost use Rattle.fields.specs.Fields.{offsetField, optionalOffsetField, lengthField, sizeField};
 use crate::address::Address;
 use crate::address::is_undefined_addr;
@@ -69,8 +70,8 @@ pub fn ensure_width(width: u64, number: u64) -> Checked
 }
 
 // The two tests of an offset or length.
-fn ensure_sized(s: &[u8], pos: u64, width: u64, number: u64) -> Checked
-    ensures { λ r. ⌜ r ≡ sizedTest number (now (s .entry)) pos width ⌝ }
+fn ensure_field(s: &[u8], pos: u64, width: u64, number: u64) -> Checked
+    ensures { λ r. ⌜ r ≡ fieldTest number (now (s .entry)) pos width ⌝ }
 {
     match ensure_width(width, number) {
         Checked::Passed => ensure_len(s, pos, width),
@@ -82,7 +83,7 @@ fn ensure_sized(s: &[u8], pos: u64, width: u64, number: u64) -> Checked
 pub fn read_offset(s: &[u8], pos: u64, width: u64) -> Field
     ensures { λ r. ⌜ r ≡ offsetField (now (s .entry)) pos width ⌝ }
 {
-    match ensure_sized(s, pos, width, Refusal::OFFSET_SIZE) {
+    match ensure_field(s, pos, width, Refusal::OFFSET_SIZE) {
         Checked::Passed => {
             let a = read_address(s, pos as usize, width as usize);
             Field::Value(a.value)
@@ -95,7 +96,7 @@ pub fn read_offset(s: &[u8], pos: u64, width: u64) -> Field
 pub fn read_optional_offset(s: &[u8], pos: u64, width: u64) -> OptionalOffset
     ensures { λ r. ⌜ r ≡ optionalOffsetField (now (s .entry)) pos width ⌝ }
 {
-    match ensure_sized(s, pos, width, Refusal::OFFSET_SIZE) {
+    match ensure_field(s, pos, width, Refusal::OFFSET_SIZE) {
         Checked::Passed => {
             let a = read_address(s, pos as usize, width as usize);
             if is_undefined_addr(a, width) {
@@ -112,7 +113,7 @@ pub fn read_optional_offset(s: &[u8], pos: u64, width: u64) -> OptionalOffset
 pub fn read_length(s: &[u8], pos: u64, width: u64) -> Field
     ensures { λ r. ⌜ r ≡ lengthField (now (s .entry)) pos width ⌝ }
 {
-    match ensure_sized(s, pos, width, Refusal::LENGTH_SIZE) {
+    match ensure_field(s, pos, width, Refusal::LENGTH_SIZE) {
         Checked::Passed => Field::Value(read_le(s, pos as usize, width as usize)),
         Checked::Refused(r) => Field::Refused(r),
     }
@@ -179,7 +180,7 @@ fn read_le_bytes(s: &[u8], pos: usize, width: usize) -> u64
 }
 
 // The number in the 2 bytes of s from pos on. (This and the next two are written as sums, which compile to one load.)
-pub fn read_u16_le(s: &[u8], pos: usize) -> u16
+fn read_u16_le(s: &[u8], pos: usize) -> u16
     requires { ⌜ pos + 2 ≤ length (now s) ⌝ }
     ensures { λ r. ⌜ r ≡ leAt (now (s .entry)) pos 2 ⌝ }
 {
@@ -217,6 +218,20 @@ pub fn read_u32_le_padded(s: &[u8], pos: usize) -> u32
     if 4 <= left {
         read_u32_le(s, pos)
     } else {
-        read_le(s, pos, left) as u32
+        read_le_bytes(s, pos, left) as u32
+    }
+}
+
+// Stores the lowest `width` bytes of a number in s from pos on.
+pub fn put_le(s: &mut [u8], pos: usize, width: usize, value: u64)
+    requires { ⌜ pos + width ≤ length (now s) ⌝ }
+    ensures { λ _. ⌜ now (s .exit) ≡ sets (now (s .entry)) pos (leBytes width value) ⌝ }
+{
+    let mut rest = value;
+    let mut i = 0;
+    while i < width {
+        s[pos + i] = (rest % 256) as u8;
+        rest = rest / 256;
+        i += 1;
     }
 }
