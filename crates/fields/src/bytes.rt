@@ -21,7 +21,7 @@ pub enum Field {
     Refused(Refusal),
 }
 
-// What reading an address finds that the file may leave undefined.
+// What reading an address finds that may be undefined.
 pub enum OptionalOffset {
     Undefined,
     At(u64),
@@ -38,7 +38,7 @@ pub fn is_width(width: u64) -> bool
     }
 }
 
-// Tests that `needed` bytes from pos on lie in s.
+// Tests that `needed` bytes from pos on lie in s: 20 where they don't.
 pub fn ensure_len(s: &[u8], pos: u64, needed: u64) -> Checked
     ensures { λ r. ⌜ r ≡ inFile (now (s .entry)) pos needed ⌝ }
 {
@@ -55,7 +55,7 @@ pub fn ensure_len(s: &[u8], pos: u64, needed: u64) -> Checked
     })
 }
 
-// Tests that an offset or length can be `width` bytes wide; where it can't, it is refused with this number.
+// Tests that an offset or length can be `width` bytes wide; where it can't, `number` is its refusal.
 pub fn ensure_width(width: u64, number: u64) -> Checked
     ensures { λ r. ⌜ r ≡ widthTest number width ⌝ }
 {
@@ -69,7 +69,7 @@ pub fn ensure_width(width: u64, number: u64) -> Checked
     })
 }
 
-// The two tests of an offset or length.
+// The tests of an offset or length: its width, then that it lies in s.
 fn ensure_field(s: &[u8], pos: u64, width: u64, number: u64) -> Checked
     ensures { λ r. ⌜ r ≡ fieldTest number (now (s .entry)) pos width ⌝ }
 {
@@ -79,7 +79,7 @@ fn ensure_field(s: &[u8], pos: u64, width: u64, number: u64) -> Checked
     }
 }
 
-// The address in the `width` bytes of s from pos on.
+// The address in the `width` bytes of s from pos on: 1 where no offset is so wide, 20 past the end.
 pub fn read_offset(s: &[u8], pos: u64, width: u64) -> Field
     ensures { λ r. ⌜ r ≡ offsetField (now (s .entry)) pos width ⌝ }
 {
@@ -92,7 +92,7 @@ pub fn read_offset(s: &[u8], pos: u64, width: u64) -> Field
     }
 }
 
-// The same of an address that the file may leave undefined.
+// The same, where the address may be undefined.
 pub fn read_optional_offset(s: &[u8], pos: u64, width: u64) -> OptionalOffset
     ensures { λ r. ⌜ r ≡ optionalOffsetField (now (s .entry)) pos width ⌝ }
 {
@@ -109,7 +109,7 @@ pub fn read_optional_offset(s: &[u8], pos: u64, width: u64) -> OptionalOffset
     }
 }
 
-// The length in the `width` bytes of s from pos on.
+// The length in the `width` bytes of s from pos on: 2 where no length is so wide, 20 past the end.
 pub fn read_length(s: &[u8], pos: u64, width: u64) -> Field
     ensures { λ r. ⌜ r ≡ lengthField (now (s .entry)) pos width ⌝ }
 {
@@ -119,7 +119,7 @@ pub fn read_length(s: &[u8], pos: u64, width: u64) -> Field
     }
 }
 
-// The size in the `width` bytes of s from pos on.
+// The size in the `width` bytes of s from pos on: 29 over 8 bytes, 20 past the end.
 pub fn read_variable_length(s: &[u8], pos: u64, width: u64) -> Field
     ensures { λ r. ⌜ r ≡ sizeField (now (s .entry)) pos width ⌝ }
 {
@@ -134,12 +134,6 @@ pub fn read_variable_length(s: &[u8], pos: u64, width: u64) -> Field
         Checked::Passed => Field::Value(read_le(s, pos as usize, width as usize)),
         Checked::Refused(r) => Field::Refused(r),
     }
-}
-
-fn wide(b: u8) -> u64
-    ensures { λ r. ⌜ (r ≡ b) × (r < 256) ⌝ }
-{
-    b as u64
 }
 
 // The address that is stored in the `width` bytes of s from pos on. No other function reads one.
@@ -163,6 +157,12 @@ pub fn read_le(s: &[u8], pos: usize, width: usize) -> u64
         8 => read_u64_le(s, pos),
         _ => read_le_bytes(s, pos, width),
     }
+}
+
+fn wide(b: u8) -> u64
+    ensures { λ r. ⌜ (r ≡ b) × (r < 256) ⌝ }
+{
+    b as u64
 }
 
 // The same, byte by byte.

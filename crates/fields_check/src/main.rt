@@ -96,7 +96,7 @@ fn print_ends(s: &[u8], pos: usize) {
     }
 }
 
-// Each width of an offset at which a wider number would have been cut to one of 8 bits or less, and the widest.
+// Wide widths, among them those that would be 2, 4 or 8 if they were cut to 8, 16 or 32 bits.
 fn print_wide(s: &[u8], pos: u64) {
     print_readers(s, pos, 16);
     print_readers(s, pos, 255);

@@ -1,8 +1,8 @@
 -- `fields_check::print_bytes` is safe and ends. Assumes nothing.
-use borrow.Author.Needs.{needs}
 use Prim.Native.Nat.{_-_, _≤_}
 use native.Mathlib.Omega.{arith}
 use lib.ListN.{length}
+use borrow.Author.Needs.{needs}
 use Rattle.fields_check.proofs.print_bytes.Statement.{statement}
 use Rattle.fields_check.proofs.print_bytes.Tie as tie
 

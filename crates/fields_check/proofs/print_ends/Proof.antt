@@ -1,8 +1,8 @@
 -- `fields_check::print_ends` is safe and ends. Assumes nothing.
-use borrow.Author.Needs.{needs}
 use Prim.Native.Nat.{_-_, _≤_}
 use native.Mathlib.Omega.{arith}
 use lib.ListN.{length, length-take}
+use borrow.Author.Needs.{needs}
 use Rattle.fields_check.proofs.print_ends.Statement.{statement}
 use Rattle.fields_check.proofs.print_ends.Tie as tie
 

@@ -1,6 +1,6 @@
 -- `fields_check::print_stored` is safe and ends. Assumes nothing.
-use borrow.Author.Needs.{needs}
 use Prim.Native.Nat.{_-_, _≤_}
+use borrow.Author.Needs.{needs}
 use Rattle.fields_check.proofs.print_stored.Statement.{statement}
 use Rattle.fields_check.proofs.print_stored.Tie as tie
 

@@ -1,8 +1,8 @@
 -- `fields::bytes::ensure_field` meets its contract. Assumes nothing.
-use Rattle.fields.proofs.Tests.{then-second, then-first}
-use Rattle.fields.specs.Fields.{fieldTest}
 use mathlib.Core.Path.{sym, _∙_}
 use borrow.Author.Needs.{needs}
+use Rattle.fields.specs.Fields.{fieldTest}
+use Rattle.fields.proofs.Tests.{then-second, then-first}
 use Rattle.fields.proofs.bytes.ensure_field.Statement.{statement}
 use Rattle.fields.proofs.bytes.ensure_field.Tie as tie
 

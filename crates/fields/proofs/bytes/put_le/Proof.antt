@@ -1,6 +1,6 @@
 -- `fields::bytes::put_le` meets its contract: what is left of the number goes behind the bytes that are stored. Assumes nothing.
-use Prim.Native.Nat.{_+_, _-_, _≤_}
 use mathlib.Core.Path.{_≡_, refl, _∙_}
+use Prim.Native.Nat.{_+_, _-_, _≤_}
 use native.Mathlib.Omega.{arith}
 use native.Mathlib.Nat.{add-zero, sub-zero}
 use lib.ListN.{length, length-set}

@@ -1,10 +1,9 @@
 -- `fields::bytes::read_length` meets its contract. Assumes nothing.
-use Rattle.fields.proofs.Fields.{value-after, refused-after}
-use Rattle.fields.proofs.Widths.{width-le}
-use Rattle.fields.proofs.Fields.{field-is}
-use Rattle.fields.specs.Fields.{lengthField}
 use mathlib.Core.Path.{sym, _∙_}
 use borrow.Author.Needs.{needs}
+use Rattle.fields.specs.Fields.{lengthField}
+use Rattle.fields.proofs.Fields.{value-after, refused-after, field-is}
+use Rattle.fields.proofs.Widths.{width-le}
 use Rattle.fields.proofs.bytes.read_length.Statement.{statement}
 use Rattle.fields.proofs.bytes.read_length.Tie as tie
 

@@ -1,11 +1,9 @@
 -- `fields::bytes::read_optional_offset` meets its contract. Assumes nothing.
-use Rattle.fields.proofs.Fields.{undefined-after, at-after, optional-refused}
-use Rattle.fields.specs.Fields.{undefined, undefinedAt}
-use Rattle.fields.proofs.Fields.{field-is}
-use Rattle.fields.specs.Fields.{optionalOffsetField, fieldTest}
-use Rattle.refusal.specs.declared.Checked.the-variants.{Passed}
 use mathlib.Core.Path.{_≡_, ap, sym, _∙_}
 use borrow.Author.Needs.{needs}
+use Rattle.refusal.specs.declared.Checked.the-variants.{Passed}
+use Rattle.fields.specs.Fields.{undefined, undefinedAt, optionalOffsetField, fieldTest}
+use Rattle.fields.proofs.Fields.{undefined-after, at-after, optional-refused, field-is}
 use Rattle.fields.proofs.bytes.read_optional_offset.Statement.{statement}
 use Rattle.fields.proofs.bytes.read_optional_offset.Tie as tie
 
@@ -24,9 +22,11 @@ is-undefined-addr-requires c κs = search needs
 enum-known-r : tie.Need-enum-known-r
 enum-known-r c = search needs
 
+-- where the address is read, its test has passed
 passed : (c : tie.After-read-address) → Passed ≡ fieldTest 1 (c .before .before .before .before .before .args .s .now) (c .before .before .before .before .before .args .pos) (c .before .before .before .before .before .args .width)
 passed c = sym (c .before .enum-told .given .1) ∙ c .before .before .before .ensure-field .ensures
 
+-- and the answer is that of the stored address
 known : (c : tie.After-is-undefined-addr) → undefinedAt (c .before .before .before .before .before .before .args .s .now) (c .before .before .before .before .before .before .args .pos) (c .before .before .before .before .before .before .args .width) ≡ c .is-undefined-addr .result
 unfolding undefinedAt
 known c = sym (c .is-undefined-addr .ensures ∙ ap (undefined _) (c .before .read-address .ensures))

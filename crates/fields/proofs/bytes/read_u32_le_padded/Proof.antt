@@ -1,11 +1,11 @@
 -- `fields::bytes::read_u32_le_padded` meets its contract. Assumes nothing.
-use native.Mathlib.Omega.{arith}
-use Prim.Native.Nat.{_-_, _*_, _^_, _≤_}
 use mathlib.Core.Path.{_∙_}
+use Prim.Native.Nat.{_-_, _*_, _^_, _≤_}
+use native.Mathlib.Omega.{arith}
 use lib.ListN.{length}
 use lib.Pow.{pow-mono}
-use Rattle.fields.proofs.LittleEndian.{le-past, le-short}
 use borrow.Author.Needs.{needs}
+use Rattle.fields.proofs.LittleEndian.{le-past, le-short}
 use Rattle.fields.proofs.bytes.read_u32_le_padded.Statement.{statement}
 use Rattle.fields.proofs.bytes.read_u32_le_padded.Tie as tie
 

@@ -1,10 +1,9 @@
 -- `fields::bytes::read_variable_length` meets its contract. Assumes nothing.
-use Rattle.fields.proofs.Fields.{value-after, refused-after, inside, over-eight}
-use Rattle.fields.proofs.Fields.{to-eight}
-use Rattle.fields.specs.Fields.{sizeField}
 use mathlib.Core.Path.{sym, _∙_}
 use native.Mathlib.Omega.{arith}
 use borrow.Author.Needs.{needs}
+use Rattle.fields.specs.Fields.{sizeField}
+use Rattle.fields.proofs.Fields.{value-after, refused-after, inside, over-eight, to-eight}
 use Rattle.fields.proofs.bytes.read_variable_length.Statement.{statement}
 use Rattle.fields.proofs.bytes.read_variable_length.Tie as tie
 

@@ -1,10 +1,10 @@
 -- `fields::convert::checked_mul` meets its contract. Assumes nothing.
 use Prim.Native.Nat.{_*_, _<_, _≤_}
-use Rattle.refusal.specs.Refusals.{largest64}
 use native.Mathlib.Omega.{arith}
 use native.Mathlib.Nat.{mul-zero, le-div-iff-mul-le, div-lt-iff-lt-mul, pos-of-ne-zero}
-use Rattle.fields.proofs.Numbers.{fits, overflows}
 use borrow.Author.Needs.{needs}
+use Rattle.refusal.specs.Refusals.{largest64}
+use Rattle.fields.proofs.Numbers.{fits, overflows}
 use Rattle.fields.proofs.convert.checked_mul.Statement.{statement}
 use Rattle.fields.proofs.convert.checked_mul.Tie as tie
 
