@@ -1,0 +1,110 @@
+-- Laws of a field's test and of what it holds. Assumes nothing.
+use mathlib.Core.Path.{_≡_, refl, ap}
+use mathlib.Core.Bool.{Bool, true, false, not}
+use mathlib.Core.List.{List}
+use Prim.Native.Nat.{ℕ, _+_, _<_, _≤_}
+use native.Mathlib.Omega.{arith}
+use lib.ListN.{length}
+use borrow.Author.Tests.{lt-ltb, le-ltb, ltb-false, not-false}
+use Rattle.refusal.specs.declared.Refusal.{Refusal}
+use Rattle.refusal.specs.declared.Checked.{Checked}
+use Rattle.refusal.specs.declared.Checked.the-variants.{Passed, Refused}
+use Rattle.refusal.specs.Refusals.{figure}
+use Rattle.fields.specs.declared.bytes.Field.the-variants.{Value, Refused as FieldRefused}
+use Rattle.fields.specs.declared.bytes.OptionalOffset.the-variants.{Undefined, At, Refused as OptionalRefused}
+use Rattle.fields.specs.Fields.{isWidth, widthTest, inFile, fieldTest, sizeFieldTest, fieldAfter, optionalAfter, undefined}
+use Rattle.fields.proofs.Tests.{refuse-false, refuse-true, refuse-passed, then-second, then-first, then-passed}
+
+module _ (s : List ℕ) (pos len : ℕ) where
+  pub in-file : pos + len ≤ length s → Passed ≡ inFile s pos len
+  unfolding inFile
+  in-file h = refuse-false 20 (figure (pos + len)) (length s) _ (le-ltb (length s) (pos + len) h)
+
+  pub past-end : length s < pos + len → Refused (record { number = 20; first = figure (pos + len); second = length s }) ≡ inFile s pos len
+  unfolding inFile
+  past-end h = refuse-true 20 (figure (pos + len)) (length s) _ (lt-ltb (length s) (pos + len) h)
+
+  pub inside : Passed ≡ inFile s pos len → pos + len ≤ length s
+  unfolding inFile
+  inside h = ltb-false (length s) (pos + len) (refuse-passed 20 (figure (pos + len)) (length s) _ h)
+
+module _ (number w : ℕ) where
+  pub width-passed : isWidth w ≡ true → Passed ≡ widthTest number w
+  unfolding widthTest
+  width-passed e = refuse-false number w 0 _ (ap not e)
+
+  pub width-refused : isWidth w ≡ false → Refused (record { number = number; first = w; second = 0 }) ≡ widthTest number w
+  unfolding widthTest
+  width-refused e = refuse-true number w 0 _ (ap not e)
+
+  -- a field of such a width that is read lies in the file
+  pub field-is : (s : List ℕ) (pos : ℕ) → Passed ≡ fieldTest number s pos w → (pos + w ≤ length s) × (isWidth w ≡ true)
+  unfolding fieldTest widthTest
+  field-is s pos h =
+      let b = then-passed (widthTest number w) (inFile s pos w) h in
+      (inside s pos w (b .1), not-false (isWidth w) (refuse-passed number w 0 _ (b .0)))
+
+module _ (s : List ℕ) (pos w : ℕ) where
+  pub to-eight : w ≤ 8 → inFile s pos w ≡ sizeFieldTest s pos w
+  unfolding sizeFieldTest
+  to-eight h = then-second _ (inFile s pos w) (refuse-false 29 0 0 _ (le-ltb 8 w h))
+
+  pub over-eight : 8 < w → Refused (record { number = 29; first = 0; second = 0 }) ≡ sizeFieldTest s pos w
+  unfolding sizeFieldTest
+  over-eight h = then-first _ (inFile s pos w) (refuse-true 29 0 0 _ (lt-ltb 8 w h))
+
+-- what a field holds, from its test and back
+module _ (t : Checked) (n : ℕ) where
+  pub value-after : Passed ≡ t → Value n ≡ fieldAfter t n
+  unfolding fieldAfter
+  value-after e = ap (λ (x : Checked). fieldAfter x n) e
+
+  pub refused-after : {r : Refusal} → Refused r ≡ t → FieldRefused r ≡ fieldAfter t n
+  unfolding fieldAfter
+  refused-after e = ap (λ (x : Checked). fieldAfter x n) e
+
+pub value-is : (t : Checked) (n v : ℕ) → Value v ≡ fieldAfter t n → (Passed ≡ t) × (v ≡ n)
+unfolding fieldAfter
+value-is Passed n v h = (refl, cc)
+value-is (Refused r) n v h = let z : _≡_ {A = ℕ} 0 1 = cc in absurd (omega arith)
+
+pub refused-is : (t : Checked) (n : ℕ) (r : Refusal) → FieldRefused r ≡ fieldAfter t n → Refused r ≡ t
+unfolding fieldAfter
+refused-is Passed n r h = let z : _≡_ {A = ℕ} 0 1 = cc in absurd (omega arith)
+refused-is (Refused q) n r h = cc
+
+module _ (t : Checked) (b : Bool) (a : ℕ) where
+  pub undefined-after : Passed ≡ t → b ≡ true → Undefined ≡ optionalAfter t b a
+  unfolding optionalAfter
+  undefined-after e u = rw u (ap (λ (x : Checked). optionalAfter x true a) e)
+
+  pub at-after : Passed ≡ t → b ≡ false → At a ≡ optionalAfter t b a
+  unfolding optionalAfter
+  at-after e u = rw u (ap (λ (x : Checked). optionalAfter x false a) e)
+
+  pub optional-refused : {r : Refusal} → Refused r ≡ t → OptionalRefused r ≡ optionalAfter t b a
+  unfolding optionalAfter
+  optional-refused e = ap (λ (x : Checked). optionalAfter x b a) e
+
+pub undefined-is : (t : Checked) (b : Bool) (a : ℕ) → Undefined ≡ optionalAfter t b a → (Passed ≡ t) × (b ≡ true)
+unfolding optionalAfter
+undefined-is Passed true a h = (refl, refl)
+undefined-is Passed false a h = let z : _≡_ {A = ℕ} 0 1 = cc in absurd (omega arith)
+undefined-is (Refused r) b a h = let z : _≡_ {A = ℕ} 0 1 = cc in absurd (omega arith)
+
+pub at-is : (t : Checked) (b : Bool) (a v : ℕ) → At v ≡ optionalAfter t b a → (Passed ≡ t) × (b ≡ false) × (v ≡ a)
+unfolding optionalAfter
+at-is Passed true a v h = let z : _≡_ {A = ℕ} 0 1 = cc in absurd (omega arith)
+at-is Passed false a v h = (refl, refl, cc)
+at-is (Refused r) b a v h = let z : _≡_ {A = ℕ} 0 1 = cc in absurd (omega arith)
+
+pub optional-refused-is : (t : Checked) (b : Bool) (a : ℕ) (r : Refusal) → OptionalRefused r ≡ optionalAfter t b a → Refused r ≡ t
+unfolding optionalAfter
+optional-refused-is Passed true a r h = let z : _≡_ {A = ℕ} 0 1 = cc in absurd (omega arith)
+optional-refused-is Passed false a r h = let z : _≡_ {A = ℕ} 0 1 = cc in absurd (omega arith)
+optional-refused-is (Refused q) b a r h = cc
+
+-- another width has no undefined address
+pub no-undefined : (o a : ℕ) → isWidth o ≡ false → false ≡ undefined o a
+unfolding undefined
+no-undefined o a e = rw e
