@@ -1,5 +1,5 @@
 -- Laws of a field's test and of what it holds. Assumes nothing.
-use mathlib.Core.Path.{_≡_, refl, ap}
+use mathlib.Core.Path.{_≡_, refl, ap, sym}
 use mathlib.Core.Bool.{Bool, true, false, not}
 use mathlib.Core.List.{List}
 use Prim.Native.Nat.{ℕ, _+_, _<_, _≤_}
@@ -13,7 +13,7 @@ use Rattle.refusal.specs.Refusals.{figure}
 use Rattle.fields.specs.declared.bytes.Field.the-variants.{Value, Refused as FieldRefused}
 use Rattle.fields.specs.declared.bytes.OptionalOffset.the-variants.{Undefined, At, Refused as OptionalRefused}
 use Rattle.fields.specs.Fields.{isWidth, widthTest, inFile, fieldTest, sizeFieldTest, fieldAfter, optionalAfter, undefined}
-use Rattle.fields.proofs.Tests.{refuse-false, refuse-true, refuse-passed, then-second, then-first, then-passed}
+use Rattle.refusal.proofs.Tests.{refuse-false, refuse-true, refuse-inv, then-second, then-first, then-inv}
 
 module _ (s : List ℕ) (pos len : ℕ) where
   pub in-file : pos + len ≤ length s → Passed ≡ inFile s pos len
@@ -26,7 +26,7 @@ module _ (s : List ℕ) (pos len : ℕ) where
 
   pub inside : Passed ≡ inFile s pos len → pos + len ≤ length s
   unfolding inFile
-  inside h = ltb-false (length s) (pos + len) (refuse-passed 20 (figure (pos + len)) (length s) _ h)
+  inside h = ltb-false (length s) (pos + len) (refuse-inv 20 (figure (pos + len)) (length s) _ (sym h))
 
 module _ (number w : ℕ) where
   pub width-passed : isWidth w ≡ true → Passed ≡ widthTest number w
@@ -41,8 +41,8 @@ module _ (number w : ℕ) where
   pub field-is : (s : List ℕ) (pos : ℕ) → Passed ≡ fieldTest number s pos w → (pos + w ≤ length s) × (isWidth w ≡ true)
   unfolding fieldTest widthTest
   field-is s pos h =
-      let b = then-passed (widthTest number w) (inFile s pos w) h in
-      (inside s pos w (b .1), not-false (isWidth w) (refuse-passed number w 0 _ (b .0)))
+      let b = then-inv (widthTest number w) (inFile s pos w) (sym h) in
+      (inside s pos w (sym (b .1)), not-false (isWidth w) (refuse-inv number w 0 _ (b .0)))
 
 module _ (s : List ℕ) (pos w : ℕ) where
   pub to-eight : w ≤ 8 → inFile s pos w ≡ sizeFieldTest s pos w

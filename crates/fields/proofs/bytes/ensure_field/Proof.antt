@@ -2,7 +2,7 @@
 use mathlib.Core.Path.{sym, _∙_}
 use borrow.Author.Needs.{needs}
 use Rattle.fields.specs.Fields.{fieldTest}
-use Rattle.fields.proofs.Tests.{then-second, then-first}
+use Rattle.refusal.proofs.Tests.{then-second, then-first}
 use Rattle.fields.proofs.bytes.ensure_field.Statement.{statement}
 use Rattle.fields.proofs.bytes.ensure_field.Tie as tie
 
