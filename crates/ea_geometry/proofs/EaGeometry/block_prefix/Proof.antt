@@ -1,3 +1,6 @@
+use mathlib.Core.Path.{refl}
+use Rattle.ea_geometry.specs.Sizes.{bitBytes}
+use Rattle.ea_geometry.specs.Extents.{blockPrefix}
 use borrow.Author.Needs.{needs}
 use Rattle.ea_geometry.proofs.EaGeometry.block_prefix.Statement.{statement}
 use Rattle.ea_geometry.proofs.EaGeometry.block_prefix.Tie as tie
@@ -22,7 +25,8 @@ add-result-3 c = search needs
 
 -- src/extents.rt:89:5
 returns : tie.Need-returns
-returns c = ?
+unfolding blockPrefix bitBytes
+returns c = refl
 
 pub block-prefix-spec : {M : Type 1} → statement M
 block-prefix-spec = tie.close (tie.spec add-result cast-result add-result-2 add-result-3 returns)

@@ -1,3 +1,4 @@
+use Rattle.ea_geometry.specs.Slots.{capacity}
 use borrow.Author.Needs.{needs}
 use Rattle.ea_geometry.proofs.EaGeometry.capacity.Statement.{statement}
 use Rattle.ea_geometry.proofs.EaGeometry.capacity.Tie as tie
@@ -16,7 +17,8 @@ first-slot-requires c κs = search needs
 
 -- src/slots.rt:20:5
 returns : tie.Need-returns
-returns c = ?
+unfolding capacity
+returns c = rw (c .first-slot .ensures, c .before .super-blocks .ensures)
 
 pub capacity-spec : {M : Type 1} → statement M
 capacity-spec = tie.close (tie.spec super-blocks-requires first-slot-requires returns)

@@ -1,3 +1,4 @@
+use Rattle.ea_geometry.specs.Extents.{directPointersAt}
 use borrow.Author.Needs.{needs}
 use Rattle.ea_geometry.proofs.EaGeometry.direct_pointers_at.Statement.{statement}
 use Rattle.ea_geometry.proofs.EaGeometry.direct_pointers_at.Tie as tie
@@ -15,7 +16,8 @@ inline-element-at-requires c κs = search needs
 
 -- src/extents.rt:57:5
 returns : tie.Need-returns
-returns c = ?
+unfolding directPointersAt
+returns c = c .inline-element-at .ensures
 
 pub direct-pointers-at-spec : {M : Type 1} → statement M
 direct-pointers-at-spec =

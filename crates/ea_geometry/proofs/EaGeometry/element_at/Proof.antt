@@ -1,3 +1,7 @@
+use Prim.Native.Nat.{_+_, _*_, _≤_}
+use native.Mathlib.Omega.{arith}
+use Rattle.ea_geometry.specs.Extents.{elementAt}
+use Rattle.ea_geometry.proofs.Positions.{element-at-le}
 use borrow.Author.Needs.{needs}
 use Rattle.ea_geometry.proofs.EaGeometry.element_at.Statement.{statement}
 use Rattle.ea_geometry.proofs.EaGeometry.element_at.Tie as tie
@@ -9,17 +13,24 @@ use Rattle.ea_geometry.proofs.EaGeometry.element_stride.Reads as elemen
 element-stride-requires : tie.Need-element-stride-requires
 element-stride-requires c κs = search needs
 
+bounded : (c : tie.After-element-stride) → c .before .args .first + c .before .args .i * c .element-stride .result ≤ c .before .args .first + 255 * c .before .args .i
+unfolding elementAt
+bounded c =
+    let a = c .before .args in
+    rw (c .element-stride .ensures) (element-at-le (a .self .header) (a .self .«offset_size») (c .before .pre .2 .width) (omega arith) (a .first) (a .i))
+
 -- src/extents.rt:29:17
 mul-result : tie.Need-mul-result
-mul-result c = ?
+mul-result c = omega (arith, bounded c)
 
 -- src/extents.rt:29:9
 add-result : tie.Need-add-result
-add-result c = ?
+add-result c = omega (arith, bounded c)
 
 -- src/extents.rt:25:5
 returns : tie.Need-returns
-returns c = ?
+unfolding elementAt
+returns c = rw (c .element-stride .ensures)
 
 pub element-at-spec : {M : Type 1} → statement M
 element-at-spec = tie.close (tie.spec element-stride-requires mul-result add-result returns)

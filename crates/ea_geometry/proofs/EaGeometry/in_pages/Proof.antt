@@ -1,3 +1,8 @@
+use Prim.Native.Nat.{_<_, _≤_}
+use native.Mathlib.Omega.{arith}
+use borrow.Author.Tests.{le-leb, lt-leb}
+use Rattle.ea_geometry.specs.Sizes.{directSuperBlocks}
+use Rattle.ea_geometry.specs.Place.{inPages}
 use borrow.Author.Needs.{needs}
 use Rattle.ea_geometry.proofs.EaGeometry.in_pages.Statement.{statement}
 use Rattle.ea_geometry.proofs.EaGeometry.in_pages.Tie as tie
@@ -12,7 +17,11 @@ direct-super-blocks-requires c κs = search needs
 
 -- src/slots.rt:41:13
 returns : tie.Need-returns
-returns c = ?
+unfolding inPages
+returns c =
+    let a = c .before .before .args in
+    let less : a .u < directSuperBlocks (a .self .header) = omega (arith, c .before .direct-super-blocks .ensures) in
+    rw (lt-leb (directSuperBlocks (a .self .header)) (a .u) less)
 
 -- src/slots.rt:43:9
 over-page-requires : tie.Need-over-page-requires
@@ -20,7 +29,11 @@ over-page-requires c κs = search needs
 
 -- src/slots.rt:36:5
 returns-2 : tie.Need-returns-2
-returns-2 c = ?
+unfolding inPages
+returns-2 c =
+    let a = c .before .before .before .args in
+    let more : directSuperBlocks (a .self .header) ≤ a .u = omega (arith, c .before .before .direct-super-blocks .ensures) in
+    rw (le-leb (directSuperBlocks (a .self .header)) (a .u) more) (c .over-page .ensures)
 
 pub in-pages-spec : {M : Type 1} → statement M
 in-pages-spec =

@@ -1,3 +1,8 @@
+use Prim.Native.Nat.{_+_, _*_, _≤_}
+use native.Mathlib.Omega.{arith}
+use Rattle.ea_geometry.specs.Sizes.{pageElements}
+use Rattle.ea_geometry.specs.Extents.{pageAt}
+use Rattle.ea_geometry.proofs.Positions.{page-at-le}
 use borrow.Author.Needs.{needs}
 use Rattle.ea_geometry.proofs.EaGeometry.page_at.Statement.{statement}
 use Rattle.ea_geometry.proofs.EaGeometry.page_at.Tie as tie
@@ -14,17 +19,25 @@ paged-head-extent-requires c κs = search needs
 page-extent-requires : tie.Need-page-extent-requires
 page-extent-requires c κs = search needs
 
+bounded : (c : tie.After-page-extent) → c .before .paged-head-extent .result + c .before .before .args .p * c .page-extent .result ≤ 26 + 259 * (c .before .before .args .p * pageElements (c .before .before .args .self .header))
+unfolding pageAt
+bounded c =
+    let a = c .before .before in
+    let g = a .args .self in
+    rw (c .before .paged-head-extent .ensures, c .page-extent .ensures) (page-at-le (g .header) (g .«offset_size») (a .pre .1 .width) (omega arith) (a .pre .1 .served) (a .args .p))
+
 -- src/extents.rt:157:36
 mul-result : tie.Need-mul-result
-mul-result c = ?
+mul-result c = omega (arith, bounded c)
 
 -- src/extents.rt:157:9
 add-result : tie.Need-add-result
-add-result c = ?
+add-result c = omega (arith, bounded c)
 
 -- src/extents.rt:153:5
 returns : tie.Need-returns
-returns c = ?
+unfolding pageAt
+returns c = rw (c .before .paged-head-extent .ensures, c .page-extent .ensures)
 
 pub page-at-spec : {M : Type 1} → statement M
 page-at-spec =

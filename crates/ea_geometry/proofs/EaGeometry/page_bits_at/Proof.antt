@@ -1,3 +1,4 @@
+use Rattle.ea_geometry.specs.Extents.{pageBitsAt}
 use borrow.Author.Needs.{needs}
 use Rattle.ea_geometry.proofs.EaGeometry.page_bits_at.Statement.{statement}
 use Rattle.ea_geometry.proofs.EaGeometry.page_bits_at.Tie as tie
@@ -11,7 +12,8 @@ block-prefix-requires c κs = search needs
 
 -- src/extents.rt:97:5
 returns : tie.Need-returns
-returns c = ?
+unfolding pageBitsAt
+returns c = c .block-prefix .ensures
 
 pub page-bits-at-spec : {M : Type 1} → statement M
 page-bits-at-spec = tie.close (tie.spec block-prefix-requires returns)

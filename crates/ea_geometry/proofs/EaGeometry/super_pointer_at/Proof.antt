@@ -1,3 +1,7 @@
+use native.Mathlib.Omega.{arith}
+use Rattle.ea_geometry.specs.Extents.{superPointerAt}
+use Rattle.ea_geometry.proofs.Counts.{supers-few}
+use Rattle.ea_geometry.proofs.Positions.{super-pointers-at-few}
 use borrow.Author.Needs.{needs}
 use Rattle.ea_geometry.proofs.EaGeometry.super_pointer_at.Statement.{statement}
 use Rattle.ea_geometry.proofs.EaGeometry.super_pointer_at.Tie as tie
@@ -21,11 +25,20 @@ sub-pointer-at c = search needs
 
 -- src/extents.rt:85:9
 pointer-at-requires : tie.Need-pointer-at-requires
-pointer-at-requires c κs = ?
+pointer-at-requires c κs =
+    let a = c .before .before in
+    let g = a .args .self in
+    let b = a .pre .2 in
+    (
+      omega (arith, c .before .super-pointers-at .ensures, super-pointers-at-few (g .header) (g .«offset_size») (b .width) (omega arith) (omega arith) (b .served)),
+      omega (arith, supers-few (g .header) (b .served)),
+      b,
+    )
 
 -- src/extents.rt:81:5
 returns : tie.Need-returns
-returns c = ?
+unfolding superPointerAt
+returns c = rw (c .pointer-at .ensures, c .before .before .super-pointers-at .ensures, c .before .direct-super-blocks .ensures)
 
 pub super-pointer-at-spec : {M : Type 1} → statement M
 super-pointer-at-spec =

@@ -1,3 +1,7 @@
+use native.Mathlib.Omega.{arith}
+use Rattle.ea_geometry.specs.Extents.{superPointersAt}
+use Rattle.ea_geometry.proofs.Counts.{direct-pointers-few}
+use Rattle.ea_geometry.proofs.Positions.{direct-pointers-at-few}
 use borrow.Author.Needs.{needs}
 use Rattle.ea_geometry.proofs.EaGeometry.super_pointers_at.Statement.{statement}
 use Rattle.ea_geometry.proofs.EaGeometry.super_pointers_at.Tie as tie
@@ -17,11 +21,15 @@ direct-pointers-requires c κs = search needs
 
 -- src/extents.rt:69:9
 pointer-at-requires : tie.Need-pointer-at-requires
-pointer-at-requires c κs = ?
+pointer-at-requires c κs =
+    let a = c .before .before in
+    let g = a .args .self in
+    (omega (arith, c .before .direct-pointers-at .ensures, direct-pointers-at-few (g .header) (g .«offset_size») (a .pre .width) (omega arith) (omega arith)), omega (arith, c .direct-pointers .ensures, direct-pointers-few (g .header) (a .pre .served)), a .pre)
 
 -- src/extents.rt:65:5
 returns : tie.Need-returns
-returns c = ?
+unfolding superPointersAt
+returns c = rw (c .pointer-at .ensures, c .before .before .direct-pointers-at .ensures, c .before .direct-pointers .ensures)
 
 pub super-pointers-at-spec : {M : Type 1} → statement M
 super-pointers-at-spec =
