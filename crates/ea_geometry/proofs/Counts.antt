@@ -60,6 +60,10 @@ next-elements h u =
     let half : 2 ^ u - 1 + 2 ^ u ≡ 2 ^ (u + 1) - 1 = omega arith in
     rw (in-all h u) (sym (mul-add (h .«min_dblk_nelmts») (2 ^ u - 1) (2 ^ u)) ∙ ap (λ (x : ℕ). h .«min_dblk_nelmts» * x) half)
 
+pub elements-before-mono : (h : ExtensibleArrayHeader) (u v : ℕ) → u ≤ v → elementsBefore h u ≤ elementsBefore h v
+unfolding elementsBefore
+elements-before-mono h u v le = mul-le-mul-left (h .«min_dblk_nelmts») (omega (arith, pow-mono {i = u} {j = v} le))
+
 -- the definition of which super blocks are named in the index block is opened here alone
 pub direct-le : (h : ExtensibleArrayHeader) → directSuperBlocks h ≤ superBlocks h
 unfolding directSuperBlocks

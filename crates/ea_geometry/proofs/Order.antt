@@ -1,7 +1,7 @@
 -- Places grow with slots. Assumes nothing.
-use Prim.Native.Nat.{ℕ, zero, suc, _+_, _*_, _<_, _≤_}
-use mathlib.Core.Path.{_≡_, refl, sym, subst, _∙_}
-use mathlib.Core.Bool.{true, _&&_, _||_}
+use Prim.Native.Nat.{ℕ, suc, _+_, _*_, _<_, _≤_}
+use mathlib.Core.Path.{_≡_, refl, sym, subst}
+use mathlib.Core.Bool.{true}
 use mathlib.Core.List.{List, [], _∷_}
 use mathlib.Core.Logic.{_⊎_, inl, inr}
 use native.Mathlib.Omega.{arith}
@@ -15,7 +15,8 @@ use Rattle.ea_geometry.specs.Place.{place}
 use Rattle.ea_geometry.specs.Slots.{firstSlot, capacity, slotIn, InBlock, PlaceOf, coordinates, lower, before}
 use Rattle.ea_geometry.specs.declared.Place.{Place}
 use Rattle.ea_geometry.specs.declared.Place.the-variants.{Inline, Block, Page, Nowhere}
-use Rattle.ea_geometry.proofs.Places.{elements-before-mono, in-super-block, place-of}
+use Rattle.ea_geometry.proofs.Counts.{elements-before-mono}
+use Rattle.ea_geometry.proofs.Places.{in-super-block, place-of}
 
 lower-lt : (a b : ℕ) (l m : List ℕ) → a < b → lower (a ∷ l) (b ∷ m) ≡ true
 unfolding lower
@@ -32,6 +33,7 @@ digits-grow n k k′ i i′ small h = go (lt-or-ge k k′)
     same : (k′ ≡ k) ⊎ (k′ < k) → (k < k′) ⊎ ((k ≡ k′) × (i < i′))
     same (inl e) = let z = subst (λ (x : ℕ). k * n + i < x * n + i′) e h in inr (sym e, omega arith)
     same (inr lt) = absurd (omega (arith, mul-le-mul-right n lt))
+
     go : (k < k′) ⊎ (k′ ≤ k) → (k < k′) ⊎ ((k ≡ k′) × (i < i′))
     go (inl lt) = inl lt
     go (inr ge) = same (eq-or-lt-of-le ge)
@@ -53,6 +55,7 @@ module _ (h : ExtensibleArrayHeader) (v : Served h) (s t : ℕ) (less : s < t) w
       same : (u′ ≡ u) ⊎ (u′ < u) → lower (suc u ∷ k ∷ i ∷ []) (suc u′ ∷ k′ ∷ i′ ∷ []) ≡ true
       same (inl e) = lower-eq (suc u) (suc u′) _ _ (omega arith) (block-grow u k i k′ i′ b (subst (λ (x : ℕ). InBlock h t x k′ i′) e d))
       same (inr lt) = absurd (omega (arith, in-super-block h v s u k i b, in-super-block h v t u′ k′ i′ d, elements-before-mono h (u′ + 1) u (omega arith)))
+
       go : (u < u′) ⊎ (u′ ≤ u) → lower (suc u ∷ k ∷ i ∷ []) (suc u′ ∷ k′ ∷ i′ ∷ []) ≡ true
       go (inl lt) = lower-lt (suc u) (suc u′) _ _ (omega arith)
       go (inr ge) = same (eq-or-lt-of-le ge)

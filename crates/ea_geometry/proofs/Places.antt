@@ -1,14 +1,14 @@
--- The place of a slot. The slots of super block u are the interval from firstSlot h u to firstSlot h (u + 1); every slot below the capacity
--- has one place, and places grow with slots. Assumes nothing.
+-- The place of a slot. The slots of super block u are the interval from firstSlot h u to firstSlot h (u + 1), and every slot below the
+-- capacity has one place. Assumes nothing.
 use Prim.Native.Nat.{ℕ, _+_, _-_, _*_, _/_, _%_, _^_, _<_, _≤_}
 use mathlib.Core.Path.{_≡_, refl, sym, ap, subst, _∙_}
-use mathlib.Core.Bool.{true, false}
+use mathlib.Core.Bool.{true}
 use native.Mathlib.Omega.{arith}
-use native.Mathlib.Nat.{lt-of-not-le, div-add-mod', div-lt-iff-lt-mul, le-div-iff-mul-le, mul-comm, mul-le-mul-left, mod-lt}
+use native.Mathlib.Nat.{lt-of-not-le, div-add-mod', div-lt-iff-lt-mul, le-div-iff-mul-le, mul-comm, mod-lt}
 use borrow.Author.Tests.{ltb-true, ltb-false, lt-ltb, le-ltb}
 use lib.Dec.{ltb, leb}
 use lib.Arith.{digits-lt, digits-div, digits-mod}
-use lib.Pow.{pow-pos, pow-mono}
+use lib.Pow.{pow-pos}
 use Rattle.ea_header.specs.Log.{log2}
 use Rattle.ea_header.specs.Served.{Served}
 use Rattle.ea_header.specs.declared.ExtensibleArrayHeader.{ExtensibleArrayHeader}
@@ -16,12 +16,11 @@ use Rattle.ea_header.proofs.Cases.{by-cond, both}
 use Rattle.ea_header.proofs.Log.{log2-is, log2-ge, log2-lo, log2-hi}
 use Rattle.ea_header.proofs.Served.{least-pos}
 use Rattle.ea_geometry.specs.Sizes.{superBlocks, blocks, blockElements, directSuperBlocks, elementsBefore, pageElements, overPage, pages}
-use Rattle.ea_geometry.specs.PageBits.{bitNumber}
 use Rattle.ea_geometry.specs.Place.{superOf, inPages, placeIn, inSuperBlock, place}
 use Rattle.ea_geometry.specs.Slots.{firstSlot, capacity, slotIn, InBlock, PlaceOf}
 use Rattle.ea_geometry.specs.declared.Place.{Place}
 use Rattle.ea_geometry.specs.declared.Place.the-variants.{Inline, Block, Page, Nowhere}
-use Rattle.ea_geometry.proofs.Counts.{next-power, next-elements, supers-few, elements-pos, pages-exact}
+use Rattle.ea_geometry.proofs.Counts.{next-power, next-elements, elements-before-mono, supers-few, elements-pos, pages-exact}
 
 -- super block 0 begins behind the inline slots, and each further one where the one before it ends
 pub first-slot-zero : (h : ExtensibleArrayHeader) → firstSlot h 0 ≡ h .«idx_blk_elmts»
@@ -31,10 +30,6 @@ first-slot-zero h = omega arith
 pub next-slot : (h : ExtensibleArrayHeader) (u : ℕ) → firstSlot h u + blocks u * blockElements h u ≡ firstSlot h (u + 1)
 unfolding firstSlot
 next-slot h u = omega (arith, next-elements h u)
-
-pub elements-before-mono : (h : ExtensibleArrayHeader) (u v : ℕ) → u ≤ v → elementsBefore h u ≤ elementsBefore h v
-unfolding elementsBefore
-elements-before-mono h u v le = mul-le-mul-left (h .«min_dblk_nelmts») (omega (arith, pow-mono {i = u} {j = v} le))
 
 module _ (h : ExtensibleArrayHeader) (v : Served h) where
   -- element e behind the inline ones lies in super block u if it lies between what stands before u and what stands before u + 1 ..

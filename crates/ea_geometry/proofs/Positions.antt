@@ -1,12 +1,13 @@
 -- Where the parts of a structure lie: inside it, and, for served headers and offset sizes up to 8, at numbers that fit 64 bits. Assumes nothing.
 use Prim.Native.Nat.{ℕ, _+_, _-_, _*_, _/_, _%_, _^_, _<_, _≤_}
-use mathlib.Core.Path.{_≡_, sym, ap, subst, _∙_}
-use mathlib.Core.Bool.{true, false}
+use mathlib.Core.Path.{_≡_}
+use mathlib.Core.Bool.{true}
 use native.Mathlib.Omega.{arith}
-use native.Mathlib.Nat.{mul-comm, mul-assoc, mul-le-mul-left, mul-le-mul-right, div-mul-le-self, mod-lt}
+use native.Mathlib.Nat.{mul-assoc, mul-le-mul-left, mul-le-mul-right, mod-lt}
 use lib.Arith.{digits-lt}
 use lib.Dec.{eqb}
-use lib.Pow.{pow-pos, pow-mono}
+use lib.Pow.{pow-pos}
+use Rattle.refusal.specs.Refusals.{figure}
 use Rattle.ea_header.specs.Served.{Served}
 use Rattle.ea_header.specs.declared.ExtensibleArrayHeader.{ExtensibleArrayHeader}
 use Rattle.ea_header.proofs.Cases.{by-cond}
@@ -14,6 +15,11 @@ use Rattle.ea_geometry.specs.Sizes.{superBlocks, blocks, blockElements, 
 use Rattle.ea_geometry.specs.Extents.{elementStride, elementAt, pointerAt, indexPrefix, inlineElementAt, directPointersAt, superPointersAt, indexExtent, directPointerAt, superPointerAt, blockPrefix, pageBitsAt, blockPointerAt, superExtent, blockElementAt, dataExtent, pagedHeadExtent, pageExtent, pageAt, pagedExtent, pagedElementAt}
 use Rattle.ea_geometry.specs.PageBits.{bitNumber, bitByte}
 use Rattle.ea_geometry.proofs.Counts.{blocks-before-lt, direct-pointers-few}
+
+-- sums of figures are the figure of the sum
+pub figure-sum : (a b d : ℕ) → figure (figure (a + figure b) + figure d) ≡ figure (a + b + d)
+unfolding figure
+figure-sum a b d = omega arith
 
 -- the i-th of n parts of the same length
 part-inside : (first s i n : ℕ) → i < n → first + i * s + s ≤ first + n * s
@@ -27,6 +33,11 @@ module _ (h : ExtensibleArrayHeader) (o : ℕ) where
   pub pointer-inside : (first j n : ℕ) → j < n → pointerAt o first j + o ≤ pointerAt o first n
   unfolding pointerAt
   pointer-inside first j n lt = part-inside first o j n lt
+
+  -- the index block: its fixed bytes, its addresses, its elements
+  pub index-extent-is : indexExtent h o ≡ 10 + (1 + directPointers h + superPointers h) * o + h .«idx_blk_elmts» * elementStride h o
+  unfolding indexExtent superPointersAt directPointersAt inlineElementAt elementAt pointerAt indexPrefix
+  index-extent-is = omega arith
 
   -- in the index block
   pub inline-element-inside : (i : ℕ) → i < h .«idx_blk_elmts» → inlineElementAt h o i + elementStride h o ≤ directPointersAt h o

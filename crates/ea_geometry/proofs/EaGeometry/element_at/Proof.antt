@@ -1,15 +1,12 @@
+-- `ea_geometry::EaGeometry::element_at` meets its contract. Assumes nothing.
 use Prim.Native.Nat.{_+_, _*_, _≤_}
 use native.Mathlib.Omega.{arith}
+use borrow.Author.Needs.{needs}
 use Rattle.ea_geometry.specs.Extents.{elementAt}
 use Rattle.ea_geometry.proofs.Positions.{element-at-le}
-use borrow.Author.Needs.{needs}
 use Rattle.ea_geometry.proofs.EaGeometry.element_at.Statement.{statement}
 use Rattle.ea_geometry.proofs.EaGeometry.element_at.Tie as tie
-use Rattle.ea_geometry.proofs.EaGeometry.element_at.Reads as reads
-use Rattle.ea_geometry.proofs.EaGeometry.element_at.Lts as lts
-use Rattle.ea_geometry.proofs.EaGeometry.element_stride.Reads as element-stride-reads
 
--- src/extents.rt:29:21
 element-stride-requires : tie.Need-element-stride-requires
 element-stride-requires c κs = search needs
 
@@ -19,15 +16,12 @@ bounded c =
     let a = c .before .args in
     rw (c .element-stride .ensures) (element-at-le (a .self .header) (a .self .«offset_size») (c .before .pre .2 .width) (omega arith) (a .first) (a .i))
 
--- src/extents.rt:29:17
 mul-result : tie.Need-mul-result
 mul-result c = omega (arith, bounded c)
 
--- src/extents.rt:29:9
 add-result : tie.Need-add-result
 add-result c = omega (arith, bounded c)
 
--- src/extents.rt:25:5
 returns : tie.Need-returns
 unfolding elementAt
 returns c = rw (c .element-stride .ensures)

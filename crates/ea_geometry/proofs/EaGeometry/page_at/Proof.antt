@@ -1,21 +1,16 @@
+-- `ea_geometry::EaGeometry::page_at` meets its contract. Assumes nothing.
 use Prim.Native.Nat.{_+_, _*_, _≤_}
 use native.Mathlib.Omega.{arith}
+use borrow.Author.Needs.{needs}
 use Rattle.ea_geometry.specs.Sizes.{pageElements}
 use Rattle.ea_geometry.specs.Extents.{pageAt}
 use Rattle.ea_geometry.proofs.Positions.{page-at-le}
-use borrow.Author.Needs.{needs}
 use Rattle.ea_geometry.proofs.EaGeometry.page_at.Statement.{statement}
 use Rattle.ea_geometry.proofs.EaGeometry.page_at.Tie as tie
-use Rattle.ea_geometry.proofs.EaGeometry.page_at.Reads as reads
-use Rattle.ea_geometry.proofs.EaGeometry.page_at.Lts as lts
-use Rattle.ea_geometry.proofs.EaGeometry.page_extent.Reads as page-extent-reads
-use Rattle.ea_geometry.proofs.EaGeometry.paged_head_extent.Reads as paged-head-extent-reads
 
--- src/extents.rt:157:9
 paged-head-extent-requires : tie.Need-paged-head-extent-requires
 paged-head-extent-requires c κs = search needs
 
--- src/extents.rt:157:40
 page-extent-requires : tie.Need-page-extent-requires
 page-extent-requires c κs = search needs
 
@@ -26,15 +21,12 @@ bounded c =
     let g = a .args .self in
     rw (c .before .paged-head-extent .ensures, c .page-extent .ensures) (page-at-le (g .header) (g .«offset_size») (a .pre .1 .width) (omega arith) (a .pre .1 .served) (a .args .p))
 
--- src/extents.rt:157:36
 mul-result : tie.Need-mul-result
 mul-result c = omega (arith, bounded c)
 
--- src/extents.rt:157:9
 add-result : tie.Need-add-result
 add-result c = omega (arith, bounded c)
 
--- src/extents.rt:153:5
 returns : tie.Need-returns
 unfolding pageAt
 returns c = rw (c .before .paged-head-extent .ensures, c .page-extent .ensures)

@@ -1,27 +1,23 @@
+-- `ea_geometry::EaGeometry::pointer_at` meets its contract. Assumes nothing.
 use mathlib.Core.Path.{refl}
 use native.Mathlib.Omega.{arith}
 use Rattle.ea_geometry.specs.Extents.{pointerAt}
 use Rattle.ea_geometry.proofs.Positions.{pointer-at-le}
 use Rattle.ea_geometry.proofs.EaGeometry.pointer_at.Statement.{statement}
 use Rattle.ea_geometry.proofs.EaGeometry.pointer_at.Tie as tie
-use Rattle.ea_geometry.proofs.EaGeometry.pointer_at.Reads as reads
-use Rattle.ea_geometry.proofs.EaGeometry.pointer_at.Lts as lts
 
--- src/extents.rt:37:17
 mul-result : tie.Need-mul-result
 unfolding pointerAt
 mul-result c =
     let a = c .before .args in
     omega (arith, pointer-at-le (a .self .header) (a .self .«offset_size») (c .before .pre .2 .width) (a .first) (a .j))
 
--- src/extents.rt:37:9
 add-result : tie.Need-add-result
 unfolding pointerAt
 add-result c =
     let a = c .before .args in
     omega (arith, pointer-at-le (a .self .header) (a .self .«offset_size») (c .before .pre .2 .width) (a .first) (a .j))
 
--- src/extents.rt:33:5
 returns : tie.Need-returns
 unfolding pointerAt
 returns c = refl
