@@ -7,7 +7,7 @@ use mathlib.Core.Option.{some}
 use mathlib.Core.Logic.{⊎-elim}
 use native.Mathlib.Omega.{arith}
 use lib.ListN.{length, take, drop}
-use Rattle.refusal.proofs.Cases.{lt-or-ge}
+use Rattle.refusal.proofs.Tests.{lt-or-ge}
 use Rattle.chunk_grid.specs.declared.Slot.the-variants.{At}
 use Rattle.chunk_grid.specs.Grid.{Grid, counts, leading, toFront, fromFront, ordered, pairwise, multipliers, quotients, offsets, every, below, any, hasZero, numbersNothing, chunkAt, isChunk, slotOf}
 use Rattle.chunk_grid.proofs.Grids.{Built, chunk-inv, slot-chunk}

@@ -10,7 +10,8 @@ use Rattle.refusal.specs.declared.Checked.{Checked}
 use Rattle.refusal.specs.declared.Checked.the-variants.{Passed, Refused}
 use Rattle.refusal.specs.Refusals.{refuse, _then_}
 use Rattle.refusal.specs.Outcome.{Outcome, refused, accepted}
-use Rattle.refusal.proofs.Cases.{by-cond, never, then-inv, refuse-inv}
+use Rattle.refusal.proofs.Tests.{by-cond, then-inv, refuse-inv}
+use Rattle.refusal.proofs.Outcomes.{never}
 use Rattle.fields.specs.Fields.{undefinedAt}
 use Rattle.chunk_grid.specs.Grid.{Grid, offsets, offsetsTest, below, insideOr, inExtent, numbersNothing, chunkAt}
 use Rattle.chunk_grid.specs.declared.Offsets.{Offsets}

@@ -8,7 +8,8 @@ use mathlib.Core.Option.{Option, none, some}
 use Rattle.refusal.specs.declared.Checked.{Checked}
 use Rattle.refusal.specs.declared.Checked.the-variants.{Passed}
 use Rattle.refusal.specs.Outcome.{Outcome, accepted}
-use Rattle.refusal.proofs.Cases.{by-cond, yields-inv, yields-passed}
+use Rattle.refusal.proofs.Tests.{by-cond}
+use Rattle.refusal.proofs.Outcomes.{yields-inv, yields-passed}
 use Rattle.fields.specs.Fields.{widthTest, undefinedAt}
 use Rattle.chunk_grid.specs.Grid.{offsets, chunkAt}
 use Rattle.ea_geometry.specs.Sizes.{pageElements}

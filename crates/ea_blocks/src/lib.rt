@@ -1,4 +1,14 @@
 // One structure tested, one element read.
+ghost use mathlib.Core.Path.{_≡_};
+ghost use mathlib.Core.Bool.{not};
+ghost use lib.Dec.{eqb};
+ghost use Rattle.refusal.specs.Refusals.{refuse};
+ghost use Rattle.checksum.specs.Lookup3.{lookup3};
+ghost use Rattle.ea_blocks.specs.Structures.{signatureTest, structureTest};
+use checksum::verify_trailing;
+use fields::bytes::ensure_len;
+use fields::bytes::read_u32_le_padded;
+use refusal::Checked;
 use refusal::Refusal;
 
 // The kinds of structures that an index is made of, behind its header.
@@ -21,4 +31,48 @@ pub enum Element {
     Absent,
     Chunk(Entry),
     Refused(Refusal),
+}
+
+// Tests a structure of `len` bytes at pos: 20, its signature's number, 26.
+pub fn test_structure(file: &[u8], kind: Kind, pos: u64, len: u64) -> Checked
+    ensures { λ r. ⌜ r ≡ structureTest lookup3 kind (now (file .entry)) pos len ⌝ }
+{
+    let inside = ensure_len(file, pos, len);
+    let Checked::Passed = inside else {
+        return inside;
+    };
+    let start = pos as usize;
+    let signed = test_signature(file, kind, start);
+    let Checked::Passed = signed else {
+        return signed;
+    };
+    let end = start + len as usize;
+    verify_trailing(&file[start..end])
+}
+
+// Tests the signature of the structure at pos; a page has none.
+fn test_signature(file: &[u8], kind: Kind, pos: usize) -> Checked
+    ensures { λ r. ⌜ r ≡ signatureTest kind (now (file .entry)) pos ⌝ }
+{
+    let found = read_u32_le_padded(file, pos);
+    match kind {
+        Kind::IndexBlock => ensure_signature(found, 0x4249_4145, Refusal::INDEX_BLOCK_SIGNATURE),
+        Kind::DataBlock => ensure_signature(found, 0x4244_4145, Refusal::DATA_BLOCK_SIGNATURE),
+        Kind::SuperBlock => ensure_signature(found, 0x4253_4145, Refusal::SUPER_BLOCK_SIGNATURE),
+        Kind::Page => Checked::Passed,
+    }
+}
+
+// Refuses another signature than the one that is wanted.
+fn ensure_signature(found: u32, wanted: u32, number: u64) -> Checked
+    ensures { λ r. ⌜ r ≡ refuse number 0 0 (not (eqb found wanted)) ⌝ }
+{
+    if found == wanted {
+        return Checked::Passed;
+    }
+    Checked::Refused(Refusal {
+        number,
+        first: 0,
+        second: 0,
+    })
 }

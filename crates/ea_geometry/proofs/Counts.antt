@@ -3,15 +3,16 @@ use Prim.Native.Nat.{ℕ, zero, suc, _+_, _-_, _*_, _/_, _^_, _<_, _≤_}
 use mathlib.Core.Path.{_≡_, refl, sym, ap, subst, _∙_}
 use mathlib.Core.Bool.{true}
 use native.Mathlib.Omega.{arith}
-use native.Mathlib.Nat.{mul-comm, mul-left-comm, mul-add, mul-le-mul-left, div-le-self}
+use native.Mathlib.Nat.{mul-comm, mul-left-comm, mul-add, mul-le-mul-left, div-le-self, div-mul-le-self}
 use borrow.Author.Tests.{ltb-true}
 use lib.Pow.{pow-pos, pow-add, pow-mono, shl-shr}
 use Rattle.ea_header.specs.Log.{log2}
 use Rattle.ea_header.specs.Served.{Served}
 use Rattle.ea_header.specs.declared.ExtensibleArrayHeader.{ExtensibleArrayHeader}
+use Rattle.ea_header.proofs.Cases.{by-cond}
 use Rattle.ea_header.proofs.Log.{exponent-lt}
 use Rattle.ea_header.proofs.Served.{log-small}
-use Rattle.ea_geometry.specs.Sizes.{superBlocks, blocks, blockElements, directSuperBlocks, blocksBefore, directPointers, elementsBefore, pageElements, overPage, pages, bitBytes}
+use Rattle.ea_geometry.specs.Sizes.{superBlocks, blocks, blockElements, directSuperBlocks, blocksBefore, directPointers, elementsBefore, pageElements, overPage, pages, bitBytes, bitmapBytes}
 
 pub next-power : (u : ℕ) → 2 ^ (u + 1) ≡ 2 * 2 ^ u
 next-power u = pow-add 2 u 1 ∙ mul-comm (2 ^ u) 2
@@ -58,6 +59,10 @@ next-elements h u =
     let q = next-power u in
     let half : 2 ^ u - 1 + 2 ^ u ≡ 2 ^ (u + 1) - 1 = omega arith in
     rw (in-all h u) (sym (mul-add (h .«min_dblk_nelmts») (2 ^ u - 1) (2 ^ u)) ∙ ap (λ (x : ℕ). h .«min_dblk_nelmts» * x) half)
+
+pub elements-before-mono : (h : ExtensibleArrayHeader) (u v : ℕ) → u ≤ v → elementsBefore h u ≤ elementsBefore h v
+unfolding elementsBefore
+elements-before-mono h u v le = mul-le-mul-left (h .«min_dblk_nelmts») (omega (arith, pow-mono {i = u} {j = v} le))
 
 -- the definition of which super blocks are named in the index block is opened here alone
 pub direct-le : (h : ExtensibleArrayHeader) → directSuperBlocks h ≤ superBlocks h
@@ -106,6 +111,10 @@ module _ (h : ExtensibleArrayHeader) (v : Served h) where
   unfolding directPointers
   direct-pointers-few = blocks-before-few (directSuperBlocks h) (direct-le h)
 
+  pub page-elements-few : pageElements h ≤ 2 ^ 32
+  unfolding pageElements
+  page-elements-few = pow-mono {i = h .«max_dblk_nelmts_bits»} {j = 32} (v .page)
+
   module _ (u : ℕ) (lt : u < superBlocks h) where
     pub blocks-few : blocks u ≤ 2 ^ 31
     unfolding blocks
@@ -140,7 +149,16 @@ module _ (h : ExtensibleArrayHeader) (v : Served h) where
         let b = bits-few in
         omega arith
 
-    -- the pages of a paged block fill it
+    pub bitmap-bytes-few : bitmapBytes h u ≤ 2 ^ 62
+    unfolding bitmapBytes
+    bitmap-bytes-few = by-cond (λ (n : ℕ). n ≤ 2 ^ 62) (overPage h u) (λ t. bitmap-few) (λ t. omega arith)
+
+    -- the pages of a block hold no more elements than there are ..
+    pub pages-fit : pages h u * pageElements h ≤ 2 ^ 35
+    unfolding pages
+    pages-fit = omega (arith, div-mul-le-self (blockElements h u) (pageElements h), elements-few)
+
+    -- .. and those of a paged block fill it
     pub pages-exact : overPage h u ≡ true → pages h u * pageElements h ≡ blockElements h u
     unfolding pages pageElements overPage
     pages-exact t =

@@ -30,6 +30,6 @@ digit-test (suc (suc d)) p pos h = absurd (omega arith)
 pub mask-test : (n j : ℕ) → j < 8 → not (eqb (bitAnd n (128 / 2 ^ j)) 0) ≡ eqb (n / (128 / 2 ^ j) % 2) 1
 mask-test n j h =
     rw (shifted-top j h) (
-      let k = 7 - j in
-      ap (λ (m : ℕ). not (eqb m 0)) (one-bit n k) ∙ digit-test (n / 2 ^ k % 2) (2 ^ k) (pow-pos k) (omega arith)
+    let k = 7 - j in
+    ap (λ (m : ℕ). not (eqb m 0)) (one-bit n k) ∙ digit-test (n / 2 ^ k % 2) (2 ^ k) (pow-pos k) (omega arith)
     )

@@ -1,19 +1,25 @@
 -- Where the parts of a structure lie: inside it, and, for served headers and offset sizes up to 8, at numbers that fit 64 bits. Assumes nothing.
 use Prim.Native.Nat.{ℕ, _+_, _-_, _*_, _/_, _%_, _^_, _<_, _≤_}
-use mathlib.Core.Path.{_≡_, sym, ap, subst, _∙_}
-use mathlib.Core.Bool.{true, false}
+use mathlib.Core.Path.{_≡_}
+use mathlib.Core.Bool.{true}
 use native.Mathlib.Omega.{arith}
-use native.Mathlib.Nat.{mul-comm, mul-assoc, mul-le-mul-left, mul-le-mul-right, div-mul-le-self, mod-lt}
+use native.Mathlib.Nat.{mul-assoc, mul-le-mul-left, mul-le-mul-right, mod-lt}
 use lib.Arith.{digits-lt}
 use lib.Dec.{eqb}
-use lib.Pow.{pow-pos, pow-mono}
+use lib.Pow.{pow-pos}
+use Rattle.refusal.specs.Refusals.{figure}
 use Rattle.ea_header.specs.Served.{Served}
 use Rattle.ea_header.specs.declared.ExtensibleArrayHeader.{ExtensibleArrayHeader}
 use Rattle.ea_header.proofs.Cases.{by-cond}
 use Rattle.ea_geometry.specs.Sizes.{superBlocks, blocks, blockElements, directSuperBlocks, blocksBefore, directPointers, superPointers, pageElements, overPage, pages, bitBytes, bitmapBytes}
 use Rattle.ea_geometry.specs.Extents.{elementStride, elementAt, pointerAt, indexPrefix, inlineElementAt, directPointersAt, superPointersAt, indexExtent, directPointerAt, superPointerAt, blockPrefix, pageBitsAt, blockPointerAt, superExtent, blockElementAt, dataExtent, pagedHeadExtent, pageExtent, pageAt, pagedExtent, pagedElementAt}
 use Rattle.ea_geometry.specs.PageBits.{bitNumber, bitByte}
-use Rattle.ea_geometry.proofs.Counts.{blocks-before-lt, direct-le, direct-pointers-few, elements-few, bitmap-few}
+use Rattle.ea_geometry.proofs.Counts.{blocks-before-lt, direct-pointers-few}
+
+-- sums of figures are the figure of the sum
+pub figure-sum : (a b d : ℕ) → figure (figure (a + figure b) + figure d) ≡ figure (a + b + d)
+unfolding figure
+figure-sum a b d = omega arith
 
 -- the i-th of n parts of the same length
 part-inside : (first s i n : ℕ) → i < n → first + i * s + s ≤ first + n * s
@@ -27,6 +33,11 @@ module _ (h : ExtensibleArrayHeader) (o : ℕ) where
   pub pointer-inside : (first j n : ℕ) → j < n → pointerAt o first j + o ≤ pointerAt o first n
   unfolding pointerAt
   pointer-inside first j n lt = part-inside first o j n lt
+
+  -- the index block: its fixed bytes, its addresses, its elements
+  pub index-extent-is : indexExtent h o ≡ 10 + (1 + directPointers h + superPointers h) * o + h .«idx_blk_elmts» * elementStride h o
+  unfolding indexExtent superPointersAt directPointersAt inlineElementAt elementAt pointerAt indexPrefix
+  index-extent-is = omega arith
 
   -- in the index block
   pub inline-element-inside : (i : ℕ) → i < h .«idx_blk_elmts» → inlineElementAt h o i + elementStride h o ≤ directPointersAt h o
@@ -83,6 +94,10 @@ module _ (h : ExtensibleArrayHeader) (o : ℕ) where
     unfolding pointerAt
     pointer-at-le first j = let a = mul-le-mul-left j w in omega arith
 
+    pub block-prefix-few : Served h → blockPrefix h o ≤ 22
+    unfolding blockPrefix bitBytes
+    block-prefix-few v = let b = v .bits in omega arith
+
     module _ (e : h .«element_size» < 256) where
       pub stride-few : elementStride h o ≤ 255
       unfolding elementStride
@@ -92,43 +107,20 @@ module _ (h : ExtensibleArrayHeader) (o : ℕ) where
       unfolding elementAt
       element-at-le first i = let a = mul-le-mul-left i stride-few in omega arith
 
-      module _ (n : h .«idx_blk_elmts» < 256) where
-        pub direct-pointers-at-few : directPointersAt h o ≤ 2 ^ 17
-        unfolding directPointersAt inlineElementAt indexPrefix
-        direct-pointers-at-few = let a = element-at-le (6 + o) (h .«idx_blk_elmts») in omega arith
+      pub direct-pointers-at-few : h .«idx_blk_elmts» < 256 → directPointersAt h o ≤ 2 ^ 17
+      unfolding directPointersAt inlineElementAt indexPrefix
+      direct-pointers-at-few n = let a = element-at-le (6 + o) (h .«idx_blk_elmts») in omega arith
 
-        pub super-pointers-at-few : Served h → superPointersAt h o ≤ 2 ^ 37
-        unfolding superPointersAt
-        super-pointers-at-few v =
-            let a = pointer-at-le (directPointersAt h o) (directPointers h) in
-            let b = direct-pointers-at-few in
-            let d = direct-pointers-few h v in
-            omega arith
+      pub super-pointers-at-few : h .«idx_blk_elmts» < 256 → Served h → superPointersAt h o ≤ 2 ^ 37
+      unfolding superPointersAt
+      super-pointers-at-few n v =
+          omega (arith, pointer-at-le (directPointersAt h o) (directPointers h), direct-pointers-at-few n, direct-pointers-few h v)
 
-      module _ (v : Served h) where
-        pub block-prefix-few : blockPrefix h o ≤ 22
-        unfolding blockPrefix bitBytes
-        block-prefix-few = let b = v .bits in omega arith
-
-        pub page-elements-few : pageElements h ≤ 2 ^ 32
-        unfolding pageElements
-        page-elements-few = pow-mono {i = h .«max_dblk_nelmts_bits»} {j = 32} (v .page)
-
-        pub page-at-le : (p : ℕ) → pageAt h o p ≤ 26 + 259 * (p * pageElements h)
-        unfolding pageAt pagedHeadExtent pageExtent elementAt pageElements
-        page-at-le p =
-            let q = 2 ^ h .«max_dblk_nelmts_bits» in
-            let s = elementStride h o in
-            let a : p * (q * s) ≤ 255 * (p * q) = subst (λ (x : ℕ). x ≤ 255 * (p * q)) (mul-assoc p q s) (subst (λ (x : ℕ). p * q * s ≤ x) (mul-comm (p * q) 255) (mul-le-mul-left (p * q) stride-few)) in
-            let b : p ≤ p * q = omega (arith, mul-le-mul-left p (pow-pos (h .«max_dblk_nelmts_bits»))) in
-            let d = block-prefix-few in
-            omega arith
-
-        -- the pages of a block hold no more elements than there are
-        pub pages-fit : (u : ℕ) → u < superBlocks h → pages h u * pageElements h ≤ 2 ^ 35
-        unfolding pages
-        pages-fit u lt = omega (arith, div-mul-le-self (blockElements h u) (pageElements h), elements-few h v u lt)
-
-        pub bitmap-bytes-few : (u : ℕ) → u < superBlocks h → bitmapBytes h u ≤ 2 ^ 62
-        unfolding bitmapBytes
-        bitmap-bytes-few u lt = by-cond (λ (n : ℕ). n ≤ 2 ^ 62) (overPage h u) (λ t. bitmap-few h v u lt) (λ t. omega arith)
+      pub page-at-le : Served h → (p : ℕ) → pageAt h o p ≤ 26 + 259 * (p * pageElements h)
+      unfolding pageAt pagedHeadExtent pageExtent elementAt pageElements
+      page-at-le v p =
+          let q = 2 ^ h .«max_dblk_nelmts_bits» in
+          let s = elementStride h o in
+          let a : p * (q * s) ≤ 255 * (p * q) = rw (← mul-assoc p q s) (omega (arith, mul-le-mul-left (p * q) stride-few)) in
+          let b : p ≤ p * q = omega (arith, mul-le-mul-left p (pow-pos (h .«max_dblk_nelmts_bits»))) in
+          omega (arith, block-prefix-few v)

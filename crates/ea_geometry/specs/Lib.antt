@@ -1,5 +1,6 @@
-pub mod Sizes
+pub mod Bounded
 pub mod Extents
 pub mod PageBits
 pub mod Place
-pub mod Bounded
+pub mod Sizes
+pub mod Slots

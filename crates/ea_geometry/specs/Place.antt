@@ -1,6 +1,6 @@
 -- The place of a slot, by arithmetic alone.
-use Prim.Native.Nat.{ℕ, _+_, _-_, _*_, _/_, _%_}
-use mathlib.Core.Bool.{Bool, cond, not, _&&_}
+use Prim.Native.Nat.{ℕ, _+_, _-_, _/_, _%_}
+use mathlib.Core.Bool.{Bool, cond, _&&_}
 use lib.Dec.{ltb, leb}
 use Rattle.ea_header.specs.Log.{log2}
 use Rattle.ea_header.specs.declared.ExtensibleArrayHeader.{ExtensibleArrayHeader}
@@ -33,15 +33,3 @@ unfoldable pub place : ExtensibleArrayHeader → ℕ → Place
 place h s =
     cond (ltb s (h .«idx_blk_elmts»)) (Inline s)
     (let e = s - h .«idx_blk_elmts» in inSuperBlock h (superOf h e) (e - elementsBefore h (superOf h e)))
-
--- the first slot of super block u: behind the inline ones and the super blocks before it
-unfoldable pub firstSlot : ExtensibleArrayHeader → ℕ → ℕ
-firstSlot h u = h .«idx_blk_elmts» + elementsBefore h u
-
--- how many slots the array has at most: the inline ones and those of all super blocks
-unfoldable pub capacity : ExtensibleArrayHeader → ℕ
-capacity h = firstSlot h (superBlocks h)
-
--- the slot of element i of data block k of super block u
-unfoldable pub slotIn : ExtensibleArrayHeader → ℕ → ℕ → ℕ → ℕ
-slotIn h u k i = firstSlot h u + (k * blockElements h u + i)

@@ -1,14 +1,18 @@
 // How many bytes each structure takes, and where in it its parts lie.
 ghost use mathlib.Core.Path.{_≡_};
 ghost use Prim.Native.Nat.{_*_, _^_, _<_, _≤_};
+ghost use Rattle.refusal.specs.Refusals.{figure};
+ghost use Rattle.ea_header.specs.Served.{Served};
 ghost use Rattle.ea_geometry.specs.Bounded.{mostElements, Bounded};
 ghost use Rattle.ea_geometry.specs.Sizes.{superBlocks, blocks, directSuperBlocks, pageElements};
 ghost use Rattle.ea_geometry.specs.Extents.{elementStride, elementAt, pointerAt, indexPrefix, inlineElementAt};
-ghost use Rattle.ea_geometry.specs.Extents.{directPointersAt, superPointersAt, directPointerAt, superPointerAt};
-ghost use Rattle.ea_geometry.specs.Extents.{blockPrefix, pageBitsAt, blockPointerAt, superExtent, blockElementAt};
+ghost use Rattle.ea_geometry.specs.Extents.{directPointersAt, superPointersAt, indexExtent, directPointerAt};
+ghost use Rattle.ea_geometry.specs.Extents.{superPointerAt, blockPrefix, pageBitsAt, blockPointerAt, superExtent, blockElementAt};
 ghost use Rattle.ea_geometry.specs.Extents.{dataExtent, pagedHeadExtent, pageExtent, pageAt, pagedExtent};
 ghost use Rattle.ea_geometry.specs.Extents.{pagedElementAt};
 use crate::EaGeometry;
+use fields::convert::saturating_add;
+use fields::convert::saturating_mul;
 
 impl EaGeometry {
     // The bytes of an element.
@@ -83,6 +87,17 @@ impl EaGeometry {
         ensures { λ r. ⌜ r ≡ superPointerAt (self .header) (self .«offset_size») u ⌝ }
     {
         self.pointer_at(self.super_pointers_at(), u - self.direct_super_blocks())
+    }
+
+    // The bytes of the index block, for every offset size; past 2^64 - 1 it is 2^64 - 1.
+    pub fn index_extent(self) -> u64
+        requires { ⌜ Served (self .header) ⌝ }
+        ensures { λ r. ⌜ r ≡ figure (indexExtent (self .header) (self .«offset_size»)) ⌝ }
+    {
+        let addresses = 1 + self.direct_pointers() + self.super_pointers();
+        let pointers = saturating_mul(addresses, self.offset_size);
+        let elements = saturating_mul(self.header.idx_blk_elmts as u64, self.element_stride());
+        saturating_add(saturating_add(10, pointers), elements)
     }
 
     // A super block before its page bits, a data block before its elements.

@@ -65,3 +65,15 @@ trailing-log2 n p le = ap (λ (x : ℕ). trailingZeros 64 x) p ∙ trailing-pow 
 -- 1 shifted left
 pub one-shl : (k : ℕ) → k < 64 → 1 * 2 ^ k % 2 ^ 64 ≡ 2 ^ k
 one-shl k h = shl-exact 1 k 64 (lit< tt) (omega arith) ∙ one-mul _
+
+-- and less than twice as much, where the halvings were enough
+pub log2-hi : (f n : ℕ) → log2In f n < f → n < 2 ^ suc (log2In f n)
+unfolding log2In
+log2-hi zero n h = absurd (not-suc-le-zero h)
+log2-hi (suc f) n h =
+    ⊎-elim (λ (lt : n < 2). rw (lt-ltb n 2 lt) (omega arith))
+    (λ (ge : 2 ≤ n).
+    let fewer : suc (log2In f (n / 2)) < suc f = rw (le-ltb n 2 ge) at h in
+    let half = log2-hi f (n / 2) (omega arith) in
+    let z : n < 2 ^ suc (suc (log2In f (n / 2))) = omega arith in
+    rw (le-ltb n 2 ge) z) (lt-or-ge n 2)

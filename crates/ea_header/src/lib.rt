@@ -1,9 +1,23 @@
 // The header of an extensible array.
 ghost use mathlib.Core.Path.{_≡_};
-ghost use Prim.Native.Nat.{_^_};
+ghost use mathlib.Core.Bool.{true};
+ghost use Prim.Native.Nat.{_+_, _^_, _≤_};
 ghost use lib.Dec.{eqb};
+ghost use lib.ListN.{length};
+ghost use Rattle.refusal.specs.Refusals.{figure};
+ghost use Rattle.fields.specs.Fields.{isWidth};
+ghost use Rattle.checksum.specs.Lookup3.{lookup3};
+ghost use Rattle.ea_header.specs.Header.{headerBytes, headerAt, formTest, sizesTest, headerTest, parsedAt};
 ghost use Rattle.ea_header.specs.Log.{log2};
 ghost use Rattle.ea_header.specs.Served.{served, servedTest};
+use checksum::verify_trailing;
+use fields::bytes::ensure_len;
+use fields::bytes::ensure_width;
+use fields::bytes::read_address;
+use fields::bytes::read_le;
+use fields::bytes::read_u32_le;
+use fields::convert::saturating_add;
+use fields::convert::saturating_mul;
 use refusal::Checked;
 use refusal::Refusal;
 
@@ -28,7 +42,41 @@ pub struct ExtensibleArrayHeader {
     pub index_block_address: u64,
 }
 
+// What reading a header finds: the header, or why it is not read.
+pub enum Parsed {
+    Header(ExtensibleArrayHeader),
+    Refused(Refusal),
+}
+
 impl ExtensibleArrayHeader {
+    // "EAHD"
+    pub const SIGNATURE: u32 = 0x4448_4145;
+
+    // Reads the header at an address of a file.
+    pub fn parse(file: &[u8], address: u64, offset_size: u64, length_size: u64) -> Parsed
+        ensures { λ r. ⌜ r ≡ parsedAt lookup3 (now (file .entry)) address «offset_size» «length_size» ⌝ }
+    {
+        match header_test(file, address, offset_size, length_size) {
+            Checked::Passed => Parsed::Header(read_header(
+                file,
+                address as usize,
+                offset_size as usize,
+                length_size as usize,
+            )),
+            Checked::Refused(r) => Parsed::Refused(r),
+        }
+    }
+
+    // The bytes of a header; past 2^64 - 1 it is 2^64 - 1.
+    pub fn serialized_size(offset_size: u64, length_size: u64) -> u64
+        ensures { λ r. ⌜ r ≡ figure (headerBytes «offset_size» «length_size») ⌝ }
+    {
+        saturating_add(
+            saturating_add(16, saturating_mul(6, length_size)),
+            offset_size,
+        )
+    }
+
     pub fn is_served(self) -> bool
         ensures { λ r. ⌜ r ≡ served self ⌝ }
     {
@@ -67,4 +115,79 @@ fn is_power_of_two(n: u64) -> bool
         return false;
     }
     n == 1 << (63 - u64::leading_zeros(n) as u64)
+}
+
+fn header_test(file: &[u8], address: u64, offset_size: u64, length_size: u64) -> Checked
+    ensures { λ r. ⌜ r ≡ headerTest lookup3 (now (file .entry)) address «offset_size» «length_size» ⌝ }
+{
+    let size = ExtensibleArrayHeader::serialized_size(offset_size, length_size);
+    if let Checked::Refused(r) = ensure_len(file, address, size) {
+        return Checked::Refused(r);
+    }
+    let pos = address as usize;
+    if let Checked::Refused(r) = form_test(file, pos) {
+        return Checked::Refused(r);
+    }
+    if let Checked::Refused(r) = sizes_test(offset_size, length_size) {
+        return Checked::Refused(r);
+    }
+    let end = pos + size as usize;
+    verify_trailing(&file[pos..end])
+}
+
+// Signature and version of the header at pos.
+fn form_test(file: &[u8], pos: usize) -> Checked
+    requires { ⌜ pos + 5 ≤ length (now file) ⌝ }
+    ensures { λ r. ⌜ r ≡ formTest (now (file .entry)) pos ⌝ }
+{
+    if read_u32_le(file, pos) != ExtensibleArrayHeader::SIGNATURE {
+        return Checked::Refused(Refusal {
+            number: Refusal::HEADER_SIGNATURE,
+            first: 0,
+            second: 0,
+        });
+    }
+    let version = file[pos + 4];
+    if version != 0 {
+        return Checked::Refused(Refusal {
+            number: Refusal::HEADER_VERSION,
+            first: version as u64,
+            second: 0,
+        });
+    }
+    Checked::Passed
+}
+
+fn sizes_test(offset_size: u64, length_size: u64) -> Checked
+    ensures { λ r. ⌜ r ≡ sizesTest «offset_size» «length_size» ⌝ }
+{
+    match ensure_width(length_size, Refusal::LENGTH_SIZE) {
+        Checked::Passed => ensure_width(offset_size, Refusal::OFFSET_SIZE),
+        Checked::Refused(r) => Checked::Refused(r),
+    }
+}
+
+// The fields of the header at pos.
+fn read_header(
+    file: &[u8],
+    pos: usize,
+    offset_size: usize,
+    length_size: usize,
+) -> ExtensibleArrayHeader
+    requires { ⌜ (pos + headerBytes «offset_size» «length_size» ≤ length (now file)) × (isWidth «offset_size» ≡ true) × (isWidth «length_size» ≡ true) ⌝ }
+    ensures { λ r. ⌜ r ≡ headerAt (now (file .entry)) pos «offset_size» «length_size» ⌝ }
+{
+    let count = read_le(file, pos + 12 + 4 * length_size, length_size);
+    let index = read_address(file, pos + 12 + 6 * length_size, offset_size);
+    ExtensibleArrayHeader {
+        client_id: file[pos + 5],
+        element_size: file[pos + 6],
+        max_nelmts_bits: file[pos + 7],
+        idx_blk_elmts: file[pos + 8],
+        min_dblk_nelmts: file[pos + 9],
+        super_blk_min_nelmts: file[pos + 10],
+        max_dblk_nelmts_bits: file[pos + 11],
+        num_elements: count,
+        index_block_address: index.value,
+    }
 }

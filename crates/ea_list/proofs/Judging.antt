@@ -9,7 +9,7 @@ use native.Mathlib.Nat.{eq-or-lt-of-le}
 use lib.ListN.{length}
 use Rattle.refusal.specs.Refusals.{largest64}
 use Rattle.refusal.specs.Outcome.{accepted}
-use Rattle.refusal.proofs.Cases.{yields-inv}
+use Rattle.refusal.proofs.Outcomes.{yields-inv}
 use Rattle.chunk_grid.specs.Grid.{chunkAt, slotOf}
 use Rattle.chunk_grid.specs.declared.Slot.the-variants.{At}
 use Rattle.chunk_grid.proofs.Grids.{Built, built, chunk-slot, slot-chunk}

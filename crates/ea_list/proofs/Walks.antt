@@ -13,7 +13,8 @@ use lib.Arith.{digits-lt, digits-div, digits-mod}
 use lib.Dec.{leb, ltb}
 use Rattle.refusal.specs.declared.Checked.the-variants.{Passed}
 use Rattle.refusal.specs.Outcome.{Outcome, refused, accepted, _yields_}
-use Rattle.refusal.proofs.Cases.{by-cond, lt-or-ge, both, never, yields-inv, refuse-inv}
+use Rattle.refusal.proofs.Tests.{by-cond, lt-or-ge, both, refuse-inv}
+use Rattle.refusal.proofs.Outcomes.{never, yields-inv}
 use Rattle.fields.specs.Fields.{widthTest}
 use Rattle.chunk_grid.specs.Grid.{offsets}
 use Rattle.ea_header.specs.declared.ExtensibleArrayHeader.{ExtensibleArrayHeader}

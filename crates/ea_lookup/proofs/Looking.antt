@@ -13,7 +13,8 @@ use Rattle.refusal.specs.declared.Checked.{Checked}
 use Rattle.refusal.specs.declared.Checked.the-variants.{Passed}
 use Rattle.refusal.specs.Refusals.{largest64, refuse, _then_}
 use Rattle.refusal.specs.Outcome.{Outcome, accepted, _yields_}
-use Rattle.refusal.proofs.Cases.{by-cond, lt-or-ge, then-inv, refuse-inv, yields-inv, yields-passed}
+use Rattle.refusal.proofs.Tests.{by-cond, lt-or-ge, then-inv, refuse-inv}
+use Rattle.refusal.proofs.Outcomes.{yields-inv, yields-passed}
 use Rattle.chunk_grid.specs.Grid.{Grid, gridTest, cornerTest, isChunk, slotOf, chunkAt}
 use Rattle.chunk_grid.specs.declared.Slot.{Slot}
 use Rattle.chunk_grid.specs.declared.Slot.the-variants.{At, NoSlot}

@@ -1,25 +1,30 @@
+-- `ea_geometry::EaGeometry::bit_number` meets its contract. Assumes nothing.
+use Prim.Native.Nat.{_+_, _*_, _^_, _<_}
+use native.Mathlib.Omega.{arith}
+use lib.Arith.{digits-lt}
 use borrow.Author.Needs.{needs}
+use Rattle.ea_geometry.specs.PageBits.{bitNumber}
+use Rattle.ea_geometry.proofs.Counts.{bits-few}
 use Rattle.ea_geometry.proofs.EaGeometry.bit_number.Statement.{statement}
 use Rattle.ea_geometry.proofs.EaGeometry.bit_number.Tie as tie
-use Rattle.ea_geometry.proofs.EaGeometry.bit_number.Reads as reads
-use Rattle.ea_geometry.proofs.EaGeometry.bit_number.Lts as lts
-use Rattle.ea_geometry.proofs.EaGeometry.pages.Reads as pages-reads
 
--- src/page_bits.rt:16:13
 pages-requires : tie.Need-pages-requires
 pages-requires c κs = search needs
 
--- src/page_bits.rt:16:9
+few : (c : tie.After-pages) → c .before .args .k * c .pages .result + c .before .args .p < 2 ^ 62
+few c =
+    let a = c .before in
+    rw (c .pages .ensures) (omega (arith, digits-lt (a .pre .1) (a .pre .2), bits-few (a .args .self .header) (a .pre .3) (a .args .u) (a .pre .0)))
+
 mul-result : tie.Need-mul-result
-mul-result c = ?
+mul-result c = omega (arith, few c)
 
--- src/page_bits.rt:16:9
 add-result : tie.Need-add-result
-add-result c = ?
+add-result c = omega (arith, few c)
 
--- src/page_bits.rt:12:5
 returns : tie.Need-returns
-returns c = ?
+unfolding bitNumber
+returns c = rw (c .pages .ensures)
 
 pub bit-number-spec : {M : Type 1} → statement M
 bit-number-spec = tie.close (tie.spec pages-requires mul-result add-result returns)

@@ -1,45 +1,34 @@
+-- `ea_geometry::EaGeometry::bitmap_bytes` meets its contract. Assumes nothing.
 use mathlib.Core.Path.{sym, _∙_}
 use native.Mathlib.Omega.{arith}
+use borrow.Author.Needs.{needs}
 use Rattle.ea_geometry.specs.Sizes.{bitBytes, bitmapBytes}
 use Rattle.ea_geometry.proofs.Counts.{elements-few, pages-few, bitmap-few}
-use borrow.Author.Needs.{needs}
 use Rattle.ea_geometry.proofs.EaGeometry.bitmap_bytes.Statement.{statement}
 use Rattle.ea_geometry.proofs.EaGeometry.bitmap_bytes.Tie as tie
-use Rattle.ea_geometry.proofs.EaGeometry.bitmap_bytes.Reads as reads
-use Rattle.ea_geometry.proofs.EaGeometry.bitmap_bytes.Lts as lts
-use Rattle.ea_geometry.proofs.EaGeometry.blocks.Reads as blocks-reads
-use Rattle.ea_geometry.proofs.EaGeometry.over_page.Reads as over-page-reads
-use Rattle.ea_geometry.proofs.EaGeometry.pages.Reads as pages-reads
 
--- src/lib.rt:171:12
 over-page-requires : tie.Need-over-page-requires
 over-page-requires c κs = search needs
 
--- src/lib.rt:172:20
 blocks-requires : tie.Need-blocks-requires
 blocks-requires c κs = search needs
 
--- src/lib.rt:172:39
 pages-requires : tie.Need-pages-requires
 pages-requires c κs = search needs
 
--- src/lib.rt:172:39
 add-result : tie.Need-add-result
 add-result c = let a = c .before .before .before .before in
     omega (arith, elements-few (a .args .self .header) (a .pre .1) (a .args .u) (a .pre .0), pages-few (a .args .self .header) (a .pre .1) (a .args .u) (a .pre .0), c .pages .ensures)
 
--- src/lib.rt:172:20
 mul-result : tie.Need-mul-result
 unfolding bitBytes
 mul-result c = let a = c .before .before .before .before in
     rw (c .before .blocks2 .ensures, c .pages .ensures) (omega (arith, bitmap-few (a .args .self .header) (a .pre .1) (a .args .u) (a .pre .0)))
 
--- src/lib.rt:172:13
 returns : tie.Need-returns
 unfolding bitmapBytes bitBytes
 returns c = rw (c .before .blocks2 .ensures, c .pages .ensures, sym (c .before .before .before .over-page .ensures) ∙ c .before .before .if1 .taken)
 
--- src/lib.rt:167:5
 returns-2 : tie.Need-returns-2
 unfolding bitmapBytes
 returns-2 c = rw (sym (c .before .over-page .ensures) ∙ c .if1 .left)

@@ -1,22 +1,23 @@
+-- `ea_geometry::EaGeometry::block_element_at` meets its contract. Assumes nothing.
+use native.Mathlib.Omega.{arith}
 use borrow.Author.Needs.{needs}
+use Rattle.ea_geometry.specs.Extents.{blockElementAt}
+use Rattle.ea_geometry.proofs.Positions.{block-prefix-few}
 use Rattle.ea_geometry.proofs.EaGeometry.block_element_at.Statement.{statement}
 use Rattle.ea_geometry.proofs.EaGeometry.block_element_at.Tie as tie
-use Rattle.ea_geometry.proofs.EaGeometry.block_element_at.Reads as reads
-use Rattle.ea_geometry.proofs.EaGeometry.block_element_at.Lts as lts
-use Rattle.ea_geometry.proofs.EaGeometry.block_prefix.Reads as block-prefix-reads
-use Rattle.ea_geometry.proofs.EaGeometry.element_at.Reads as element-at-reads
 
--- src/extents.rt:125:25
 block-prefix-requires : tie.Need-block-prefix-requires
 block-prefix-requires c κs = search needs
 
--- src/extents.rt:125:9
 element-at-requires : tie.Need-element-at-requires
-element-at-requires c κs = ?
+element-at-requires c κs =
+    let g = c .before .args .self in
+    let b = c .before .pre .1 in
+    (omega (arith, c .block-prefix .ensures, block-prefix-few (g .header) (g .«offset_size») (b .width) (b .served)), c .before .pre .0, b)
 
--- src/extents.rt:121:5
 returns : tie.Need-returns
-returns c = ?
+unfolding blockElementAt
+returns c = rw (c .element-at .ensures, c .before .block-prefix .ensures)
 
 pub block-element-at-spec : {M : Type 1} → statement M
 block-element-at-spec = tie.close (tie.spec block-prefix-requires element-at-requires returns)

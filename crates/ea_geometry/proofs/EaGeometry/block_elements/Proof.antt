@@ -1,28 +1,22 @@
+-- `ea_geometry::EaGeometry::block_elements` meets its contract. Assumes nothing.
 use Prim.Native.Nat.{_+_, _/_}
 use native.Mathlib.Omega.{arith}
 use lib.Pow.{shl-exact}
+use borrow.Author.Needs.{needs}
 use Rattle.ea_geometry.specs.Sizes.{blockElements}
 use Rattle.ea_geometry.proofs.Counts.{supers-few}
-use borrow.Author.Needs.{needs}
 use Rattle.ea_geometry.proofs.EaGeometry.block_elements.Statement.{statement}
 use Rattle.ea_geometry.proofs.EaGeometry.block_elements.Tie as tie
-use Rattle.ea_geometry.proofs.EaGeometry.block_elements.Reads as reads
-use Rattle.ea_geometry.proofs.EaGeometry.block_elements.Lts as lts
-use Rattle.ea_geometry.proofs.EaGeometry.least_block_elements.Reads as least-block-elements-reads
 
--- src/lib.rt:97:9
 least-block-elements-requires : tie.Need-least-block-elements-requires
 least-block-elements-requires c κs = search needs
 
--- src/lib.rt:97:42
 add-result : tie.Need-add-result
 add-result c = omega (arith, supers-few (c .before .args .self .header) (c .before .pre .1))
 
--- src/lib.rt:97:9
 shl-result : tie.Need-shl-result
 shl-result c = omega (arith, supers-few (c .before .args .self .header) (c .before .pre .1))
 
--- src/lib.rt:93:5
 returns : tie.Need-returns
 unfolding blockElements
 returns c = let a = c .before .args in

@@ -1,31 +1,38 @@
+-- `ea_geometry::EaGeometry::block_pointer_at` meets its contract. Assumes nothing.
+use Prim.Native.Nat.{_+_, _≤_, _^_}
+use native.Mathlib.Omega.{arith}
 use borrow.Author.Needs.{needs}
+use Rattle.ea_geometry.specs.Extents.{pageBitsAt, blockPointerAt}
+use Rattle.ea_geometry.proofs.Counts.{blocks-few, bitmap-bytes-few}
+use Rattle.ea_geometry.proofs.Positions.{block-prefix-few}
 use Rattle.ea_geometry.proofs.EaGeometry.block_pointer_at.Statement.{statement}
 use Rattle.ea_geometry.proofs.EaGeometry.block_pointer_at.Tie as tie
-use Rattle.ea_geometry.proofs.EaGeometry.block_pointer_at.Reads as reads
-use Rattle.ea_geometry.proofs.EaGeometry.block_pointer_at.Lts as lts
-use Rattle.ea_geometry.proofs.EaGeometry.bitmap_bytes.Reads as bitmap-bytes-reads
-use Rattle.ea_geometry.proofs.EaGeometry.page_bits_at.Reads as page-bits-at-reads
-use Rattle.ea_geometry.proofs.EaGeometry.pointer_at.Reads as pointer-at-reads
 
--- src/extents.rt:109:25
 page-bits-at-requires : tie.Need-page-bits-at-requires
 page-bits-at-requires c κs = search needs
 
--- src/extents.rt:109:47
 bitmap-bytes-requires : tie.Need-bitmap-bytes-requires
 bitmap-bytes-requires c κs = search needs
 
--- src/extents.rt:109:25
+behind : (c : tie.After-bitmap-bytes) → c .before .page-bits-at .result + c .bitmap-bytes .result ≤ 2 ^ 63
+unfolding pageBitsAt
+behind c =
+    let a = c .before .before in
+    let g = a .args .self in
+    let b = a .pre .2 in
+    omega (arith, c .before .page-bits-at .ensures, c .bitmap-bytes .ensures, block-prefix-few (g .header) (g .«offset_size») (b .width) (b .served), bitmap-bytes-few (g .header) (b .served) (a .args .u) (a .pre .0))
+
 add-pointer-at : tie.Need-add-pointer-at
-add-pointer-at c = ?
+add-pointer-at c = omega (arith, behind c)
 
--- src/extents.rt:109:9
 pointer-at-requires : tie.Need-pointer-at-requires
-pointer-at-requires c κs = ?
+pointer-at-requires c κs =
+    let a = c .before .before in
+    (behind c, omega (arith, blocks-few (a .args .self .header) (a .pre .2 .served) (a .args .u) (a .pre .0)), a .pre .2)
 
--- src/extents.rt:105:5
 returns : tie.Need-returns
-returns c = ?
+unfolding blockPointerAt
+returns c = rw (c .pointer-at .ensures, c .before .before .page-bits-at .ensures, c .before .bitmap-bytes .ensures)
 
 pub block-pointer-at-spec : {M : Type 1} → statement M
 block-pointer-at-spec =

@@ -1,46 +1,38 @@
+-- `ea_geometry::EaGeometry::blocks_before` meets its contract. Assumes nothing.
+use Prim.Native.Nat.{_+_, _/_, _≤_}
 use mathlib.Core.Path.{sym}
-use Prim.Native.Nat.{_+_, _/_, _^_, _≤_, _<_}
 use native.Mathlib.Omega.{arith}
 use lib.Pow.{pow-pos}
 use Rattle.ea_header.proofs.Log.{one-shl}
 use Rattle.ea_geometry.proofs.Counts.{supers-few, blocks-before-is, blocks-before-few}
 use Rattle.ea_geometry.proofs.EaGeometry.blocks_before.Statement.{statement}
 use Rattle.ea_geometry.proofs.EaGeometry.blocks_before.Tie as tie
-use Rattle.ea_geometry.proofs.EaGeometry.blocks_before.Reads as reads
-use Rattle.ea_geometry.proofs.EaGeometry.blocks_before.Lts as lts
 
 few : (c : tie.Start) → c .args .u ≤ 63
 few c = omega (arith, supers-few (c .args .self .header) (c .pre .1))
 
--- src/lib.rt:115:18
 add-result : tie.Need-add-result
 add-result c = omega (arith, few c)
 
--- src/lib.rt:115:11
 shl-result : tie.Need-shl-result
 shl-result c = omega (arith, few c)
 
--- src/lib.rt:115:10
 sub-result : tie.Need-sub-result
 sub-result c = let k = (c .args .u + 1) / 2 in
     omega (arith, one-shl k (omega (arith, few c)), pow-pos k)
 
--- src/lib.rt:115:40
 shl-result-2 : tie.Need-shl-result-2
 shl-result-2 c = omega (arith, few c)
 
--- src/lib.rt:115:39
 sub-result-2 : tie.Need-sub-result-2
 sub-result-2 c = let k = c .args .u / 2 in
     omega (arith, one-shl k (omega (arith, few c)), pow-pos k)
 
--- src/lib.rt:115:9
 add-result-2 : tie.Need-add-result-2
 add-result-2 c = let u = c .args .u in
     rw (one-shl ((u + 1) / 2) (omega (arith, few c)), one-shl (u / 2) (omega (arith, few c)))
     (omega (arith, blocks-before-is u, blocks-before-few (c .args .self .header) (c .pre .1) u (c .pre .0)))
 
--- src/lib.rt:111:5
 returns : tie.Need-returns
 returns c = let u = c .args .u in
     rw (one-shl ((u + 1) / 2) (omega (arith, few c)), one-shl (u / 2) (omega (arith, few c))) (sym (blocks-before-is u))

@@ -1,25 +1,30 @@
+-- `ea_geometry::EaGeometry::element_at` meets its contract. Assumes nothing.
+use Prim.Native.Nat.{_+_, _*_, _≤_}
+use native.Mathlib.Omega.{arith}
 use borrow.Author.Needs.{needs}
+use Rattle.ea_geometry.specs.Extents.{elementAt}
+use Rattle.ea_geometry.proofs.Positions.{element-at-le}
 use Rattle.ea_geometry.proofs.EaGeometry.element_at.Statement.{statement}
 use Rattle.ea_geometry.proofs.EaGeometry.element_at.Tie as tie
-use Rattle.ea_geometry.proofs.EaGeometry.element_at.Reads as reads
-use Rattle.ea_geometry.proofs.EaGeometry.element_at.Lts as lts
-use Rattle.ea_geometry.proofs.EaGeometry.element_stride.Reads as element-stride-reads
 
--- src/extents.rt:29:21
 element-stride-requires : tie.Need-element-stride-requires
 element-stride-requires c κs = search needs
 
--- src/extents.rt:29:17
+bounded : (c : tie.After-element-stride) → c .before .args .first + c .before .args .i * c .element-stride .result ≤ c .before .args .first + 255 * c .before .args .i
+unfolding elementAt
+bounded c =
+    let a = c .before .args in
+    rw (c .element-stride .ensures) (element-at-le (a .self .header) (a .self .«offset_size») (c .before .pre .2 .width) (omega arith) (a .first) (a .i))
+
 mul-result : tie.Need-mul-result
-mul-result c = ?
+mul-result c = omega (arith, bounded c)
 
--- src/extents.rt:29:9
 add-result : tie.Need-add-result
-add-result c = ?
+add-result c = omega (arith, bounded c)
 
--- src/extents.rt:25:5
 returns : tie.Need-returns
-returns c = ?
+unfolding elementAt
+returns c = rw (c .element-stride .ensures)
 
 pub element-at-spec : {M : Type 1} → statement M
 element-at-spec = tie.close (tie.spec element-stride-requires mul-result add-result returns)

@@ -1,39 +1,32 @@
+-- `ea_geometry::EaGeometry::elements_before` meets its contract. Assumes nothing.
+use Prim.Native.Nat.{_<_}
 use native.Mathlib.Omega.{arith}
 use lib.Pow.{pow-pos}
-use Prim.Native.Nat.{_<_}
+use borrow.Author.Needs.{needs}
 use Rattle.ea_header.proofs.Log.{one-shl}
 use Rattle.ea_geometry.specs.Sizes.{elementsBefore}
 use Rattle.ea_geometry.proofs.Counts.{supers-few, elements-before-few}
-use borrow.Author.Needs.{needs}
 use Rattle.ea_geometry.proofs.EaGeometry.elements_before.Statement.{statement}
 use Rattle.ea_geometry.proofs.EaGeometry.elements_before.Tie as tie
-use Rattle.ea_geometry.proofs.EaGeometry.elements_before.Reads as reads
-use Rattle.ea_geometry.proofs.EaGeometry.elements_before.Lts as lts
-use Rattle.ea_geometry.proofs.EaGeometry.least_block_elements.Reads as least-block-elements-reads
 
--- src/lib.rt:139:9
 least-block-elements-requires : tie.Need-least-block-elements-requires
 least-block-elements-requires c κs = search needs
 
 few : (c : tie.After-least-block-elements) → c .before .args .u < 64
 few c = omega (arith, supers-few (c .before .args .self .header) (c .before .pre .1))
 
--- src/lib.rt:139:41
 shl-result : tie.Need-shl-result
 shl-result c = few c
 
--- src/lib.rt:139:40
 sub-result : tie.Need-sub-result
 sub-result c = omega (arith, one-shl (c .before .args .u) (few c), pow-pos (c .before .args .u))
 
--- src/lib.rt:139:9
 mul-result : tie.Need-mul-result
 unfolding elementsBefore
 mul-result c = let a = c .before in
     rw (one-shl (a .args .u) (few c), c .least-block-elements .ensures)
     (omega (arith, elements-before-few (a .args .self .header) (a .pre .1) (a .args .u) (a .pre .0)))
 
--- src/lib.rt:135:5
 returns : tie.Need-returns
 unfolding elementsBefore
 returns c = rw (one-shl (c .before .args .u) (few c), c .least-block-elements .ensures)

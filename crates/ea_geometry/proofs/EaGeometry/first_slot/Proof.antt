@@ -1,25 +1,25 @@
+-- `ea_geometry::EaGeometry::first_slot` meets its contract. Assumes nothing.
+use native.Mathlib.Omega.{arith}
 use borrow.Author.Needs.{needs}
+use Rattle.ea_geometry.specs.Slots.{firstSlot}
+use Rattle.ea_geometry.proofs.Counts.{elements-before-few}
 use Rattle.ea_geometry.proofs.EaGeometry.first_slot.Statement.{statement}
 use Rattle.ea_geometry.proofs.EaGeometry.first_slot.Tie as tie
-use Rattle.ea_geometry.proofs.EaGeometry.first_slot.Reads as reads
-use Rattle.ea_geometry.proofs.EaGeometry.first_slot.Lts as lts
-use Rattle.ea_geometry.proofs.EaGeometry.elements_before.Reads as elements-before-reads
 
--- src/slots.rt:16:9
 cast-result : tie.Need-cast-result
 cast-result c = search needs
 
--- src/slots.rt:16:44
 elements-before-requires : tie.Need-elements-before-requires
 elements-before-requires c κs = search needs
 
--- src/slots.rt:16:9
 add-result : tie.Need-add-result
-add-result c = ?
+add-result c =
+    let a = c .before .before in
+    omega (arith, c .elements-before .ensures, elements-before-few (a .args .self .header) (a .pre .1) (a .args .u) (a .pre .0))
 
--- src/slots.rt:12:5
 returns : tie.Need-returns
-returns c = ?
+unfolding firstSlot
+returns c = rw (c .elements-before .ensures)
 
 pub first-slot-spec : {M : Type 1} → statement M
 first-slot-spec = tie.close (tie.spec cast-result elements-before-requires add-result returns)

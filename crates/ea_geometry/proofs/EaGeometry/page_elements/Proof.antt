@@ -1,21 +1,17 @@
+-- `ea_geometry::EaGeometry::page_elements` meets its contract. Assumes nothing.
 use native.Mathlib.Omega.{arith}
+use borrow.Author.Needs.{needs}
 use Rattle.ea_header.proofs.Log.{one-shl}
 use Rattle.ea_geometry.specs.Sizes.{pageElements}
-use borrow.Author.Needs.{needs}
 use Rattle.ea_geometry.proofs.EaGeometry.page_elements.Statement.{statement}
 use Rattle.ea_geometry.proofs.EaGeometry.page_elements.Tie as tie
-use Rattle.ea_geometry.proofs.EaGeometry.page_elements.Reads as reads
-use Rattle.ea_geometry.proofs.EaGeometry.page_elements.Lts as lts
 
--- src/lib.rt:147:15
 cast-result : tie.Need-cast-result
 cast-result c = search needs
 
--- src/lib.rt:147:9
 shl-result : tie.Need-shl-result
 shl-result c = search needs
 
--- src/lib.rt:143:5
 returns : tie.Need-returns
 unfolding pageElements
 returns c = one-shl (c .before .args .self .header .«max_dblk_nelmts_bits») (omega arith)

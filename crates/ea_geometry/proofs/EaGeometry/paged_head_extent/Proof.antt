@@ -1,21 +1,22 @@
+-- `ea_geometry::EaGeometry::paged_head_extent` meets its contract. Assumes nothing.
+use native.Mathlib.Omega.{arith}
 use borrow.Author.Needs.{needs}
+use Rattle.ea_geometry.specs.Extents.{pagedHeadExtent}
+use Rattle.ea_geometry.proofs.Positions.{block-prefix-few}
 use Rattle.ea_geometry.proofs.EaGeometry.paged_head_extent.Statement.{statement}
 use Rattle.ea_geometry.proofs.EaGeometry.paged_head_extent.Tie as tie
-use Rattle.ea_geometry.proofs.EaGeometry.paged_head_extent.Reads as reads
-use Rattle.ea_geometry.proofs.EaGeometry.paged_head_extent.Lts as lts
-use Rattle.ea_geometry.proofs.EaGeometry.block_prefix.Reads as block-prefix-reads
 
--- src/extents.rt:141:9
 block-prefix-requires : tie.Need-block-prefix-requires
 block-prefix-requires c κs = search needs
 
--- src/extents.rt:141:9
 add-result : tie.Need-add-result
-add-result c = ?
+add-result c =
+    let g = c .before .args .self in
+    omega (arith, c .block-prefix .ensures, block-prefix-few (g .header) (g .«offset_size») (c .before .pre .width) (c .before .pre .served))
 
--- src/extents.rt:137:5
 returns : tie.Need-returns
-returns c = ?
+unfolding pagedHeadExtent
+returns c = rw (c .block-prefix .ensures)
 
 pub paged-head-extent-spec : {M : Type 1} → statement M
 paged-head-extent-spec = tie.close (tie.spec block-prefix-requires add-result returns)

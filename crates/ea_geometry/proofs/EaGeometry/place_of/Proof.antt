@@ -1,61 +1,81 @@
+-- `ea_geometry::EaGeometry::place_of` meets its contract. Assumes nothing.
+use Prim.Native.Nat.{_-_, _/_, _%_, _<_, _≤_}
+use mathlib.Core.Path.{sym}
+use native.Mathlib.Omega.{arith}
 use borrow.Author.Needs.{needs}
+use Rattle.ea_geometry.specs.Sizes.{superBlocks, blockElements, elementsBefore}
+use Rattle.ea_geometry.specs.Slots.{firstSlot, capacity, InBlock}
+use Rattle.ea_geometry.proofs.Counts.{elements-pos}
+use Rattle.ea_geometry.proofs.Places.{place-inline, place-past, place-is, super-below, slot-in-block}
 use Rattle.ea_geometry.proofs.EaGeometry.place_of.Statement.{statement}
 use Rattle.ea_geometry.proofs.EaGeometry.place_of.Tie as tie
-use Rattle.ea_geometry.proofs.EaGeometry.place_of.Reads as reads
-use Rattle.ea_geometry.proofs.EaGeometry.place_of.Lts as lts
-use Rattle.ea_geometry.proofs.EaGeometry.block_elements.Reads as block-elements-reads
-use Rattle.ea_geometry.proofs.EaGeometry.capacity.Reads as capacity-reads
-use Rattle.ea_geometry.proofs.EaGeometry.elements_before.Reads as elements-before-reads
-use Rattle.ea_geometry.proofs.EaGeometry.place_in.Reads as place-in-reads
-use Rattle.ea_geometry.proofs.EaGeometry.super_block_of.Reads as super-block-of-reads
 
--- src/slots.rt:73:22
 cast-inline : tie.Need-cast-inline
 cast-inline c = search needs
 
--- src/slots.rt:75:13
 returns : tie.Need-returns
-returns c = ?
+returns c = sym (place-inline (c .before .before .args .self .header) (c .before .before .pre) (c .before .before .args .slot) (c .if1 .taken))
 
--- src/slots.rt:77:12
 capacity-requires : tie.Need-capacity-requires
 capacity-requires c κs = search needs
 
--- src/slots.rt:78:13
 returns-2 : tie.Need-returns-2
-returns-2 c = ?
+returns-2 c =
+    let a = c .before .before .before .before in
+    sym (place-past (a .args .self .header) (a .pre) (a .args .slot) (omega (arith, c .before .capacity .ensures)))
 
--- src/slots.rt:81:13
 super-block-of-requires : tie.Need-super-block-of-requires
 super-block-of-requires c κs = search needs
 
--- src/slots.rt:82:21
+-- the super block of the slot is one of the array's
+below : (c : tie.After-super-block-of) → c .super-block-of .result < superBlocks (c .before .before .before .before .before .args .self .header)
+unfolding capacity firstSlot
+below c =
+    let a = c .before .before .before .before .before in
+    let h = a .args .self .header in
+    rw (c .super-block-of .ensures)
+    (super-below h (a .pre) (a .args .slot - h .«idx_blk_elmts») (superBlocks h) (omega (arith, c .before .before .capacity .ensures)))
+
+-- and the slot is the one of this element of this data block
+found : (c : tie.After-super-block-of)
+    → let h = c .before .before .before .before .before .args .self .header in
+    let s = c .before .before .before .before .before .args .slot in
+    let u = c .super-block-of .result in
+    let x = s - h .«idx_blk_elmts» - elementsBefore h u in
+    (elementsBefore h u ≤ s - h .«idx_blk_elmts») × InBlock h s u (x / blockElements h u) (x % blockElements h u)
+found c =
+    let a = c .before .before .before .before .before in
+    slot-in-block (a .args .self .header) (a .pre) (a .args .slot) (c .super-block-of .result) (c .super-block-of .ensures) (omega arith) (below c)
+
 elements-before-requires : tie.Need-elements-before-requires
-elements-before-requires c κs = ?
+elements-before-requires c κs = (omega (arith, below c), c .before .before .before .before .before .pre)
 
--- src/slots.rt:82:17
 sub-x : tie.Need-sub-x
-sub-x c = ?
+sub-x c = omega (arith, c .elements-before .ensures, found (c .before) .0)
 
--- src/slots.rt:83:13
 block-elements-requires : tie.Need-block-elements-requires
-block-elements-requires c κs = ?
+block-elements-requires c κs = (below (c .before), c .before .before .before .before .before .before .pre)
 
--- src/slots.rt:84:26
+some : (c : tie.After-block-elements) → 0 < c .block-elements .result
+some c =
+    let a = c .before .before .before .before .before .before .before in
+    rw (c .block-elements .ensures) (elements-pos (a .args .self .header) (a .pre) (c .before .before .super-block-of .result))
+
 div-place-in : tie.Need-div-place-in
-div-place-in c = ?
+div-place-in c = some c
 
--- src/slots.rt:84:33
 rem-place-in : tie.Need-rem-place-in
-rem-place-in c = ?
+rem-place-in c = some c
 
--- src/slots.rt:84:9
 place-in-requires : tie.Need-place-in-requires
-place-in-requires c κs = ?
+place-in-requires c κs =
+    let b = found (c .before .before) .1 in
+    rw (c .block-elements .ensures, c .before .elements-before .ensures) (b .super, b .block, b .element, c .before .before .before .before .before .before .before .pre)
 
--- src/slots.rt:69:5
 returns-3 : tie.Need-returns-3
-returns-3 c = ?
+returns-3 c =
+    let a = c .before .before .before .before .before .before .before .before in
+    rw (c .place-in .ensures, c .before .block-elements .ensures, c .before .before .elements-before .ensures) (sym (place-is (a .args .self .header) (a .pre) (a .args .slot) _ _ _ (found (c .before .before .before) .1)))
 
 pub place-of-spec : {M : Type 1} → statement M
 place-of-spec =

@@ -1,33 +1,43 @@
+-- `ea_geometry::EaGeometry::super_block_of` meets its contract. Assumes nothing.
+use Prim.Native.Nat.{_+_, _-_, _/_, _^_, _<_, _≤_}
+use mathlib.Core.Path.{_≡_}
+use native.Mathlib.Nat.{div-le-self}
+use native.Mathlib.Omega.{arith}
+use lib.Count.{leadingZeros, leading-le}
 use borrow.Author.Needs.{needs}
+use Rattle.ea_header.specs.Log.{log2}
+use Rattle.ea_header.proofs.Log.{top-place}
+use Rattle.ea_header.proofs.Served.{least-pos}
+use Rattle.ea_geometry.specs.Place.{superOf}
 use Rattle.ea_geometry.proofs.EaGeometry.super_block_of.Statement.{statement}
 use Rattle.ea_geometry.proofs.EaGeometry.super_block_of.Tie as tie
-use Rattle.ea_geometry.proofs.EaGeometry.super_block_of.Reads as reads
-use Rattle.ea_geometry.proofs.EaGeometry.super_block_of.Lts as lts
-use Rattle.ea_geometry.proofs.EaGeometry.least_block_elements.Reads as least-block-elements-reads
 
--- src/slots.rt:32:37
 least-block-elements-requires : tie.Need-least-block-elements-requires
 least-block-elements-requires c κs = search needs
 
--- src/slots.rt:32:33
 div-result : tie.Need-div-result
-div-result c = ?
+div-result c = rw (c .least-block-elements .ensures) (least-pos (c .before .args .self .header) (c .before .pre .1))
 
--- src/slots.rt:32:33
+fits : (c : tie.After-least-block-elements) → c .before .args .e / c .least-block-elements .result + 1 < 2 ^ 64
+fits c = omega (arith, div-le-self (c .before .args .e) (c .least-block-elements .result))
+
+top : (c : tie.After-least-block-elements)
+    → let n = c .before .args .e / c .least-block-elements .result + 1 in
+    (leadingZeros 64 n ≤ 63) × (63 - leadingZeros 64 n ≡ log2 n)
+top c = top-place (c .before .args .e / c .least-block-elements .result + 1) (omega arith) (fits c)
+
 add-result : tie.Need-add-result
-add-result c = ?
+add-result c = omega (arith, fits c)
 
--- src/slots.rt:32:14
 cast-result : tie.Need-cast-result
-cast-result c = ?
+cast-result c = omega (arith, leading-le 64 (c .before .args .e / c .least-block-elements .result + 1))
 
--- src/slots.rt:32:9
 sub-result : tie.Need-sub-result
-sub-result c = ?
+sub-result c = top c .0
 
--- src/slots.rt:28:5
 returns : tie.Need-returns
-returns c = ?
+unfolding superOf
+returns c = rw (top c .1, c .least-block-elements .ensures)
 
 pub super-block-of-spec : {M : Type 1} → statement M
 super-block-of-spec =

@@ -1,26 +1,34 @@
+-- `ea_geometry::EaGeometry::super_extent` meets its contract. Assumes nothing.
+use Prim.Native.Nat.{_+_}
+use native.Mathlib.Omega.{arith}
 use borrow.Author.Needs.{needs}
+use Rattle.ea_geometry.specs.Sizes.{blocks, bitmapBytes}
+use Rattle.ea_geometry.specs.Extents.{pageBitsAt, blockPointerAt, superExtent}
+use Rattle.ea_geometry.proofs.Counts.{blocks-few, bitmap-bytes-few}
+use Rattle.ea_geometry.proofs.Positions.{block-prefix-few, pointer-at-le}
 use Rattle.ea_geometry.proofs.EaGeometry.super_extent.Statement.{statement}
 use Rattle.ea_geometry.proofs.EaGeometry.super_extent.Tie as tie
-use Rattle.ea_geometry.proofs.EaGeometry.super_extent.Reads as reads
-use Rattle.ea_geometry.proofs.EaGeometry.super_extent.Lts as lts
-use Rattle.ea_geometry.proofs.EaGeometry.block_pointer_at.Reads as block-pointer-at-reads
-use Rattle.ea_geometry.proofs.EaGeometry.blocks.Reads as blocks-reads
 
--- src/extents.rt:117:34
 blocks-requires : tie.Need-blocks-requires
 blocks-requires c κs = search needs
 
--- src/extents.rt:117:9
 block-pointer-at-requires : tie.Need-block-pointer-at-requires
 block-pointer-at-requires c κs = search needs
 
--- src/extents.rt:117:9
 add-result : tie.Need-add-result
-add-result c = ?
+unfolding blockPointerAt pageBitsAt
+add-result c =
+    let a = c .before .before in
+    let h = a .args .self .header in
+    let o = a .args .self .«offset_size» in
+    let b = a .pre .1 in
+    let u = a .args .u in
+    rw (c .block-pointer-at .ensures, c .before .blocks2 .ensures)
+    (omega (arith, pointer-at-le h o (b .width) (pageBitsAt h o + bitmapBytes h u) (blocks u), block-prefix-few h o (b .width) (b .served), bitmap-bytes-few h (b .served) u (a .pre .0), blocks-few h (b .served) u (a .pre .0)))
 
--- src/extents.rt:113:5
 returns : tie.Need-returns
-returns c = ?
+unfolding superExtent
+returns c = rw (c .block-pointer-at .ensures, c .before .blocks2 .ensures)
 
 pub super-extent-spec : {M : Type 1} → statement M
 super-extent-spec =

@@ -1,28 +1,31 @@
+-- `ea_geometry::page_bits::page_is_initialized` meets its contract. Assumes nothing.
+use Prim.Native.Nat.{_+_, _/_, _%_}
+use native.Mathlib.Omega.{arith}
+use lib.ListN.{getD}
 use borrow.Author.Needs.{needs}
+use Rattle.ea_geometry.specs.PageBits.{bitByte, bitMask, pageBit}
+use Rattle.ea_geometry.proofs.PageBits.{mask-test}
 use Rattle.ea_geometry.proofs.page_bits.page_is_initialized.Statement.{statement}
 use Rattle.ea_geometry.proofs.page_bits.page_is_initialized.Tie as tie
-use Rattle.ea_geometry.proofs.page_bits.page_is_initialized.Reads as reads
-use Rattle.ea_geometry.proofs.page_bits.page_is_initialized.Lts as lts
 
--- src/page_bits.rt:25:7
 add-result : tie.Need-add-result
 add-result c = search needs
 
--- src/page_bits.rt:25:5
 shared-slice-read-result : tie.Need-shared-slice-read-result
-shared-slice-read-result c = ?
+unfolding bitByte
+shared-slice-read-result c = omega arith
 
--- src/page_bits.rt:25:34
 cast-result : tie.Need-cast-result
 cast-result c = search needs
 
--- src/page_bits.rt:25:25
 shr-result : tie.Need-shr-result
 shr-result c = search needs
 
--- src/page_bits.rt:21:1
 returns : tie.Need-returns
-returns c = ?
+unfolding pageBit bitByte bitMask
+returns c =
+    let a = c .before .args in
+    mask-test (getD (a .s .now) (a .pos + a .bit / 8) 0) (a .bit % 8) (omega arith)
 
 pub page-is-initialized-spec : {M : Type 1} → statement M
 page-is-initialized-spec =

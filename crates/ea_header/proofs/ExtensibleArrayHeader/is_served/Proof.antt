@@ -1,22 +1,18 @@
+-- `ea_header::ExtensibleArrayHeader::is_served` meets its contract. Assumes nothing.
 use mathlib.Core.Path.{_≡_, sym, _∙_}
 use mathlib.Core.Bool.{_&&_}
 use native.Mathlib.Omega.{arith}
 use lib.Dec.{leb}
 use borrow.Author.Tests.{not-true, not-false, le-leb, lt-leb}
+use borrow.Author.Needs.{needs}
 use Rattle.ea_header.specs.Served.{served}
 use Rattle.ea_header.proofs.Served.{not-power, power-first}
-use borrow.Author.Needs.{needs}
 use Rattle.ea_header.proofs.ExtensibleArrayHeader.is_served.Statement.{statement}
 use Rattle.ea_header.proofs.ExtensibleArrayHeader.is_served.Tie as tie
-use Rattle.ea_header.proofs.ExtensibleArrayHeader.is_served.Reads as reads
-use Rattle.ea_header.proofs.ExtensibleArrayHeader.is_served.Lts as lts
-use Rattle.ea_header.proofs.is_power_of_two.Reads as is-power-of-two-reads
 
--- src/lib.rt:35:29
 cast-is-power-of-two : tie.Need-cast-is-power-of-two
 cast-is-power-of-two c = search needs
 
--- src/lib.rt:35:13
 is-power-of-two-requires : tie.Need-is-power-of-two-requires
 is-power-of-two-requires c κs = search needs
 
@@ -26,21 +22,17 @@ rest : (c : tie.Else1)
     served h ≡ leb (h .«max_nelmts_bits») 62 && leb (h .«super_blk_min_nelmts») 32 && leb (h .«max_dblk_nelmts_bits») 32
 rest c = power-first (c .before .before .before .args .self) (sym (c .before .is-power-of-two .ensures) ∙ not-false _ (c .if1 .left)) (omega arith)
 
--- src/lib.rt:36:13
 returns : tie.Need-returns
 returns c = not-power (c .before .before .before .args .self) (sym (c .before .is-power-of-two .ensures) ∙ not-true _ (c .if1 .taken))
 
--- src/lib.rt:39:13
 returns-2 : tie.Need-returns-2
 returns-2 c = let h = c .before .before .before .before .before .args .self in
     rw (rest (c .before .before), lt-leb (h .«max_nelmts_bits») 62 (c .if2 .taken))
 
--- src/lib.rt:42:13
 returns-3 : tie.Need-returns-3
 returns-3 c = let h = c .before .before .before .before .before .before .before .args .self in
     rw (rest (c .before .before .before .before), le-leb (h .«max_nelmts_bits») 62 (c .before .before .if2 .left), lt-leb (h .«super_blk_min_nelmts») 32 (c .if3 .taken))
 
--- src/lib.rt:32:5
 returns-4 : tie.Need-returns-4
 returns-4 c = let h = c .before .before .before .before .before .before .before .before .args .self in
     rw (rest (c .before .before .before .before .before), le-leb (h .«max_nelmts_bits») 62 (c .before .before .before .if2 .left), le-leb (h .«super_blk_min_nelmts») 32 (c .before .if3 .left))
