@@ -1,1 +1,4 @@
 pub mod LittleEndian
+pub mod Numbers
+pub mod Widths
+pub mod Fields

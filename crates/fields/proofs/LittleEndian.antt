@@ -1,35 +1,48 @@
 -- Laws of the little-endian number in a part of a byte string.
 use mathlib.Core.Path.{_≡_}
 use mathlib.Core.List.{List}
-use Prim.Native.Nat.{ℕ, suc, _+_, _*_, _^_, _<_, _≤_, _-_}
-use native.Mathlib.Numerals.{towards-suc}
-use native.Mathlib.Nat.{mul-suc, sub-self, sub-zero, add-zero}
+use Prim.Native.Nat.{ℕ, zero, suc, _+_, _*_, _^_, _<_, _≤_, _-_}
+use native.Mathlib.Nat.{mul-suc, zero-add, sub-self, sub-zero, add-zero}
 use native.Mathlib.Omega.{arith}
 use lib.ListN.{length, getD, drop, length-drop, drop-of-length-le}
 use lib.Seq.{drop-cons, take-nil, take-all}
 use lib.Pow.{pow-add, pow-mono}
 use Rattle.fields.specs.LittleEndian.{leValue, leAt}
 
--- one byte more in front
-pub le-cons : (s : List ℕ) (j k : ℕ) → j < length s → leAt s j (suc k) ≡ getD s j 0 + 256 * leAt s (suc j) k
-unfolding leValue leAt
-le-cons s j k h = rw (drop-cons s j 0)
-
 -- k bytes take 8 * k bits
 pub bits-suc : (k : ℕ) → 2 ^ (8 * suc k) ≡ 256 * 2 ^ (8 * k)
 bits-suc k = rw (mul-suc, pow-add 2 (8 * k) 8) (omega arith)
+
+-- one byte more in front
+le-cons : (s : List ℕ) (pos w : ℕ) → pos < length s → leAt s pos (suc w) ≡ getD s pos 0 + 256 * leAt s (suc pos) w
+unfolding leValue leAt
+le-cons s pos w h = rw (drop-cons s pos 0)
+
+-- v bytes, and w bytes above them
+pub le-add : (v w : ℕ) (s : List ℕ) (pos : ℕ) → pos + v ≤ length s → leAt s pos (v + w) ≡ leAt s pos v + 2 ^ (8 * v) * leAt s (pos + v) w
+unfolding leValue leAt
+le-add zero w s pos h = rw (zero-add w, add-zero) (omega arith)
+le-add (suc v) w s pos h =
+    let inside : pos < length s = omega arith in
+    let e : pos + suc v ≡ suc pos + v = omega arith in
+    let f : suc v + w ≡ suc (v + w) = omega arith in
+    rw (f, e, bits-suc v) (omega (arith, le-cons s pos (v + w) inside, le-cons s pos v inside, le-add v w s (suc pos) (omega arith)))
+
+-- one byte
+pub le-one : (s : List ℕ) (pos : ℕ) → pos < length s → leAt s pos 1 ≡ getD s pos 0
+unfolding leValue leAt
+le-one s pos h = rw (drop-cons s pos 0) (omega arith)
 
 -- the next byte down
 pub grown : (s : List ℕ) (at w i v : ℕ) → at + w ≤ length s → 0 < i → i ≤ w → v ≡ leAt s (at + i) (w - i) → v < 2 ^ (8 * (w - i)) → getD s (at + (i - 1)) 0 < 256
     → (v * 256 + getD s (at + (i - 1)) 0 ≡ leAt s (at + (i - 1)) (w - (i - 1))) × (v * 256 + getD s (at + (i - 1)) 0 < 2 ^ (8 * (w - (i - 1))))
 grown s at w i v room pos le e lt b =
-    let ei : at + i ≡ suc (at + (i - 1)) = omega arith in
-    let ek : w - (i - 1) ≡ suc (w - i) = omega arith in
-    let inside : at + (i - 1) < length s = omega arith in
-    let step = le-cons s (at + (i - 1)) (w - i) inside in
-    let below = bits-suc (w - i) in
-    let e′ = rw ei at e in
-    (rw ek (omega arith), rw ek (omega arith))
+    let p = at + (i - 1) in
+    let next : at + i ≡ at + (i - 1) + 1 = omega arith in
+    let wider : w - (i - 1) ≡ 1 + (w - i) = omega arith in
+    let wider′ : w - (i - 1) ≡ suc (w - i) = omega arith in
+    let e′ = rw next at e in
+    (rw wider (omega (arith, le-add 1 (w - i) s p (omega arith), le-one s p (omega arith))), rw wider′ (omega (arith, bits-suc (w - i))))
 
 -- no byte read yet
 pub whole-left : (s : List ℕ) (at w : ℕ) → (w ≤ w) × (0 ≡ leAt s (at + w) (w - w)) × (0 < 2 ^ (8 * (w - w)))
@@ -45,11 +58,6 @@ pub all-read : (s : List ℕ) (at w i v : ℕ) → i ≤ 0 → v ≡ leAt s (at 
 all-read s at w i v h e lt =
     let z : i ≡ 0 = omega arith in
     (rw (z, add-zero, sub-zero) at e, rw (z, sub-zero) at lt)
-
--- the number in four bytes, by its bytes
-pub le-four : (s : List ℕ) (j : ℕ) → j + 4 ≤ length s → leAt s j 4 ≡ getD s j 0 + 0x100 * getD s (j + 1) 0 + 0x1_0000 * getD s (j + 2) 0 + 0x100_0000 * getD s (j + 3) 0
-unfolding leValue leAt
-le-four s j h = simp (le-cons s j 3 (omega arith), le-cons s (suc j) 2 (omega arith), le-cons s (suc (suc j)) 1 (omega arith), le-cons s (suc (suc (suc j))) 0 (omega arith), towards-suc) (omega arith)
 
 -- past the end there is nothing but 0
 pub le-past : (s : List ℕ) (j k : ℕ) → length s ≤ j → 0 ≡ leAt s j k

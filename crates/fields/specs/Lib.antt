@@ -1,1 +1,3 @@
 pub mod LittleEndian
+pub mod Numbers
+pub mod Fields

@@ -1,8 +1,139 @@
 // Little-endian fields of a byte slice.
 ghost use mathlib.Core.Path.{_≡_};
+ghost use mathlib.Core.Bool.{true};
 ghost use Prim.Native.Nat.{_+_, _*_, _^_, _<_, _≤_};
 ghost use lib.ListN.{length};
 ghost use Rattle.fields.specs.LittleEndian.{leAt};
+ghost use Rattle.fields.specs.Fields.{isWidth, widthTest, inFile, sizedTest, addressAt};
+ghost use Rattle.fields.specs.Fields.{offsetField, optionalOffsetField, lengthField, sizeField};
+use crate::address::Address;
+use crate::address::is_undefined_addr;
+use crate::convert::Exact;
+use crate::convert::checked_add;
+use crate::convert::saturating_add;
+use refusal::Checked;
+use refusal::Refusal;
+
+// What reading a field finds: its number, or why it is not read.
+pub enum Field {
+    Value(u64),
+    Refused(Refusal),
+}
+
+// What reading an address finds that the file may leave undefined.
+pub enum OptionalOffset {
+    Undefined,
+    At(u64),
+    Refused(Refusal),
+}
+
+// Whether an offset or length can be `width` bytes wide.
+pub fn is_width(width: u64) -> bool
+    ensures { λ r. ⌜ r ≡ isWidth width ⌝ }
+{
+    match width {
+        2 | 4 | 8 => true,
+        _ => false,
+    }
+}
+
+// Tests that `needed` bytes from pos on lie in s.
+pub fn ensure_len(s: &[u8], pos: u64, needed: u64) -> Checked
+    ensures { λ r. ⌜ r ≡ inFile (now (s .entry)) pos needed ⌝ }
+{
+    let len = s.len() as u64;
+    if let Exact::Fits(end) = checked_add(pos, needed) {
+        if end <= len {
+            return Checked::Passed;
+        }
+    }
+    Checked::Refused(Refusal {
+        number: Refusal::PAST_END,
+        first: saturating_add(pos, needed),
+        second: len,
+    })
+}
+
+// Tests that an offset or length can be `width` bytes wide; where it can't, it is refused with this number.
+pub fn ensure_width(width: u64, number: u64) -> Checked
+    ensures { λ r. ⌜ r ≡ widthTest number width ⌝ }
+{
+    if is_width(width) {
+        return Checked::Passed;
+    }
+    Checked::Refused(Refusal {
+        number,
+        first: width,
+        second: 0,
+    })
+}
+
+// The two tests of an offset or length.
+fn ensure_sized(s: &[u8], pos: u64, width: u64, number: u64) -> Checked
+    ensures { λ r. ⌜ r ≡ sizedTest number (now (s .entry)) pos width ⌝ }
+{
+    match ensure_width(width, number) {
+        Checked::Passed => ensure_len(s, pos, width),
+        Checked::Refused(r) => Checked::Refused(r),
+    }
+}
+
+// The address in the `width` bytes of s from pos on.
+pub fn read_offset(s: &[u8], pos: u64, width: u64) -> Field
+    ensures { λ r. ⌜ r ≡ offsetField (now (s .entry)) pos width ⌝ }
+{
+    match ensure_sized(s, pos, width, Refusal::OFFSET_SIZE) {
+        Checked::Passed => {
+            let a = read_address(s, pos as usize, width as usize);
+            Field::Value(a.value)
+        }
+        Checked::Refused(r) => Field::Refused(r),
+    }
+}
+
+// The same of an address that the file may leave undefined.
+pub fn read_optional_offset(s: &[u8], pos: u64, width: u64) -> OptionalOffset
+    ensures { λ r. ⌜ r ≡ optionalOffsetField (now (s .entry)) pos width ⌝ }
+{
+    match ensure_sized(s, pos, width, Refusal::OFFSET_SIZE) {
+        Checked::Passed => {
+            let a = read_address(s, pos as usize, width as usize);
+            if is_undefined_addr(a, width) {
+                OptionalOffset::Undefined
+            } else {
+                OptionalOffset::At(a.value)
+            }
+        }
+        Checked::Refused(r) => OptionalOffset::Refused(r),
+    }
+}
+
+// The length in the `width` bytes of s from pos on.
+pub fn read_length(s: &[u8], pos: u64, width: u64) -> Field
+    ensures { λ r. ⌜ r ≡ lengthField (now (s .entry)) pos width ⌝ }
+{
+    match ensure_sized(s, pos, width, Refusal::LENGTH_SIZE) {
+        Checked::Passed => Field::Value(read_le(s, pos as usize, width as usize)),
+        Checked::Refused(r) => Field::Refused(r),
+    }
+}
+
+// The size in the `width` bytes of s from pos on.
+pub fn read_variable_length(s: &[u8], pos: u64, width: u64) -> Field
+    ensures { λ r. ⌜ r ≡ sizeField (now (s .entry)) pos width ⌝ }
+{
+    if 8 < width {
+        return Field::Refused(Refusal {
+            number: Refusal::SIZE_FIELD,
+            first: 0,
+            second: 0,
+        });
+    }
+    match ensure_len(s, pos, width) {
+        Checked::Passed => Field::Value(read_le(s, pos as usize, width as usize)),
+        Checked::Refused(r) => Field::Refused(r),
+    }
+}
 
 fn wide(b: u8) -> u64
     ensures { λ r. ⌜ (r ≡ b) × (r < 256) ⌝ }
@@ -10,8 +141,31 @@ fn wide(b: u8) -> u64
     b as u64
 }
 
+// The address that is stored in the `width` bytes of s from pos on. No other function reads one.
+pub fn read_address(s: &[u8], pos: usize, width: usize) -> Address
+    requires { ⌜ (pos + width ≤ length (now s)) × (isWidth width ≡ true) ⌝ }
+    ensures { λ r. ⌜ r .value ≡ addressAt (now (s .entry)) pos width ⌝ }
+{
+    Address {
+        value: read_le(s, pos, width),
+    }
+}
+
 // The number in the `width` bytes of s from pos on.
 pub fn read_le(s: &[u8], pos: usize, width: usize) -> u64
+    requires { ⌜ (pos + width ≤ length (now s)) × (width ≤ 8) ⌝ }
+    ensures { λ r. ⌜ (r ≡ leAt (now (s .entry)) pos width) × (r < 2 ^ (8 * width)) ⌝ }
+{
+    match width {
+        2 => read_u16_le(s, pos) as u64,
+        4 => read_u32_le(s, pos) as u64,
+        8 => read_u64_le(s, pos),
+        _ => read_le_bytes(s, pos, width),
+    }
+}
+
+// The same, byte by byte.
+fn read_le_bytes(s: &[u8], pos: usize, width: usize) -> u64
     requires { ⌜ (pos + width ≤ length (now s)) × (width ≤ 8) ⌝ }
     ensures { λ r. ⌜ (r ≡ leAt (now (s .entry)) pos width) × (r < 2 ^ (8 * width)) ⌝ }
 {
@@ -24,18 +178,35 @@ pub fn read_le(s: &[u8], pos: usize, width: usize) -> u64
     v
 }
 
-// The number in the 4 bytes of s from pos on. (Written as one sum, which compiles to one load.)
+// The number in the 2 bytes of s from pos on. (This and the next two are written as sums, which compile to one load.)
+pub fn read_u16_le(s: &[u8], pos: usize) -> u16
+    requires { ⌜ pos + 2 ≤ length (now s) ⌝ }
+    ensures { λ r. ⌜ r ≡ leAt (now (s .entry)) pos 2 ⌝ }
+{
+    let low = wide(s[pos]);
+    let high = wide(s[pos + 1]);
+    (low + 0x100 * high) as u16
+}
+
 pub fn read_u32_le(s: &[u8], pos: usize) -> u32
     requires { ⌜ pos + 4 ≤ length (now s) ⌝ }
     ensures { λ r. ⌜ r ≡ leAt (now (s .entry)) pos 4 ⌝ }
 {
-    (wide(s[pos])
-        + 0x100 * wide(s[pos + 1])
-        + 0x1_0000 * wide(s[pos + 2])
-        + 0x100_0000 * wide(s[pos + 3])) as u32
+    let low = read_u16_le(s, pos) as u32;
+    let high = read_u16_le(s, pos + 2) as u32;
+    low + 0x1_0000 * high
 }
 
-// The same where s may end before: a byte that is not there counts as 0.
+pub fn read_u64_le(s: &[u8], pos: usize) -> u64
+    requires { ⌜ pos + 8 ≤ length (now s) ⌝ }
+    ensures { λ r. ⌜ r ≡ leAt (now (s .entry)) pos 8 ⌝ }
+{
+    let low = read_u32_le(s, pos) as u64;
+    let high = read_u32_le(s, pos + 4) as u64;
+    low + 0x1_0000_0000 * high
+}
+
+// The number in the 4 bytes of s from pos on, where s may end before: a byte that is not there counts as 0.
 pub fn read_u32_le_padded(s: &[u8], pos: usize) -> u32
     ensures { λ r. ⌜ r ≡ leAt (now (s .entry)) pos 4 ⌝ }
 {

@@ -1,24 +1,24 @@
 -- `fields::bytes::read_u32_le` meets its contract. Assumes nothing.
 use native.Mathlib.Omega.{arith}
-use Rattle.fields.proofs.LittleEndian.{le-four}
+use Rattle.fields.proofs.LittleEndian.{le-add}
 use borrow.Author.Needs.{needs}
 use Rattle.fields.proofs.bytes.read_u32_le.Statement.{statement}
 use Rattle.fields.proofs.bytes.read_u32_le.Tie as tie
 
-shared-slice-read-wide : tie.Need-shared-slice-read-wide
-shared-slice-read-wide c = search needs
+read-u16-le-requires : tie.Need-read-u16-le-requires
+read-u16-le-requires c κs = search needs
 
-wide-requires : tie.Need-wide-requires
-wide-requires c κs = search needs
+cast-low : tie.Need-cast-low
+cast-low c = search needs
 
-add-wide : tie.Need-add-wide
-add-wide c = search needs
+add-read-u16-le : tie.Need-add-read-u16-le
+add-read-u16-le c = search needs
 
-shared-slice-read-wide-2 : tie.Need-shared-slice-read-wide-2
-shared-slice-read-wide-2 c = search needs
+read-u16-le-requires-2 : tie.Need-read-u16-le-requires-2
+read-u16-le-requires-2 c κs = search needs
 
-wide-requires-2 : tie.Need-wide-requires-2
-wide-requires-2 c κs = search needs
+cast-high : tie.Need-cast-high
+cast-high c = search needs
 
 mul-result : tie.Need-mul-result
 mul-result c = search needs
@@ -26,64 +26,20 @@ mul-result c = search needs
 add-result : tie.Need-add-result
 add-result c = search needs
 
-add-wide-2 : tie.Need-add-wide-2
-add-wide-2 c = search needs
-
-shared-slice-read-wide-3 : tie.Need-shared-slice-read-wide-3
-shared-slice-read-wide-3 c = search needs
-
-wide-requires-3 : tie.Need-wide-requires-3
-wide-requires-3 c κs = search needs
-
-mul-result-2 : tie.Need-mul-result-2
-mul-result-2 c = search needs
-
-add-result-2 : tie.Need-add-result-2
-add-result-2 c = search needs
-
-add-wide-3 : tie.Need-add-wide-3
-add-wide-3 c = search needs
-
-shared-slice-read-wide-4 : tie.Need-shared-slice-read-wide-4
-shared-slice-read-wide-4 c = search needs
-
-wide-requires-4 : tie.Need-wide-requires-4
-wide-requires-4 c κs = search needs
-
-mul-result-3 : tie.Need-mul-result-3
-mul-result-3 c = search needs
-
-add-result-3 : tie.Need-add-result-3
-add-result-3 c = search needs
-
-cast-result : tie.Need-cast-result
-cast-result c = search needs
-
 returns : tie.Need-returns
 returns c =
-    let a = c .before .before .before .before .before .before .before .before .before in
-    omega (arith, le-four (a .args .s .now) (a .args .pos) (a .pre))
+    let a = c .before .before .before in
+    omega (arith, le-add 2 2 (a .args .s .now) (a .args .pos) (omega arith))
 
 pub read-u32-le-spec : {M : Type 1} → statement M
 read-u32-le-spec =
     tie.close
     (tie.spec
-    shared-slice-read-wide
-    wide-requires
-    add-wide
-    shared-slice-read-wide-2
-    wide-requires-2
+    read-u16-le-requires
+    cast-low
+    add-read-u16-le
+    read-u16-le-requires-2
+    cast-high
     mul-result
     add-result
-    add-wide-2
-    shared-slice-read-wide-3
-    wide-requires-3
-    mul-result-2
-    add-result-2
-    add-wide-3
-    shared-slice-read-wide-4
-    wide-requires-4
-    mul-result-3
-    add-result-3
-    cast-result
     returns)
