@@ -14,7 +14,7 @@ use Rattle.refusal.specs.declared.Checked.the-variants.{Passed}
 use Rattle.refusal.specs.Refusals.{largest64}
 use Rattle.chunk_grid.specs.declared.Slot.{Slot}
 use Rattle.chunk_grid.specs.declared.Slot.the-variants.{At, NoSlot}
-use Rattle.chunk_grid.specs.Grid.{Grid, pairwise, every, any, countOf, counts, firstUnlimited, leading, toFront, fromFront, ordered, multiplier, multipliers, hasZero, numbersNothing, quotients, offsets, below, chunkAt, aligned, isChunk, total, slotFrom, slotOf, shapesTest, gridTest}
+use Rattle.chunk_grid.specs.Grid.{Grid, pairwise, every, any, countOf, counts, firstUnlimited, leadingIn, leading, toFront, fromFront, ordered, multiplier, multipliers, hasZero, numbersNothing, quotients, offsets, below, chunkAt, aligned, isChunk, total, slotFrom, slotOf, shapesTest, gridTest}
 use Rattle.chunk_grid.proofs.Tests.{by-cond, false-true, both, neither, then-inv, refuse-inv}
 use Rattle.chunk_grid.proofs.Order.{back-front, front-back, length-front, length-back, length-pairwise, pairwise-front, pairwise-back, same-drop, any-front}
 
@@ -181,11 +181,12 @@ built g h =
       positive = refuse-inv _ _ _ _ (e .0);
     }
 
-pub leading-lt : (g : Grid) → 0 < length (counts g) → leading g < length (counts g)
-unfolding leading
-leading-lt g h =
-    by-cond (λ (u : ℕ). u < length (counts g)) (g .unlimitedFirst && ltb (firstUnlimited (counts g)) (length (counts g)))
-    (λ t. ltb-true _ _ (both (g .unlimitedFirst) (ltb (firstUnlimited (counts g)) (length (counts g))) t .1)) (λ t. h)
+-- the leading dimension is one of them
+pub leading-le : (b : Bool) (cs : List ℕ) → leadingIn b cs ≤ length cs - 1
+unfolding leadingIn
+leading-le b cs =
+    by-cond (λ (u : ℕ). u ≤ length cs - 1) (b && ltb (firstUnlimited cs) (length cs))
+    (λ t. omega (arith, ltb-true (firstUnlimited cs) (length cs) (both b (ltb (firstUnlimited cs) (length cs)) t .1))) (λ t. omega arith)
 
 behind : (s c : ℕ) (cs : List ℕ) → hasZero cs ≡ false → below (drop 1 (quotients s (multipliers (c ∷ cs)))) cs ≡ true
 unfolding quotients multipliers
@@ -210,9 +211,10 @@ slot-from-inv qs cs s =
     (b .0, e, rw e k))
     (λ t h. let z : _≡_ {A = ℕ} 0 1 = cc in absurd (omega arith))
 
-module _ (g : Grid) (b : Built g) (r : 0 < g .rank) where
-  pub lead : leading g < g .rank
-  lead = let c = b .counted in let l = leading-lt g (omega arith) in omega arith
+module _ (g : Grid) (b : Built g) where
+  pub lead : leading g ≤ g .rank - 1
+  unfolding leading
+  lead = let c = b .counted in let l = leading-le (g .unlimitedFirst) (counts g) in omega arith
 
   pub length-ordered : length (ordered g) ≡ g .rank
   unfolding ordered
@@ -221,21 +223,28 @@ module _ (g : Grid) (b : Built g) (r : 0 < g .rank) where
   pub length-chunk : length (toFront (leading g) (g .chunk)) ≡ g .rank
   length-chunk = length-front (leading g) (g .chunk) (omega (arith, lead, b .chunked)) ∙ b .chunked
 
-  quotients-chunk : (s : ℕ) → length (quotients s (multipliers (ordered g))) ≡ length (toFront (leading g) (g .chunk))
+  pub quotients-chunk : (s : ℕ) → length (quotients s (multipliers (ordered g))) ≡ length (toFront (leading g) (g .chunk))
   quotients-chunk s = length-quotients s (multipliers (ordered g)) ∙ length-multipliers (ordered g) ∙ length-ordered ∙ sym length-chunk
 
-  zero-chunk : hasZero (toFront (leading g) (g .chunk)) ≡ false
+  pub length-products : (s : ℕ) → length (pairwise _*_ (quotients s (multipliers (ordered g))) (toFront (leading g) (g .chunk))) ≡ g .rank
+  length-products s = length-pairwise _*_ _ _ (quotients-chunk s) ∙ quotients-chunk s ∙ length-chunk
+
+  pub length-offsets : (s : ℕ) → length (offsets g s) ≡ g .rank
+  unfolding offsets
+  length-offsets s = length-back (leading g) _ (omega (arith, lead, length-products s)) ∙ length-products s
+
+  pub zero-chunk : hasZero (toFront (leading g) (g .chunk)) ≡ false
   unfolding hasZero
   zero-chunk = any-front (λ (c : ℕ). eqb c 0) (leading g) (g .chunk) (omega (arith, lead, b .chunked)) ∙ b .positive
 
   -- the slot of a slot's offsets is that slot
-  pub slot-offsets : (s : ℕ) → numbersNothing g ≡ false → s ≤ largest64 → slotOf g (offsets g s) ≡ At s
+  pub slot-offsets : (s : ℕ) → 0 < g .rank → numbersNothing g ≡ false → s ≤ largest64 → slotOf g (offsets g s) ≡ At s
   unfolding slotOf offsets numbersNothing
-  slot-offsets s n l =
+  slot-offsets s r n l =
       let u = leading g in
       let qs = quotients s (multipliers (ordered g)) in
       let ch = toFront u (g .chunk) in
-      let ln : length (pairwise _*_ qs ch) ≡ g .rank = length-pairwise _*_ qs ch (quotients-chunk s) ∙ quotients-chunk s ∙ length-chunk in
+      let ln = length-products s in
       let ld = lead in
       let lo = length-ordered in
       ap (λ (x : List ℕ). slotFrom (pairwise _/_ x ch) (ordered g)) (front-back u (pairwise _*_ qs ch) (omega arith))
@@ -255,7 +264,7 @@ module _ (g : Grid) (b : Built g) (r : 0 < g .rank) where
       sym (pairwise-back _*_ u qs ch (quotients-chunk s)) ∙ ap (pairwise _*_ (fromFront u qs)) (back-front u (g .chunk) (omega arith)) in
       let lb : length (fromFront u qs) ≡ length (g .chunk) = length-back u qs (omega (arith, quotients-chunk s, length-chunk)) ∙ quotients-chunk s ∙ length-chunk ∙ sym lc in
       is-chunk g (offsets g s) (record {
-        ranked = ap length back ∙ length-pairwise _*_ (fromFront u qs) (g .chunk) lb ∙ lb ∙ lc;
+        ranked = length-offsets s;
         multiple = rw back (aligned-times (fromFront u qs) (g .chunk) lb);
         inside = h;
       })
@@ -270,7 +279,7 @@ module _ (g : Grid) (b : Built g) (r : 0 < g .rank) where
       let qs = pairwise _/_ (toFront u corner) ch in
       let i = slot-from-inv qs (ordered g) s h in
       let lc : length corner ≡ length (g .chunk) = ck .ranked ∙ sym (b .chunked) in
-      let inside : u < length corner = omega (arith, lead, ck .ranked) in
+      let inside : u ≤ length corner - 1 = omega (arith, lead, ck .ranked) in
       let lf : length (toFront u corner) ≡ g .rank = length-front u corner inside ∙ ck .ranked in
       let lq : length qs ≡ length (ordered g) = length-pairwise _/_ (toFront u corner) ch (lf ∙ sym length-chunk) ∙ lf ∙ sym length-ordered in
       let q : quotients s (multipliers (ordered g)) ≡ qs = ap (λ (x : ℕ). quotients x (multipliers (ordered g))) (i .1) ∙ quotients-lead qs (ordered g) lq (i .0) in
@@ -283,19 +292,19 @@ module _ (g : Grid) (b : Built g) (r : 0 < g .rank) where
         i .2,
       )
 
-  -- The chunk of a slot has that slot, ..
-  pub chunk-slot : (s : ℕ) (corner : List ℕ) → s ≤ largest64 → chunkAt g s ≡ some corner → (isChunk g corner ≡ true) × (slotOf g corner ≡ At s)
+  -- From rank 1 on the chunk of a slot has that slot; ..
+  pub chunk-slot : (s : ℕ) (corner : List ℕ) → 0 < g .rank → s ≤ largest64 → chunkAt g s ≡ some corner → (isChunk g corner ≡ true) × (slotOf g corner ≡ At s)
   unfolding chunkAt
-  chunk-slot s corner l =
+  chunk-slot s corner r l =
       by-cond (λ (x : Option (List ℕ)). x ≡ some corner → (isChunk g corner ≡ true) × (slotOf g corner ≡ At s))
       (numbersNothing g || not (below (offsets g s) (g .present)))
       (λ t h. let z : _≡_ {A = ℕ} 0 1 = cc in absurd (omega arith))
       (λ t h.
       let z = neither (numbersNothing g) (not (below (offsets g s) (g .present))) t in
       let e = Option·some-injective _ _ h in
-      subst (λ (x : List ℕ). (isChunk g x ≡ true) × (slotOf g x ≡ At s)) e (offsets-chunk s (not-false _ (z .1)), slot-offsets s (z .0) l))
+      subst (λ (x : List ℕ). (isChunk g x ≡ true) × (slotOf g x ≡ At s)) e (offsets-chunk s (not-false _ (z .1)), slot-offsets s r (z .0) l))
 
-  -- .. and a chunk that has a slot is the chunk of that slot.
+  -- .. a chunk that has a slot is the chunk of that slot.
   pub slot-chunk : (corner : List ℕ) (s : ℕ) → isChunk g corner ≡ true → slotOf g corner ≡ At s → chunkAt g s ≡ some corner
   unfolding chunkAt
   slot-chunk corner s a h =

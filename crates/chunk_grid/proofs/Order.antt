@@ -1,5 +1,5 @@
 -- Lists in the grid's order: a member moved to the front and back, and lists taken member by member. Assumes nothing.
-use Prim.Native.Nat.{ℕ, zero, suc, _+_, _-_, _<_, min}
+use Prim.Native.Nat.{ℕ, zero, suc, _+_, _-_, _<_, _≤_, min}
 use mathlib.Core.Path.{_≡_, refl, sym, ap, _∙_}
 use mathlib.Core.Bool.{Bool, true, false, _&&_, _||_, and-assoc, or-assoc}
 use mathlib.Core.List.{List, [], _∷_, _++_}
@@ -17,9 +17,23 @@ pub back-is : (u : ℕ) (x : ℕ) (a b : List ℕ) → length a ≡ u → fromFr
 unfolding fromFront
 back-is u x a b h = rw (take-at a b u h, drop-at a b u h) (append-snoc a x b)
 
-pub back-front : (u : ℕ) (l : List ℕ) → u < length l → fromFront u (toFront u l) ≡ l
-back-front u l h =
-    ap (fromFront u) (front-is u l h) ∙ back-is u (getD l u 0) (take u l) (drop (suc u) l) (length-take-le u l (omega arith)) ∙ sym (split-at l u 0 h)
+pub front-nil : (u : ℕ) → toFront u [] ≡ []
+unfolding toFront
+front-nil zero = refl
+front-nil (suc u) = refl
+
+back-nil : (u : ℕ) → fromFront u [] ≡ []
+unfolding fromFront
+back-nil zero = refl
+back-nil (suc u) = refl
+
+-- Below, u is one of the members, or 0 where there are none.
+pub back-front : (u : ℕ) (l : List ℕ) → u ≤ length l - 1 → fromFront u (toFront u l) ≡ l
+back-front u [] h = ap (fromFront u) (front-nil u) ∙ back-nil u
+back-front u (x ∷ m) h =
+    let l = x ∷ m in
+    let k : u < length l = omega arith in
+    ap (fromFront u) (front-is u l k) ∙ back-is u (getD l u 0) (take u l) (drop (suc u) l) (length-take-le u l (omega arith)) ∙ sym (split-at l u 0 k)
 
 drop-past : (a : List ℕ) (x : ℕ) (b : List ℕ) → drop (suc (length a)) (a ++ x ∷ b) ≡ b
 drop-past [] x b = refl
@@ -31,21 +45,23 @@ to-front u x a b h =
     let d : drop (suc u) (a ++ x ∷ b) ≡ b = ap (λ (n : ℕ). drop (suc n) (a ++ x ∷ b)) (sym h) ∙ drop-past a x b in
     rw (take-at a (x ∷ b) u h, drop-at a (x ∷ b) u h, d) refl
 
-pub front-back : (u : ℕ) (l : List ℕ) → u < length l → toFront u (fromFront u l) ≡ l
-front-back u [] h = absurd (omega arith)
+pub front-back : (u : ℕ) (l : List ℕ) → u ≤ length l - 1 → toFront u (fromFront u l) ≡ l
+front-back u [] h = ap (toFront u) (back-nil u) ∙ front-nil u
 front-back u (x ∷ m) h =
     let a = length-take-le u m (omega arith) in
     let t = sym (take-append-drop u m) in
     ap (λ (l : List ℕ). toFront u (fromFront u (x ∷ l))) t ∙ ap (toFront u) (back-is u x (take u m) (drop u m) a)
     ∙ to-front u x (take u m) (drop u m) a ∙ ap (λ (l : List ℕ). x ∷ l) (sym t)
 
-pub length-front : (u : ℕ) (l : List ℕ) → u < length l → length (toFront u l) ≡ length l
-length-front u l h =
-    ap length (front-is u l h) ∙ rw (length-append, length-take, length-drop) (omega arith)
+pub length-front : (u : ℕ) (l : List ℕ) → u ≤ length l - 1 → length (toFront u l) ≡ length l
+length-front u [] h = ap length (front-nil u)
+length-front u (x ∷ m) h =
+    ap length (front-is u (x ∷ m) (omega arith)) ∙ rw (length-append, length-take, length-drop) (omega arith)
 
-pub length-back : (u : ℕ) (l : List ℕ) → u < length l → length (fromFront u l) ≡ length l
+pub length-back : (u : ℕ) (l : List ℕ) → u ≤ length l - 1 → length (fromFront u l) ≡ length l
 unfolding fromFront
-length-back u [] h = absurd (omega arith)
+length-back zero [] h = refl
+length-back (suc u) [] h = refl
 length-back u (x ∷ m) h =
     length-append (take u m ++ (x ∷ [])) (drop u m) ∙ ap (λ (n : ℕ). n + length (drop u m)) (length-append (take u m) (x ∷ []))
     ∙ rw (length-take u m, length-drop u m) (omega arith)
@@ -132,21 +148,26 @@ or-swap false a b = refl
 or-swap true true b = refl
 or-swap true false b = refl
 
-pub every-front : (p : ℕ → ℕ → Bool) (u : ℕ) (l m : List ℕ) → length l ≡ length m → u < length l → every p (toFront u l) (toFront u m) ≡ every p l m
+pub every-front : (p : ℕ → ℕ → Bool) (u : ℕ) (l m : List ℕ) → length l ≡ length m → u ≤ length l - 1 → every p (toFront u l) (toFront u m) ≡ every p l m
 unfolding every
-every-front p u l m h k =
+every-front p u [] [] h k = ap (λ (l : List ℕ). every p l l) (front-nil u)
+every-front p u [] (y ∷ m) h k = absurd (omega arith)
+every-front p u (x ∷ t) m h k =
+    let l = x ∷ t in
     let a = same-take u l m h in
-    rw (front-is u l k, front-is u m (omega arith))
+    rw (front-is u l (omega arith), front-is u m (omega arith))
     (ap (λ (t : Bool). p (getD l u 0) (getD m u 0) && t) (every-append p (take u l) (take u m) (drop (suc u) l) (drop (suc u) m) a)
     ∙ and-swap (p (getD l u 0) (getD m u 0)) (every p (take u l) (take u m)) (every p (drop (suc u) l) (drop (suc u) m))
     ∙ sym (every-append p (take u l) (take u m) (getD l u 0 ∷ drop (suc u) l) (getD m u 0 ∷ drop (suc u) m) a)
-    ∙ rw (← split-at l u 0 k, ← split-at m u 0 (omega arith)) refl)
+    ∙ rw (← split-at l u 0 (omega arith), ← split-at m u 0 (omega arith)) refl)
 
-pub any-front : (p : ℕ → Bool) (u : ℕ) (l : List ℕ) → u < length l → any p (toFront u l) ≡ any p l
+pub any-front : (p : ℕ → Bool) (u : ℕ) (l : List ℕ) → u ≤ length l - 1 → any p (toFront u l) ≡ any p l
 unfolding any
-any-front p u l k =
-    ap (any p) (front-is u l k)
+any-front p u [] k = ap (any p) (front-nil u)
+any-front p u (x ∷ t) k =
+    let l = x ∷ t in
+    ap (any p) (front-is u l (omega arith))
     ∙ ap (λ (t : Bool). p (getD l u 0) || t) (any-append p (take u l) (drop (suc u) l))
     ∙ or-swap (p (getD l u 0)) (any p (take u l)) (any p (drop (suc u) l))
     ∙ sym (any-append p (take u l) (getD l u 0 ∷ drop (suc u) l))
-    ∙ ap (any p) (sym (split-at l u 0 k))
+    ∙ ap (any p) (sym (split-at l u 0 (omega arith)))

@@ -60,8 +60,11 @@ unfoldable pub firstUnlimited : List ℕ → ℕ
 firstUnlimited [] = 0
 firstUnlimited (c ∷ cs) = cond (unlimited c) 0 (suc (firstUnlimited cs))
 
+unfoldable pub leadingIn : Bool → List ℕ → ℕ
+leadingIn unlimitedFirst cs = cond (unlimitedFirst && ltb (firstUnlimited cs) (length cs)) (firstUnlimited cs) 0
+
 unfoldable pub leading : Grid → ℕ
-leading g = cond (g .unlimitedFirst && ltb (firstUnlimited (counts g)) (length (counts g))) (firstUnlimited (counts g)) 0
+leading g = leadingIn (g .unlimitedFirst) (counts g)
 
 -- a list with member u moved to the front, and moved back
 unfoldable pub toFront : ℕ → List ℕ → List ℕ

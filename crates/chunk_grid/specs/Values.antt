@@ -1,0 +1,66 @@
+-- What the code's values stand for.
+use Prim.Native.Nat.{ℕ, zero, suc, _*_}
+use mathlib.Core.Path.{_≡_}
+use mathlib.Core.Bool.{Bool, true, false, not, cond}
+use mathlib.Core.List.{List, []}
+use lib.Dec.{ltb}
+use lib.ListN.{take}
+use lib.Seq.{sets}
+use Rattle.refusal.specs.declared.Checked.{Checked}
+use Rattle.refusal.specs.declared.Checked.the-variants.{Passed, Refused}
+use Rattle.chunk_grid.specs.declared.ChunkGrid.{ChunkGrid}
+use Rattle.chunk_grid.specs.declared.GridOrder.{GridOrder}
+use Rattle.chunk_grid.specs.declared.GridOrder.the-variants.{RowMajor, UnlimitedFirst}
+use Rattle.chunk_grid.specs.Grid.{Grid, pairwise, ceilDiv, counts, leading, ordered, multipliers, numbersNothing, offsets, overflows, gridTest}
+
+unfoldable pub isUnlimitedFirst : GridOrder → Bool
+isUnlimitedFirst RowMajor = false
+isUnlimitedFirst UnlimitedFirst = true
+
+-- the grid of these shapes; maximum extents that aren't given are no part of it
+unfoldable pub given : ℕ → List ℕ → List ℕ → Bool → List ℕ → GridOrder → Grid
+given rank chunk present hasMaximum maximum order = record {
+  rank = rank;
+  chunk = chunk;
+  present = present;
+  hasMaximum = hasMaximum;
+  maximum = cond hasMaximum maximum [];
+  unlimitedFirst = isUnlimitedFirst order;
+}
+
+-- the grid that a value of the code describes: the first `rank` members of its arrays
+unfoldable pub gridOf : ChunkGrid → Grid
+gridOf k =
+    given (k .rank) (take (k .rank) (k .chunk)) (take (k .rank) (k .present)) (k .«has_maximum») (take (k .rank) (k .maximum)) (k .order)
+
+-- a grid where its test has passed, else the one of rank 0
+unfoldable pub whereTested : Checked → Grid → Grid
+whereTested Passed g = g
+whereTested (Refused r) g = given 0 [] [] false [] RowMajor
+
+-- the dimension at place i of the grid's order
+unfoldable pub dimAt : ℕ → ℕ → ℕ
+dimAt u zero = u
+dimAt u (suc i) = cond (ltb i u) i (suc i)
+
+-- What is made of a built grid g once: the leading dimension, and the multipliers in the grid's order, beside the chunk's lengths.
+pub record Numbers (rank rotated : ℕ) (chunk down : List ℕ) (g : Grid) : Type 0 where
+  pub built : gridTest g ≡ Passed
+  pub ranked : rank ≡ g .rank
+  pub leads : rotated ≡ leading g
+  pub chunks : take rank chunk ≡ g .chunk
+  pub downs : take rank down ≡ multipliers (ordered g)
+
+-- And for its present extents: whether it numbers anything, and how many chunks the extents reach into in each dimension.
+pub record Extents (rank : ℕ) (numbers : Bool) (bound : List ℕ) (g : Grid) : Type 0 where
+  pub numbering : numbers ≡ not (numbersNothing g)
+  pub bounds : take rank bound ≡ pairwise ceilDiv (g .present) (g .chunk)
+  pub fits : overflows (g .present) ≡ false
+
+-- The offsets of a slot as they are handed over: 0 for one that isn't below its extent.
+unfoldable pub shown : Grid → ℕ → List ℕ
+shown g s = pairwise (λ (o e : ℕ). cond (ltb o e) o 0) (offsets g s) (g .present)
+
+-- They are stored at the beginning of a lent array l; a grid that numbers nothing leaves it.
+unfoldable pub handed : Grid → ℕ → List ℕ → List ℕ
+handed g s l = cond (numbersNothing g) l (sets l 0 (shown g s))
