@@ -1,5 +1,5 @@
 -- The three outcomes of the test of a trailing checksum. Assumes nothing.
-use mathlib.Core.Path.{_≡_, refl}
+use mathlib.Core.Path.{_≡_, sym, _∙_}
 use mathlib.Core.List.{List}
 use Prim.Native.Nat.{ℕ, _≤_, _<_}
 use lib.ListN.{length}
@@ -13,10 +13,12 @@ module _ (sum : List ℕ → ℕ) (block : List ℕ) where
   unfolding trailingTest refuse _then_
   short h = simp (lt-ltb (length block) 4 h)
 
-  pub same : 4 ≤ length block → storedOf block ≡ sum (bodyOf block) → Passed ≡ trailingTest sum block
-  unfolding trailingTest refuse _then_
-  same h e = simp (le-ltb (length block) 4 h, eq-eqb (storedOf block) (sum (bodyOf block)) e)
+  -- with what is stored and computed
+  module _ (stored computed : ℕ) (e : stored ≡ storedOf block) (d : computed ≡ sum (bodyOf block)) where
+    pub same : 4 ≤ length block → stored ≡ computed → Passed ≡ trailingTest sum block
+    unfolding trailingTest refuse _then_
+    same h q = simp (le-ltb (length block) 4 h, eq-eqb (storedOf block) (sum (bodyOf block)) (sym e ∙ q ∙ d))
 
-  pub other : 4 ≤ length block → (storedOf block ≡ sum (bodyOf block) → ⊥) → Refused (record { number = 26; first = storedOf block; second = sum (bodyOf block) }) ≡ trailingTest sum block
-  unfolding trailingTest refuse _then_
-  other h n = simp (le-ltb (length block) 4 h, ne-eqb (storedOf block) (sum (bodyOf block)) n)
+    pub other : 4 ≤ length block → (stored ≡ computed → ⊥) → Refused (record { number = 26; first = stored; second = computed }) ≡ trailingTest sum block
+    unfolding trailingTest refuse _then_
+    other h n = rw (e, d) (simp (le-ltb (length block) 4 h, ne-eqb (storedOf block) (sum (bodyOf block)) (λ q. n (e ∙ q ∙ sym d))))

@@ -28,8 +28,7 @@ computed c = c .jenkins-lookup3 .ensures ∙ ap lookup3 (c .before .body .ensure
 
 returns-2 : tie.Need-returns-2
 returns-2 c =
-    same lookup3 _ (c .before .before .before .before .if1 .left)
-    (sym (c .before .before .before .read-u32-le .ensures) ∙ c .if2 .taken ∙ computed (c .before))
+    same lookup3 _ _ _ (c .before .before .before .read-u32-le .ensures) (computed (c .before)) (c .before .before .before .before .if1 .left) (c .if2 .taken)
 
 cast-t11 : tie.Need-cast-t11
 cast-t11 c = search needs
@@ -39,9 +38,7 @@ cast-t12 c = search needs
 
 returns-3 : tie.Need-returns-3
 returns-3 c =
-    let d = computed (c .before) in
-    let e = c .before .before .before .read-u32-le .ensures in
-    rw (d, e) (other lookup3 _ (c .before .before .before .before .if1 .left) (λ q. c .if2 .left (e ∙ q ∙ sym d)))
+    other lookup3 _ _ _ (c .before .before .before .read-u32-le .ensures) (computed (c .before)) (c .before .before .before .before .if1 .left) (c .if2 .left)
 
 pub verify-trailing-spec : {M : Type 1} → statement M
 verify-trailing-spec =

@@ -1,0 +1,61 @@
+# Cellumaq. `make test` proves everything and tests it; `make demo` does the main job on a file that is there.
+PREFIX ?= /usr/local
+CC = gcc
+CFLAGS = -std=c11 -O2 -Wall -Wextra -Werror
+VERSION = 0.1.0
+
+C_TESTS = test_checksum
+BENCHES = bench_checksum
+
+.PHONY: test demo lib bench install clean tools kit
+
+test: tools kit
+	@CC='$(CC)' tests/run $(C_TESTS)
+
+# One sentence where something is missing.
+tools:
+	@command -v rt >/dev/null || { echo "Cellumaq needs the Rattle kit: there is no command 'rt' on the PATH." >&2; exit 1; }
+	@command -v $(CC) >/dev/null || { echo "Cellumaq needs a C compiler: there is no command '$(CC)' on the PATH." >&2; exit 1; }
+
+# One sentence where the kit is another; it may do.
+kit: tools
+	@kit=$$(sed -n 's/^Kit: `\([^`]*\)`.*/\1/p' README.md); test "$$(rt version)" = "$$kit" || \
+	  echo "This is another kit ($$(rt version)) than the README names ($$kit); going on."
+
+lib: build/libcellumaq.a build/cellumaq.h
+
+# `rt staticlib` proves the crates before it builds them.
+build/libcellumaq.a: crates.txt $(shell find crates -name '*.rt' -o -name '*.antt') | tools
+	@mkdir -p build
+	rt staticlib cellumaq >build/staticlib.log 2>&1 || { cat build/staticlib.log; exit 1; }
+	@cp target/staticlib/libcellumaq.a $@
+
+build/cellumaq.h: include/cellumaq.h
+	@mkdir -p build
+	@cp include/cellumaq.h $@
+
+build/test_%: tests/c/test_%.c $(wildcard tests/c/*.h) build/libcellumaq.a build/cellumaq.h
+	@$(CC) $(CFLAGS) -Ibuild -Itests/c -o $@ $< build/libcellumaq.a
+
+build/bench_%: bench/bench_%.c $(wildcard tests/c/*.h) build/libcellumaq.a build/cellumaq.h
+	@$(CC) $(CFLAGS) -Ibuild -Itests/c -o $@ $< build/libcellumaq.a
+
+build/checksum: demo/checksum.c build/libcellumaq.a build/cellumaq.h
+	@$(CC) $(CFLAGS) -Ibuild -o $@ $< build/libcellumaq.a
+
+demo: build/checksum
+	@build/checksum NOTICE
+
+bench: $(BENCHES:%=build/%)
+	@for b in $(BENCHES); do build/$$b || exit 1; done
+
+install: lib
+	mkdir -p $(DESTDIR)$(PREFIX)/lib/pkgconfig $(DESTDIR)$(PREFIX)/include
+	cp build/libcellumaq.a $(DESTDIR)$(PREFIX)/lib/libcellumaq.a
+	cp build/cellumaq.h $(DESTDIR)$(PREFIX)/include/cellumaq.h
+	printf '%s\n' 'prefix=$(PREFIX)' 'libdir=$${prefix}/lib' 'includedir=$${prefix}/include' '' 'Name: cellumaq' \
+	  'Description: Proved reader of HDF5 extensible array chunk indexes' 'Version: $(VERSION)' 'Libs: -L$${libdir} -lcellumaq' \
+	  'Cflags: -I$${includedir}' >$(DESTDIR)$(PREFIX)/lib/pkgconfig/cellumaq.pc
+
+clean:
+	rm -rf build target
