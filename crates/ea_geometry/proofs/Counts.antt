@@ -9,7 +9,7 @@ use lib.Pow.{pow-pos, pow-add, pow-mono, shl-shr}
 use Rattle.ea_header.specs.Log.{log2}
 use Rattle.ea_header.specs.Served.{Served}
 use Rattle.ea_header.specs.declared.ExtensibleArrayHeader.{ExtensibleArrayHeader}
-use Rattle.ea_header.proofs.Cases.{by-cond}
+use Rattle.refusal.proofs.Tests.{by-cond}
 use Rattle.ea_header.proofs.Log.{exponent-lt}
 use Rattle.ea_header.proofs.Served.{log-small}
 use Rattle.ea_geometry.specs.Sizes.{superBlocks, blocks, blockElements, directSuperBlocks, blocksBefore, directPointers, elementsBefore, pageElements, overPage, pages, bitBytes, bitmapBytes}

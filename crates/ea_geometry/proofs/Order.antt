@@ -9,7 +9,7 @@ use native.Mathlib.Nat.{eq-or-lt-of-le, mul-le-mul-right}
 use borrow.Author.Tests.{lt-ltb, le-ltb, eq-eqb}
 use Rattle.ea_header.specs.Served.{Served}
 use Rattle.ea_header.specs.declared.ExtensibleArrayHeader.{ExtensibleArrayHeader}
-use Rattle.ea_header.proofs.Cases.{lt-or-ge}
+use Rattle.refusal.proofs.Tests.{lt-or-ge}
 use Rattle.ea_geometry.specs.Sizes.{blockElements}
 use Rattle.ea_geometry.specs.Place.{place}
 use Rattle.ea_geometry.specs.Slots.{firstSlot, capacity, slotIn, InBlock, PlaceOf, coordinates, lower, before}

@@ -12,7 +12,7 @@ use lib.Pow.{pow-pos}
 use Rattle.ea_header.specs.Log.{log2}
 use Rattle.ea_header.specs.Served.{Served}
 use Rattle.ea_header.specs.declared.ExtensibleArrayHeader.{ExtensibleArrayHeader}
-use Rattle.ea_header.proofs.Cases.{by-cond, both}
+use Rattle.refusal.proofs.Tests.{by-cond, both}
 use Rattle.ea_header.proofs.Log.{log2-is, log2-ge, log2-lo, log2-hi}
 use Rattle.ea_header.proofs.Served.{least-pos}
 use Rattle.ea_geometry.specs.Sizes.{superBlocks, blocks, blockElements, directSuperBlocks, elementsBefore, pageElements, overPage, pages}

@@ -10,7 +10,7 @@ use lib.Pow.{pow-pos}
 use Rattle.refusal.specs.Refusals.{figure}
 use Rattle.ea_header.specs.Served.{Served}
 use Rattle.ea_header.specs.declared.ExtensibleArrayHeader.{ExtensibleArrayHeader}
-use Rattle.ea_header.proofs.Cases.{by-cond}
+use Rattle.refusal.proofs.Tests.{by-cond}
 use Rattle.ea_geometry.specs.Sizes.{superBlocks, blocks, blockElements, directSuperBlocks, blocksBefore, directPointers, superPointers, pageElements, overPage, pages, bitBytes, bitmapBytes}
 use Rattle.ea_geometry.specs.Extents.{elementStride, elementAt, pointerAt, indexPrefix, inlineElementAt, directPointersAt, superPointersAt, indexExtent, directPointerAt, superPointerAt, blockPrefix, pageBitsAt, blockPointerAt, superExtent, blockElementAt, dataExtent, pagedHeadExtent, pageExtent, pageAt, pagedExtent, pagedElementAt}
 use Rattle.ea_geometry.specs.PageBits.{bitNumber, bitByte}

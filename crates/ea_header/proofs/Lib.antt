@@ -1,4 +1,3 @@
-pub mod Cases
 pub mod Header
 pub mod Log
 pub mod Served

@@ -8,7 +8,7 @@ use lib.Dec.{lit<}
 use lib.Pow.{pow-pos, pow-mono, shl-exact}
 use lib.Count.{leadingZeros, leading-top, trailingZeros}
 use borrow.Author.Tests.{lt-ltb, le-ltb}
-use Rattle.ea_header.proofs.Cases.{lt-or-ge}
+use Rattle.refusal.proofs.Tests.{lt-or-ge}
 use Rattle.ea_header.specs.Log.{log2In, log2}
 
 -- log2In f n is the k with 2 ^ k ≤ n < 2 ^ (k + 1)

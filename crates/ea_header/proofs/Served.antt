@@ -9,7 +9,7 @@ use lib.Pow.{pow-pos, pow-mono}
 use Rattle.ea_header.specs.Log.{log2}
 use Rattle.ea_header.specs.Served.{served, Served}
 use Rattle.ea_header.specs.declared.ExtensibleArrayHeader.{ExtensibleArrayHeader}
-use Rattle.ea_header.proofs.Cases.{both}
+use Rattle.refusal.proofs.Tests.{both}
 use Rattle.ea_header.proofs.Log.{exponent-lt}
 
 pub serves : (h : ExtensibleArrayHeader) → served h ≡ true → Served h

@@ -7,7 +7,8 @@ use borrow.Author.Needs.{needs}
 use Rattle.refusal.specs.Refusals.{figure}
 use Rattle.refusal.specs.declared.Checked.the-variants.{Passed}
 use Rattle.fields.specs.Fields.{inFile}
-use Rattle.fields.proofs.Fields.{inside, then-second, then-first}
+use Rattle.refusal.proofs.Tests.{then-second, then-first}
+use Rattle.fields.proofs.Fields.{inside}
 use Rattle.checksum.specs.Lookup3.{lookup3}
 use Rattle.checksum.specs.Trailing.{trailingTest}
 use Rattle.ea_header.specs.Header.{headerBytes, formTest, sizesTest, headerTest}

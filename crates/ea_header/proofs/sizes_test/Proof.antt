@@ -1,7 +1,7 @@
 -- `ea_header::sizes_test` meets its contract. Assumes nothing.
 use mathlib.Core.Path.{sym, _∙_}
 use borrow.Author.Needs.{needs}
-use Rattle.fields.proofs.Fields.{then-second, then-first}
+use Rattle.refusal.proofs.Tests.{then-second, then-first}
 use Rattle.ea_header.specs.Header.{sizesTest}
 use Rattle.ea_header.proofs.sizes_test.Statement.{statement}
 use Rattle.ea_header.proofs.sizes_test.Tie as tie

@@ -15,7 +15,7 @@ enum-told : tie.Need-enum-told
 enum-told c = search needs
 
 read-header-requires : tie.Need-read-header-requires
-read-header-requires c κs = passed-is lookup3 _ _ _ _ (sym (c .enum-told .given .1) ∙ c .before .before .header-test .ensures)
+read-header-requires c κs = passed-is lookup3 _ _ _ _ (sym (c .before .before .header-test .ensures) ∙ c .enum-told .given .1)
 
 enum-known-r : tie.Need-enum-known-r
 enum-known-r c = search needs
