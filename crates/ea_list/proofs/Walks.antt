@@ -22,10 +22,11 @@ use Rattle.ea_header.specs.Served.{Served, served, servedTest}
 use Rattle.ea_header.proofs.Served.{serves}
 use Rattle.ea_geometry.specs.Sizes.{superBlocks, blocks, blockElements, pageElements, directSuperBlocks, overPage, pages}
 use Rattle.ea_geometry.specs.Extents.{elementStride, elementAt, inlineElementAt, blockElementAt, pagedElementAt, pageAt}
-use Rattle.ea_geometry.specs.Place.{inPages, placeIn, place, firstSlot, capacity, slotIn}
+use Rattle.ea_geometry.specs.Place.{inPages, placeIn, place}
+use Rattle.ea_geometry.specs.Slots.{firstSlot, capacity, slotIn}
 use Rattle.ea_geometry.specs.declared.Place.the-variants.{Inline}
 use Rattle.ea_geometry.proofs.Counts.{elements-pos, pages-exact}
-use Rattle.ea_geometry.proofs.Places.{place-is, place-inline, place-past, next-super, super-zero}
+use Rattle.ea_geometry.proofs.Places.{place-is, place-inline, place-past, next-slot, first-slot-zero}
 use Rattle.ea_blocks.specs.declared.Element.{Element}
 use Rattle.ea_blocks.specs.declared.Element.the-variants.{Absent, Chunk, Refused as ElementRefused}
 use Rattle.ea_blocks.specs.Call.{Call, Rec}
@@ -161,7 +162,7 @@ module _ (c : Call) where
     unfolding slotIn
     place-at k i s hk hi e =
         let z : s + i ≡ firstSlot (c .header) u + (k * blockElements (c .header) u + i) = omega arith in
-        ap (place (c .header)) z ∙ place-is (c .header) u k i v hu hk hi
+        place-is (c .header) v (s + i) u k i (record { super = hu; block = hk; element = hi; slot = z })
 
     module _ (r : Ready c u) (k s : ℕ) (hk : k < blocks u) (hs : Begins k s) (rest : Listing)
         (after : (q : List Rec) → rest ≡ accepted q → Right c (s + blockElements (c .header) u) q) where
@@ -249,7 +250,7 @@ module _ (c : Call) where
         → (j k s : ℕ) (l : List Rec) → k + j ≡ blocks u → Begins k s → blocksFrom c u j k s rest ≡ accepted l → Right c s l
     unfolding blocksFrom
     blocks-right r rest after zero k s l hk hs =
-        let z : firstSlot (c .header) (u + 1) ≡ s = (let y : k ≡ blocks u = omega arith in sym (hs ∙ ap (λ (x : ℕ). firstSlot (c .header) u + x * blockElements (c .header) u) y ∙ next-super (c .header) u)) in
+        let z : firstSlot (c .header) (u + 1) ≡ s = (let y : k ≡ blocks u = omega arith in sym (hs ∙ ap (λ (x : ℕ). firstSlot (c .header) u + x * blockElements (c .header) u) y ∙ next-slot (c .header) u)) in
         λ h. right-at _ s l z (after l h)
     blocks-right r rest after (suc j) k s l hk hs =
         let next : (m : List Rec) → blocksFrom c u j (k + 1) (s + blockElements (c .header) u) rest ≡ accepted m → Right c (s + blockElements (c .header) u) m =
@@ -274,7 +275,7 @@ module _ (c : Call) where
         let q : x / n < blocks u = div-lt-iff-lt-mul e .1 hx in
         let z : first + x / n * n + x % n ≡ first + x = (let y = div-add-mod' x n in omega arith) in
         subst (Misses c) z (no-super c u (x / n) (x % n) _ wide (place-at (x / n) (x % n) (first + x / n * n) q (mod-lt x e) refl) d t))
-        (right-at _ _ l (sym (next-super (c .header) u)) h)
+        (right-at _ _ l (sym (next-slot (c .header) u)) h)
       where
         n : ℕ
         n = blockElements (c .header) u
@@ -285,7 +286,7 @@ module _ (c : Call) where
   -- past the last super block there is nothing
   past-right : (s : ℕ) (l : List Rec) → Served (c .header) → capacity (c .header) ≤ s → accepted [] ≡ accepted l → Right c s l
   past-right s l v h e =
-      right-empty count s l (λ i hi. no-place c (s + i) (place-past (c .header) (s + i) v (omega arith))) (right-end (s + count) l (omega arith) e)
+      right-empty count s l (λ i hi. no-place c (s + i) (place-past (c .header) v (s + i) (omega arith))) (right-end (s + count) l (omega arith) e)
 
   supers-right : Served (c .header) → widthTest 1 (c .offsetSize) ≡ Passed → (j u s : ℕ) (l : List Rec) → u + j ≡ superBlocks (c .header)
       → s ≡ firstSlot (c .header) u → supers c j u s ≡ accepted l → Right c s l
@@ -296,7 +297,7 @@ module _ (c : Call) where
       λ h. past-right s l v (omega arith) h
   supers-right v wide (suc j) u s l hu hs =
       let lt : u < superBlocks (c .header) = omega arith in
-      let f : s + blocks u * blockElements (c .header) u ≡ firstSlot (c .header) (u + 1) = ap (λ (x : ℕ). x + blocks u * blockElements (c .header) u) hs ∙ next-super (c .header) u in
+      let f : s + blocks u * blockElements (c .header) u ≡ firstSlot (c .header) (u + 1) = ap (λ (x : ℕ). x + blocks u * blockElements (c .header) u) hs ∙ next-slot (c .header) u in
       let next : (q : List Rec) → supers c j (u + 1) (s + blocks u * blockElements (c .header) u) ≡ accepted q → Right c (firstSlot (c .header) (u + 1)) q =
       (λ q h. right-at _ _ q f (supers-right v wide j (u + 1) (s + blocks u * blockElements (c .header) u) q (omega arith) f h)) in
       let within : Ready c u → blocksFrom c u (blocks u) 0 s (supers c j (u + 1) (s + blocks u * blockElements (c .header) u)) ≡ accepted l → Right c s l =
@@ -315,13 +316,13 @@ module _ (c : Call) where
       zero-more : s ≡ firstSlot (c .header) u → s ≡ firstSlot (c .header) u + 0 * blockElements (c .header) u
       zero-more e = omega arith
 
-  inline-leads : (i : ℕ) → i < c .header .«idx_blk_elmts» → Leads c (0 + i) (indexAt c + inlineElementAt (c .header) (c .offsetSize) 0 + i * elementStride (c .header) (c .offsetSize))
+  inline-leads : Served (c .header) → (i : ℕ) → i < c .header .«idx_blk_elmts» → Leads c (0 + i) (indexAt c + inlineElementAt (c .header) (c .offsetSize) 0 + i * elementStride (c .header) (c .offsetSize))
   unfolding positionOf inlineElementAt elementAt
-  inline-leads i h =
+  inline-leads v i h =
       let z : i ≡ 0 + i = omega arith in
       subst (λ (x : ℕ). Leads c x (indexAt c + inlineElementAt (c .header) (c .offsetSize) 0 + i * elementStride (c .header) (c .offsetSize))) z
       (subst (Leads c i) (let y : positionOf c (Inline i) ≡ indexAt c + inlineElementAt (c .header) (c .offsetSize) 0 + i * elementStride (c .header) (c .offsetSize) = omega arith in y)
-      (in-index c i (place-inline (c .header) i h)))
+      (in-index c i (place-inline (c .header) v i h)))
 
   behind-right : Served (c .header) → (l : List Rec) → behindInline c ≡ accepted l → Right c (0 + c .header .«idx_blk_elmts») l
   unfolding behindInline
@@ -331,14 +332,14 @@ module _ (c : Call) where
       (λ t h.
       let a = yields-inv _ _ l h in
       right-at _ _ l (let z : c .header .«idx_blk_elmts» ≡ 0 + c .header .«idx_blk_elmts» = omega arith in z)
-      (supers-right v (a .0) (superBlocks (c .header)) 0 (c .header .«idx_blk_elmts») l (omega arith) (sym (super-zero (c .header))) (a .1)))
+      (supers-right v (a .0) (superBlocks (c .header)) 0 (c .header .«idx_blk_elmts») l (omega arith) (sym (first-slot-zero (c .header))) (a .1)))
 
 pub walk-right : (c : Call) (l : List Rec) → walk c ≡ accepted l → Right c 0 l
 unfolding walk servedTest
 walk-right c l h =
     let a = yields-inv _ _ l h in
     let v = serves (c .header) (not-false _ (refuse-inv _ _ _ _ (a .0))) in
-    elements-right c (c .header .«idx_blk_elmts») _ 0 _ l (inline-leads c) (behind-right c v) (yields-inv _ _ l (a .1) .1)
+    elements-right c (c .header .«idx_blk_elmts») _ 0 _ l (inline-leads c v) (behind-right c v) (yields-inv _ _ l (a .1) .1)
 
 -- An accepted walk's list is the list of the records of all slots below the count whose place holds an address and that have a chunk, in
 -- slot order.

@@ -18,8 +18,7 @@ use Rattle.refusal.proofs.Outcomes.{yields-inv, yields-passed}
 use Rattle.chunk_grid.specs.Grid.{Grid, gridTest, cornerTest, isChunk, slotOf, chunkAt}
 use Rattle.chunk_grid.specs.declared.Slot.{Slot}
 use Rattle.chunk_grid.specs.declared.Slot.the-variants.{At, NoSlot}
-use Rattle.chunk_grid.proofs.Grids.{Built, built}
-use Rattle.chunk_grid.proofs.RankZero.{own-chunk}
+use Rattle.chunk_grid.proofs.Grids.{Built, built, slot-chunk}
 use Rattle.ea_header.specs.Served.{servedTest}
 use Rattle.ea_blocks.specs.declared.Entry.{Entry}
 use Rattle.ea_blocks.specs.Call.{Call, Rec}
@@ -58,7 +57,7 @@ slot-accepts c (At s) p = go (ltb s (c .header .«num_elements»)) refl
 
 module _ (c : Call) (corner : List ℕ) (b : Built (c .grid)) (k : isChunk (c .grid) corner ≡ true) where
   own : (s : ℕ) → slotOf (c .grid) corner ≡ At s → chunkAt (c .grid) s ≡ some corner
-  own s e = own-chunk (c .grid) b corner s k e
+  own s e = slot-chunk (c .grid) b corner s k e
 
   -- a stored chunk's record is that of its slot
   stored-record : (s : ℕ) (d : Entry) → Stored c corner s d → slotRecord c (slotOf (c .grid) corner) ≡ some (record { entry = d; corner = corner })
@@ -72,9 +71,10 @@ module _ (c : Call) (corner : List ℕ) (b : Built (c .grid)) (k : isChunk (c .g
   present (At s) e r h =
       by-cond (λ (x : Option Rec). x ≡ some r → Answers c corner (some r)) (ltb s (c .header .«num_elements»))
       (λ t z.
-      let i = record-at c s r z in
-      ((s, record { chunk = k; slot = e; published = ltb-true s (c .header .«num_elements») t; holds = i .0 }),
-       Option·some-injective _ _ (sym (i .1) ∙ own s e)))
+      let i = record-at c s r z in (
+        (s, record { chunk = k; slot = e; published = ltb-true s (c .header .«num_elements») t; holds = i .0 }),
+        Option·some-injective _ _ (sym (i .1) ∙ own s e),
+      ))
       (λ t z. absurd (none-some r z)) h
 
   answers : (x : Option Rec) → slotRecord c (slotOf (c .grid) corner) ≡ x → Answers c corner x
@@ -117,9 +117,10 @@ lookup-accepts c l corner h k =
     let a = yields-inv _ _ l h in
     let w = walk-right c l (a .1) in
     let e = yields-inv _ _ l (a .1) in
-    let i = yields-inv _ _ l (e .1) in
-    (slotRecord c (slotOf (c .grid) corner),
-     yields-passed _ _ (all-pass (a .0) (chunk-passes c corner k) (e .0) (i .0)) ∙ slot-accepts c (slotOf (c .grid) corner) (λ t lt. w .paths t (omega arith) lt))
+    let i = yields-inv _ _ l (e .1) in (
+      slotRecord c (slotOf (c .grid) corner),
+      yields-passed _ _ (all-pass (a .0) (chunk-passes c corner k) (e .0) (i .0)) ∙ slot-accepts c (slotOf (c .grid) corner) (λ t lt. w .paths t (omega arith) lt),
+    )
 
 -- And it gives the chunk's record of the list, or absent where the list has none. Rank 1 to 32.
 pub lookup-agrees : (c : Call) (l : List Rec) (corner : List ℕ) → 0 < c .grid .rank → c .header .«num_elements» ≤ largest64 → list c ≡ accepted l
