@@ -48,9 +48,8 @@ unfoldable pub entryAt : Call → ℕ → Entry
 entryAt c pos = record { address = addressAt (c .file) pos (c .offsetSize); size = sizeAt c pos; mask = maskAt c pos }
 
 -- 28 element size too small, before 1
-unfoldable pub elementSizeTest : Call → Checked
-elementSizeTest c =
-    refuse 28 0 0 (filtered (c .header) && ltb (c .header .«element_size») (c .offsetSize + 4)) then widthTest 1 (c .offsetSize)
+unfoldable pub elementSizeTest : ExtensibleArrayHeader → ℕ → Checked
+elementSizeTest h o = refuse 28 0 0 (filtered h && ltb (h .«element_size») (o + 4)) then widthTest 1 o
 
 -- 29 size field over 8 bytes, before 30 size over 2^32 − 1 (value)
 unfoldable pub entryTest : Call → ℕ → Checked
@@ -71,6 +70,6 @@ insideOnly (OffsetsRefused r) e = ElementRefused r
 -- Element: 28, 1, undefined, 32, 33, dropped, 29, 30: the element of slot s at pos.
 unfoldable pub element : Call → ℕ → ℕ → Element
 element c pos s =
-    elementSizeTest c
+    elementSizeTest (c .header) (c .offsetSize)
     gives cond (undefinedAt (c .file) pos (c .offsetSize)) Absent
     (insideOnly (inExtent (c .grid) s) (entryTest c pos gives Chunk (entryAt c pos)))

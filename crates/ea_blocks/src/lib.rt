@@ -6,6 +6,7 @@ ghost use Rattle.refusal.specs.Refusals.{refuse};
 ghost use Rattle.checksum.specs.Lookup3.{lookup3};
 ghost use Rattle.ea_blocks.specs.Structures.{signatureTest, structureTest};
 use checksum::verify_trailing;
+use ea_geometry::EaGeometry;
 use fields::bytes::ensure_len;
 use fields::bytes::read_u32_le_padded;
 use refusal::Checked;
@@ -31,6 +32,22 @@ pub enum Element {
     Absent,
     Chunk(Entry),
     Refused(Refusal),
+}
+
+// The number of records of a run of elements or a list, or why there is none.
+pub enum Counted {
+    Count(u64),
+    Refused(Refusal),
+}
+
+// What elements are read by, beside the arrays of the grid's numbering.
+pub struct Reading {
+    pub geometry: EaGeometry,
+    // The chunk's bytes, or 2^64 - 1 where they are more.
+    pub chunk_bytes: u64,
+    pub rank: u64,
+    pub rotated: u64,
+    pub numbers: bool,
 }
 
 // Tests a structure of `len` bytes at pos: 20, its signature's number, 26.

@@ -2,42 +2,17 @@
 -- `rest` is what comes behind it, and s the slot that the walk has come to.
 use Prim.Native.Nat.{ℕ, zero, suc, _+_, _*_}
 use mathlib.Core.Bool.{not, cond, _&&_}
-use mathlib.Core.List.{List, [], _∷_}
+use mathlib.Core.List.{[]}
 use lib.Dec.{leb, ltb}
-use Rattle.refusal.specs.Outcome.{Outcome, refused, accepted, _yields_}
+use Rattle.refusal.specs.Outcome.{accepted, _yields_}
 use Rattle.fields.specs.Fields.{widthTest}
-use Rattle.chunk_grid.specs.Grid.{offsets}
 use Rattle.ea_header.specs.Served.{servedTest}
 use Rattle.ea_geometry.specs.Sizes.{superBlocks, blocks, blockElements, pageElements, pages}
-use Rattle.ea_geometry.specs.Extents.{elementStride, inlineElementAt, blockElementAt}
+use Rattle.ea_geometry.specs.Extents.{inlineElementAt, blockElementAt}
 use Rattle.ea_geometry.specs.Place.{inPages}
-use Rattle.ea_blocks.specs.declared.Element.{Element}
-use Rattle.ea_blocks.specs.declared.Element.the-variants.{Absent, Chunk, Refused as ElementRefused}
-use Rattle.ea_blocks.specs.Call.{Call, Rec}
+use Rattle.ea_blocks.specs.Call.{Call}
 use Rattle.ea_blocks.specs.Structures.{indexBlock, superBlock, dataBlock, dataPage, testOf, indexAt, isDirect, blockAt, dataPageAt, superUndefined, blockUndefined, pageSet}
-use Rattle.ea_blocks.specs.Elements.{element}
-
-abbrev pub Listing : Type 0
-Listing = Outcome (List Rec)
-
--- one record in front of what is left
-unfoldable pub also : Rec → Listing → Listing
-also r (refused x) = refused x
-also r (accepted l) = accepted (r ∷ l)
-
--- one element in front of what is left, with the offsets of its slot
-unfoldable pub alsoElement : Element → List ℕ → Listing → Listing
-alsoElement Absent corner a = a
-alsoElement (Chunk e) corner a = also (record { entry = e; corner = corner }) a
-alsoElement (ElementRefused r) corner a = refused r
-
--- the elements from pos on, j of them; none at or past the published count is read
-unfoldable pub elements : Call → ℕ → ℕ → ℕ → Listing → Listing
-elements c pos zero s rest = rest
-elements c pos (suc j) s rest =
-    cond (leb (c .header .«num_elements») s) rest
-    (alsoElement (element c pos s) (offsets (c .grid) s)
-    (elements c (pos + elementStride (c .header) (c .offsetSize)) j (s + 1) rest))
+use Rattle.ea_blocks.specs.Runs.{Listing, elements}
 
 -- The pages of data block k of super block u, j of them from p on. A clear page is stepped over by its full stride.
 -- A set page that runs past the count is tested, then ends its data block.
