@@ -7,7 +7,6 @@ use native.Mathlib.Nat.{mul-assoc, mul-le-mul-left, mul-le-mul-right, mod-lt}
 use lib.Arith.{digits-lt}
 use lib.Dec.{eqb}
 use lib.Pow.{pow-pos}
-use Rattle.refusal.specs.Refusals.{figure}
 use Rattle.ea_header.specs.Served.{Served}
 use Rattle.ea_header.specs.declared.ExtensibleArrayHeader.{ExtensibleArrayHeader}
 use Rattle.refusal.proofs.Tests.{by-cond}
@@ -15,11 +14,6 @@ use Rattle.ea_geometry.specs.Sizes.{superBlocks, blocks, blockElements, 
 use Rattle.ea_geometry.specs.Extents.{elementStride, elementAt, pointerAt, indexPrefix, inlineElementAt, directPointersAt, superPointersAt, indexExtent, directPointerAt, superPointerAt, blockPrefix, pageBitsAt, blockPointerAt, superExtent, blockElementAt, dataExtent, pagedHeadExtent, pageExtent, pageAt, pagedExtent, pagedElementAt}
 use Rattle.ea_geometry.specs.PageBits.{bitNumber, bitByte}
 use Rattle.ea_geometry.proofs.Counts.{blocks-before-lt, supers-few, direct-pointers-few}
-
--- sums of figures are the figure of the sum
-pub figure-sum : (a b d : ℕ) → figure (figure (a + figure b) + figure d) ≡ figure (a + b + d)
-unfolding figure
-figure-sum a b d = omega arith
 
 -- the i-th of n parts of the same length
 part-inside : (first s i n : ℕ) → i < n → first + i * s + s ≤ first + n * s
