@@ -7,19 +7,13 @@ use native.Mathlib.Nat.{mul-assoc, mul-le-mul-left, mul-le-mul-right, mod-lt}
 use lib.Arith.{digits-lt}
 use lib.Dec.{eqb}
 use lib.Pow.{pow-pos}
-use Rattle.refusal.specs.Refusals.{figure}
 use Rattle.ea_header.specs.Served.{Served}
 use Rattle.ea_header.specs.declared.ExtensibleArrayHeader.{ExtensibleArrayHeader}
 use Rattle.refusal.proofs.Tests.{by-cond}
 use Rattle.ea_geometry.specs.Sizes.{superBlocks, blocks, blockElements, directSuperBlocks, blocksBefore, directPointers, superPointers, pageElements, overPage, pages, bitBytes, bitmapBytes}
 use Rattle.ea_geometry.specs.Extents.{elementStride, elementAt, pointerAt, indexPrefix, inlineElementAt, directPointersAt, superPointersAt, indexExtent, directPointerAt, superPointerAt, blockPrefix, pageBitsAt, blockPointerAt, superExtent, blockElementAt, dataExtent, pagedHeadExtent, pageExtent, pageAt, pagedExtent, pagedElementAt}
 use Rattle.ea_geometry.specs.PageBits.{bitNumber, bitByte}
-use Rattle.ea_geometry.proofs.Counts.{blocks-before-lt, direct-pointers-few}
-
--- sums of figures are the figure of the sum
-pub figure-sum : (a b d : ℕ) → figure (figure (a + figure b) + figure d) ≡ figure (a + b + d)
-unfolding figure
-figure-sum a b d = omega arith
+use Rattle.ea_geometry.proofs.Counts.{blocks-before-lt, supers-few, direct-pointers-few}
 
 -- the i-th of n parts of the same length
 part-inside : (first s i n : ℕ) → i < n → first + i * s + s ≤ first + n * s
@@ -115,6 +109,11 @@ module _ (h : ExtensibleArrayHeader) (o : ℕ) where
       unfolding superPointersAt
       super-pointers-at-few n v =
           omega (arith, pointer-at-le (directPointersAt h o) (directPointers h), direct-pointers-at-few n, direct-pointers-few h v)
+
+      pub index-extent-few : h .«idx_blk_elmts» < 256 → Served h → indexExtent h o ≤ 2 ^ 38
+      unfolding indexExtent superPointers
+      index-extent-few n v =
+          omega (arith, pointer-at-le (superPointersAt h o) (superBlocks h - directSuperBlocks h), super-pointers-at-few n v, supers-few h v)
 
       pub page-at-le : Served h → (p : ℕ) → pageAt h o p ≤ 26 + 259 * (p * pageElements h)
       unfolding pageAt pagedHeadExtent pageExtent elementAt pageElements

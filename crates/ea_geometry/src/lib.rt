@@ -8,6 +8,7 @@ pub mod page_bits;
 mod sizes;
 mod slots;
 
+// All that sizes and positions follow from.
 pub struct EaGeometry {
     pub header: ExtensibleArrayHeader,
     pub offset_size: u64,
@@ -15,7 +16,7 @@ pub struct EaGeometry {
 
 // Where a slot's element lies.
 pub enum Place {
-    // Element `element` of the index block.
+    // This element of the index block.
     Inline(u64),
     // Element `element` of data block `block` of super block `super_block`, in a block that is read unpaged.
     Block {

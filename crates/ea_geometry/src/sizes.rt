@@ -9,6 +9,7 @@ ghost use Rattle.ea_geometry.specs.Sizes.{pages, bitmapBytes};
 use crate::EaGeometry;
 
 impl EaGeometry {
+    // The elements of the smallest data block.
     pub fn least_block_elements(self) -> u64
         ensures { λ r. ⌜ r ≡ self .header .«min_dblk_nelmts» ⌝ }
     {
@@ -23,6 +24,7 @@ impl EaGeometry {
         u64::trailing_zeros(self.least_block_elements()) as u64
     }
 
+    // How many super blocks there are.
     pub fn super_blocks(self) -> u64
         requires { ⌜ Served (self .header) ⌝ }
         ensures { λ r. ⌜ r ≡ superBlocks (self .header) ⌝ }

@@ -67,6 +67,7 @@ impl EaGeometry {
         }
     }
 
+    // The place of a slot.
     pub fn place_of(self, slot: u64) -> Place
         requires { ⌜ Served (self .header) ⌝ }
         ensures { λ r. ⌜ r ≡ place (self .header) slot ⌝ }

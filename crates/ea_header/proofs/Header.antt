@@ -2,28 +2,16 @@
 use mathlib.Core.Path.{_≡_, sym}
 use mathlib.Core.Bool.{true}
 use mathlib.Core.List.{List}
-use Prim.Native.Nat.{ℕ, _+_, _^_, _<_, _≤_}
-use mathlib.Core.Logic.{⊎-elim}
-use native.Mathlib.Omega.{arith}
+use Prim.Native.Nat.{ℕ, _+_, _≤_}
 use lib.ListN.{length, getD}
-use borrow.Author.Tests.{lt-ltb, eq-eqb, ne-eqb, not-false}
+use borrow.Author.Tests.{eq-eqb, ne-eqb, not-false}
 use Rattle.refusal.specs.declared.Checked.the-variants.{Passed, Refused}
-use Rattle.refusal.specs.Refusals.{refuse, _then_, figure, largest64}
-use Rattle.refusal.proofs.Tests.{lt-or-ge, refuse-inv, then-inv}
+use Rattle.refusal.specs.Refusals.{refuse, _then_}
+use Rattle.refusal.proofs.Tests.{refuse-inv, then-inv}
 use Rattle.fields.specs.LittleEndian.{leAt}
-use Rattle.fields.specs.Fields.{isWidth, widthTest, inFile}
+use Rattle.fields.specs.Fields.{isWidth, widthTest}
 use Rattle.fields.proofs.Fields.{inside}
 use Rattle.ea_header.specs.Header.{headerBytes, formTest, sizesTest, headerTest}
-
--- a length past 2^64 − 1 may be given as 2^64 − 1, since no slice is as long
-pub figure-in-file : (s : List ℕ) (pos n : ℕ) → length s < 2 ^ 63 → inFile s pos (figure n) ≡ inFile s pos n
-unfolding inFile figure
-figure-in-file s pos n short =
-    ⊎-elim (λ (lt : largest64 < n).
-    let e : figure (pos + figure n) ≡ figure (pos + n) = omega arith in
-    rw (lt-ltb (length s) (pos + figure n) (omega arith), lt-ltb (length s) (pos + n) (omega arith), e)) (λ (le : n ≤ largest64).
-    let e : figure n ≡ n = omega arith in
-    rw e) (lt-or-ge largest64 n)
 
 module _ (f : List ℕ) (pos : ℕ) where
   pub other-signature : (leAt f pos 4 ≡ 0x4448_4145 → ⊥) → Refused (record { number = 21; first = 0; second = 0 }) ≡ formTest f pos

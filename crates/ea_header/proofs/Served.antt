@@ -2,7 +2,7 @@
 use Prim.Native.Nat.{_^_, _<_, _≤_}
 use mathlib.Core.Path.{_≡_}
 use mathlib.Core.Bool.{true, false, _&&_}
-use borrow.Author.Tests.{eqb-true, leb-true, le-leb}
+use borrow.Author.Tests.{eqb-true, leb-true, eq-eqb, le-leb}
 use lib.Dec.{eqb, leb}
 use native.Mathlib.Omega.{arith}
 use lib.Pow.{pow-pos, pow-mono}
@@ -20,6 +20,11 @@ serves h t =
     let d = both _ _ (b .0) in
     let e = both _ _ (d .0) in
     record { power = eqb-true _ _ (e .0); least = leb-true _ _ (e .1); bits = leb-true _ _ (d .1); minimum = leb-true _ _ (b .1); page = leb-true _ _ (a .1) }
+
+pub serves-back : (h : ExtensibleArrayHeader) → Served h → served h ≡ true
+unfolding served
+serves-back h v =
+    rw (eq-eqb (h .«min_dblk_nelmts») _ (v .power), le-leb _ _ (v .least), le-leb _ _ (v .bits), le-leb _ _ (v .minimum), le-leb _ _ (v .page))
 
 pub least-pos : (h : ExtensibleArrayHeader) → Served h → 0 < h .«min_dblk_nelmts»
 least-pos h v = let p = pow-pos (log2 (h .«min_dblk_nelmts»)) in let q = v .power in omega arith

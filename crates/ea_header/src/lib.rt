@@ -27,13 +27,13 @@ pub struct ExtensibleArrayHeader {
     pub client_id: u8,
     // The bytes of an element.
     pub element_size: u8,
-    // Max bits: there are at most 2^bits elements.
+    // Max bits: with the least block elements it gives the number of super blocks.
     pub max_nelmts_bits: u8,
     // The inline count: how many elements the index block holds.
     pub idx_blk_elmts: u8,
     // Least block elements: how many elements the smallest data block has.
     pub min_dblk_nelmts: u8,
-    // The super block minimum.
+    // The super block minimum: how many super blocks have their data blocks named in the index block.
     pub super_blk_min_nelmts: u8,
     // Page exponent: a page has 2^exponent elements.
     pub max_dblk_nelmts_bits: u8,
@@ -52,7 +52,8 @@ impl ExtensibleArrayHeader {
     // "EAHD"
     pub const SIGNATURE: u32 = 0x4448_4145;
 
-    // Reads the header at an address of a file.
+    // Reads the header at an address of a file. In this order it is refused: 20 where it does not lie in the file with the sizes as
+    // given, 21 and 22 for its signature and version, 2 and 1 for the sizes, 26 for its checksum.
     pub fn parse(file: &[u8], address: u64, offset_size: u64, length_size: u64) -> Parsed
         ensures { λ r. ⌜ r ≡ parsedAt lookup3 (now (file .entry)) address «offset_size» «length_size» ⌝ }
     {
@@ -77,6 +78,7 @@ impl ExtensibleArrayHeader {
         )
     }
 
+    // Whether the least block elements are a power of two, and bits, minimum and page exponent within their limits.
     pub fn is_served(self) -> bool
         ensures { λ r. ⌜ r ≡ served self ⌝ }
     {

@@ -2,18 +2,19 @@
 use mathlib.Core.Path.{_≡_, refl, ap, sym}
 use mathlib.Core.Bool.{Bool, true, false, not}
 use mathlib.Core.List.{List}
-use Prim.Native.Nat.{ℕ, _+_, _<_, _≤_}
+use mathlib.Core.Logic.{⊎-elim}
+use Prim.Native.Nat.{ℕ, _+_, _^_, _<_, _≤_}
 use native.Mathlib.Omega.{arith}
 use lib.ListN.{length}
 use borrow.Author.Tests.{lt-ltb, le-ltb, ltb-false, not-false}
 use Rattle.refusal.specs.declared.Refusal.{Refusal}
 use Rattle.refusal.specs.declared.Checked.{Checked}
 use Rattle.refusal.specs.declared.Checked.the-variants.{Passed, Refused}
-use Rattle.refusal.specs.Refusals.{figure}
+use Rattle.refusal.specs.Refusals.{figure, largest64}
 use Rattle.fields.specs.declared.bytes.Field.the-variants.{Value, Refused as FieldRefused}
 use Rattle.fields.specs.declared.bytes.OptionalOffset.the-variants.{Undefined, At, Refused as OptionalRefused}
 use Rattle.fields.specs.Fields.{isWidth, widthTest, inFile, fieldTest, sizeFieldTest, fieldAfter, optionalAfter, undefined}
-use Rattle.refusal.proofs.Tests.{refuse-false, refuse-true, refuse-inv, then-second, then-first, then-inv}
+use Rattle.refusal.proofs.Tests.{lt-or-ge, refuse-false, refuse-true, refuse-inv, then-second, then-first, then-inv}
 
 module _ (s : List ℕ) (pos len : ℕ) where
   pub in-file : pos + len ≤ length s → Passed ≡ inFile s pos len
@@ -108,3 +109,13 @@ optional-refused-is (Refused q) b a r h = cc
 pub no-undefined : (o a : ℕ) → isWidth o ≡ false → false ≡ undefined o a
 unfolding undefined
 no-undefined o a e = rw e
+
+-- a length past 2^64 − 1 may be given as 2^64 − 1, since no slice is as long
+pub figure-in-file : (s : List ℕ) (pos n : ℕ) → length s < 2 ^ 63 → inFile s pos (figure n) ≡ inFile s pos n
+unfolding inFile figure
+figure-in-file s pos n short =
+    ⊎-elim (λ (lt : largest64 < n).
+    let e : figure (pos + figure n) ≡ figure (pos + n) = omega arith in
+    rw (lt-ltb (length s) (pos + figure n) (omega arith), lt-ltb (length s) (pos + n) (omega arith), e)) (λ (le : n ≤ largest64).
+    let e : figure n ≡ n = omega arith in
+    rw e) (lt-or-ge largest64 n)

@@ -1,7 +1,7 @@
 -- What fits 64 bits, and what 32. Assumes nothing.
 use mathlib.Core.Path.{_≡_, refl}
 use mathlib.Core.Bool.{Bool, true, false}
-use Prim.Native.Nat.{ℕ, _^_, _-_, _<_, _≤_}
+use Prim.Native.Nat.{ℕ, _+_, _^_, _-_, _<_, _≤_}
 use native.Mathlib.Omega.{arith}
 use lib.Dec.{leb}
 use borrow.Author.Tests.{le-leb, lt-leb, lt-ltb, le-ltb, leb-true, leb-false}
@@ -64,3 +64,8 @@ pub too-wide-is : (t : Checked) (n : ℕ) (r : Refusal) → NarrowedRefused r �
 unfolding narrowedAfter
 too-wide-is Passed n r h = let z : _≡_ {A = ℕ} 0 1 = cc in absurd (omega arith)
 too-wide-is (Refused q) n r h = cc
+
+-- sums of figures are the figure of the sum
+pub figure-sum : (a b d : ℕ) → figure (figure (a + figure b) + figure d) ≡ figure (a + b + d)
+unfolding figure
+figure-sum a b d = omega arith

@@ -8,11 +8,10 @@ use Rattle.refusal.specs.Refusals.{figure}
 use Rattle.refusal.specs.declared.Checked.the-variants.{Passed}
 use Rattle.fields.specs.Fields.{inFile}
 use Rattle.refusal.proofs.Tests.{then-second, then-first}
-use Rattle.fields.proofs.Fields.{inside}
+use Rattle.fields.proofs.Fields.{inside, figure-in-file}
 use Rattle.checksum.specs.Lookup3.{lookup3}
 use Rattle.checksum.specs.Trailing.{trailingTest}
 use Rattle.ea_header.specs.Header.{headerBytes, formTest, sizesTest, headerTest}
-use Rattle.ea_header.proofs.Header.{figure-in-file}
 use Rattle.ea_header.proofs.header_test.Statement.{statement}
 use Rattle.ea_header.proofs.header_test.Tie as tie
 

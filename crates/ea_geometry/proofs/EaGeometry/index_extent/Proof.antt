@@ -7,7 +7,8 @@ use Rattle.refusal.specs.Refusals.{figure}
 use Rattle.ea_geometry.specs.Sizes.{directPointers, superPointers}
 use Rattle.ea_geometry.specs.Extents.{elementStride}
 use Rattle.ea_geometry.proofs.Counts.{supers-few, direct-pointers-few}
-use Rattle.ea_geometry.proofs.Positions.{figure-sum, index-extent-is}
+use Rattle.ea_geometry.proofs.Positions.{index-extent-is}
+use Rattle.fields.proofs.Numbers.{figure-sum}
 use Rattle.ea_geometry.proofs.EaGeometry.index_extent.Statement.{statement}
 use Rattle.ea_geometry.proofs.EaGeometry.index_extent.Tie as tie
 
