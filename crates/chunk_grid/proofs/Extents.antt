@@ -1,8 +1,8 @@
 -- The offsets of a slot, place by place: what a turn of the loop keeps, and what it comes to for the grid. Assumes nothing.
-use Prim.Native.Nat.{ℕ, zero, suc, _+_, _-_, _*_, _/_, _%_, _<_, _≤_}
+use Prim.Native.Nat.{ℕ, suc, _+_, _-_, _*_, _/_, _%_, _<_, _≤_}
 use mathlib.Core.Path.{_≡_, refl, sym, ap, _∙_}
-use mathlib.Core.Bool.{Bool, true, false, not, cond, _&&_, _||_, and-assoc, or-assoc, and-true, or-false}
-use mathlib.Core.List.{List, [], _∷_, _++_}
+use mathlib.Core.Bool.{Bool, true, false, cond, _&&_, _||_, and-assoc, or-assoc, and-true, or-false}
+use mathlib.Core.List.{List, [], _∷_}
 use mathlib.Core.Logic.{⊎-elim}
 use native.Mathlib.Nat.{pos-of-ne-zero, le-div-iff-mul-le}
 use native.Mathlib.Numerals.{add-one}
@@ -11,36 +11,16 @@ use borrow.Author.Tests.{lt-ltb, le-ltb, ltb-true, ltb-false, eqb-false, not-tru
 use lib.Dec.{ltb, eqb}
 use lib.ListN.{length, getD, take, drop, set, length-take, drop-of-length-le}
 use lib.Seq.{drop-cons, getD-take}
-use Rattle.refusal.specs.declared.Checked.the-variants.{Passed}
 use Rattle.refusal.specs.Refusals.{largest64, refuse, _then_}
 use Rattle.chunk_grid.specs.declared.Offsets.{Offsets}
 use Rattle.chunk_grid.specs.declared.Offsets.the-variants.{Inside, Dropped, Refused as OffsetsRefused}
-use Rattle.chunk_grid.specs.Grid.{Grid, pairwise, every, any, ceilDiv, leading, toFront, fromFront, ordered, multiplier, multipliers, hasZero, numbersNothing, quotients, offsets, overflows, below, offsetsTest, insideOr, inExtent, gridTest}
+use Rattle.chunk_grid.specs.Grid.{Grid, pairwise, every, any, ceilDiv, leading, toFront, ordered, multipliers, hasZero, numbersNothing, quotients, offsets, overflows, below, offsetsTest, insideOr, inExtent}
 use Rattle.chunk_grid.specs.Values.{dimAt, Numbers, Extents, shown, handed}
 use Rattle.chunk_grid.proofs.Tests.{lt-or-ge, neither}
-use Rattle.chunk_grid.proofs.Order.{back-front, front-back, length-front, length-back, length-pairwise, pairwise-front, pairwise-back, every-front, any-front}
-use Rattle.chunk_grid.proofs.Grids.{Built, built, lead, length-ordered, length-chunk, multiplier-pos, length-multipliers, length-quotients, quotients-chunk, length-products, length-offsets, zero-chunk}
-use Rattle.chunk_grid.proofs.Places.{dim-lt, front-at, back-at, Stored, stored-none, stored-more, stored-all}
-
--- members
-pub getD-pairwise : (f : ℕ → ℕ → ℕ) (l m : List ℕ) (i : ℕ) → length l ≡ length m → i < length l → getD (pairwise f l m) i 0 ≡ f (getD l i 0) (getD m i 0)
-unfolding pairwise
-getD-pairwise f [] m i e h = absurd (omega arith)
-getD-pairwise f (a ∷ l) [] i e h = absurd (omega arith)
-getD-pairwise f (a ∷ l) (b ∷ m) zero e h = refl
-getD-pairwise f (a ∷ l) (b ∷ m) (suc i) e h = getD-pairwise f l m i (omega arith) (omega arith)
-
-pub any-at : (p : ℕ → Bool) (l : List ℕ) (i : ℕ) → any p l ≡ false → i < length l → p (getD l i 0) ≡ false
-unfolding any
-any-at p [] i e h = absurd (omega arith)
-any-at p (a ∷ l) zero e h = neither (p a) (any p l) e .0
-any-at p (a ∷ l) (suc i) e h = any-at p l i (neither (p a) (any p l) e .1) (omega arith)
-
-pub multiplier-at : (cs : List ℕ) (i : ℕ) → i < length cs → getD (multipliers cs) i 0 ≡ multiplier (drop (suc i) cs)
-unfolding multipliers
-multiplier-at [] i h = absurd (omega arith)
-multiplier-at (c ∷ cs) zero h = refl
-multiplier-at (c ∷ cs) (suc i) h = multiplier-at cs i (omega arith)
+use Rattle.chunk_grid.proofs.Order.{front-back, length-front, length-pairwise, pairwise-front, every-front, any-front}
+use Rattle.chunk_grid.proofs.Grids.{Accepted, accepted, lead, length-ordered, length-chunk, multiplier-pos, length-multipliers, length-quotients, quotients-chunk, length-products, length-offsets, zero-chunk}
+use Rattle.chunk_grid.proofs.Members.{getD-pairwise, any-at, multiplier-at}
+use Rattle.chunk_grid.proofs.Places.{dim-lt, front-at, inOrder, length-order, order-at, Stored, stored-none, stored-more, stored-all}
 
 -- an offset lies below an extent where the quotient lies below the extent's chunks
 pub ceil-lt : (q c e : ℕ) → 0 < c → ltb (q * c) e ≡ ltb q (ceilDiv e c)
@@ -65,12 +45,9 @@ below-ceil (q ∷ qs) (c ∷ cs) (e ∷ es) h k z =
     let r = below-ceil qs cs es (omega arith) (omega arith) (y .1) in
     rw (t, r) refl
 
--- Over arrays, of which the first `rank` members count: the quotients of a slot, a list in the grid's order, and what is stored for a place.
+-- Over arrays, of which the first `rank` members count: the quotients of a slot, and what is stored for a place.
 abbrev pub quotientsBy : ℕ → ℕ → List ℕ → List ℕ
 quotientsBy slot rank down = quotients slot (take rank down)
-
-abbrev pub inOrder : ℕ → ℕ → List ℕ → List ℕ
-inOrder rank u l = toFront u (take rank l)
 
 abbrev pub valueAt : List ℕ → ℕ → List ℕ → List ℕ → ℕ → ℕ
 valueAt qs u chunk bound j = cond (ltb (getD qs j 0) (getD bound (dimAt u j) 0)) (getD qs j 0 * getD chunk (dimAt u j) 0) 0
@@ -93,14 +70,6 @@ module _ (slot rank u : ℕ) (chunk bound down : List ℕ) where
   module _ (leads : u ≤ rank - 1) (rooms : (rank ≤ length chunk) × (rank ≤ length bound) × (rank ≤ length down)) where
     size-down : length (take rank down) ≡ rank
     size-down = length-take rank down ∙ omega arith
-
-    size-order : (m : List ℕ) → rank ≤ length m → length (inOrder rank u m) ≡ rank
-    size-order m h = let e : length (take rank m) ≡ rank = length-take rank m ∙ omega arith in length-front u (take rank m) (omega arith) ∙ e
-
-    order-at : (m : List ℕ) (i : ℕ) → rank ≤ length m → i < rank → getD (inOrder rank u m) i 0 ≡ getD m (dimAt u i) 0
-    order-at m i h k =
-        let e : length (take rank m) ≡ rank = length-take rank m ∙ omega arith in
-        front-at u i (take rank m) (omega arith) (omega arith) ∙ getD-take rank m (dimAt u i) 0 (dim-lt u rank i (omega arith) k)
 
     size-quotients : length qs ≡ rank
     size-quotients = length-quotients slot (take rank down) ∙ size-down
@@ -127,10 +96,10 @@ module _ (slot rank u : ℕ) (chunk bound down : List ℕ) where
       turn-more =
           let z = quotient-at rest i h (t .left) in
           let dq = drop-cons qs i 0 (omega (arith, size-quotients)) in
-          let db = drop-cons (inOrder rank u bound) i 0 (omega (arith, size-order bound (rooms .1))) in
-          let dc = drop-cons (inOrder rank u chunk) i 0 (omega (arith, size-order chunk (rooms .0))) in
-          let b = order-at bound i (rooms .1) h in
-          let c = order-at chunk i (rooms .0) h in
+          let db = drop-cons (inOrder rank u bound) i 0 (omega (arith, length-order rank u bound leads (rooms .1))) in
+          let dc = drop-cons (inOrder rank u chunk) i 0 (omega (arith, length-order rank u chunk leads (rooms .0))) in
+          let b = order-at rank u bound leads (rooms .1) i h in
+          let c = order-at rank u chunk leads (rooms .0) i h in
           record {
             within = omega arith;
             left = rw add-one (z .1);
@@ -150,14 +119,21 @@ picked false inside = refl
 
 -- For a built grid, its numbers at hand.
 module _ (g : Grid) (rank u : ℕ) (chunk down : List ℕ) (n : Numbers rank u chunk down g) where
-  b : Built g
-  b = built g (n .built)
+  b : Accepted g
+  b = accepted g (n .built)
 
   pub small : rank ≤ 32
   small = omega (arith, b .small, n .ranked)
 
   pub leads : u ≤ rank - 1
   leads = let l = lead g b in let r = n .ranked in rw (n .leads) (omega arith)
+
+  pub rooms : (rank ≤ length chunk) × (rank ≤ length down)
+  rooms =
+      let r = n .ranked in (
+        omega (arith, sym (length-take rank chunk) ∙ ap length (n .chunks) ∙ b .chunked),
+        omega (arith, sym (length-take rank down) ∙ ap length (n .downs) ∙ length-multipliers (ordered g) ∙ length-ordered g b),
+      )
 
   -- members of the arrays, as the grid has them
   pub chunk-at : (d : ℕ) → d < rank → getD chunk d 0 ≡ getD (g .chunk) d 0
@@ -173,7 +149,7 @@ module _ (g : Grid) (rank u : ℕ) (chunk down : List ℕ) (n : Numbers rank u c
       let e = sym (getD-take rank down i 0 h) ∙ ap (λ (m : List ℕ). getD m i 0) (n .downs) ∙ multiplier-at (ordered g) i (omega (arith, length-ordered g b, n .ranked)) in
       rw e (multiplier-pos _)
 
-  chunk-are : inOrder rank u chunk ≡ toFront (leading g) (g .chunk)
+  pub chunk-are : inOrder rank u chunk ≡ toFront (leading g) (g .chunk)
   chunk-are = rw (n .chunks, n .leads) refl
 
   module _ (numbers : Bool) (bound : List ℕ) (x : Extents rank numbers bound g) where
@@ -183,13 +159,8 @@ module _ (g : Grid) (rank u : ℕ) (chunk down : List ℕ) (n : Numbers rank u c
         ∙ getD-pairwise ceilDiv (g .present) (g .chunk) d (b .presented ∙ sym (b .chunked)) (omega (arith, b .presented, n .ranked))
         ∙ ap (ceilDiv (getD (g .present) d 0)) (sym (chunk-at d h))
 
-    pub rooms : (rank ≤ length chunk) × (rank ≤ length bound) × (rank ≤ length down)
-    rooms =
-        let r = n .ranked in (
-          omega (arith, sym (length-take rank chunk) ∙ ap length (n .chunks) ∙ b .chunked),
-          omega (arith, sym (length-take rank bound) ∙ ap length (x .bounds) ∙ length-pairwise ceilDiv _ _ (b .presented ∙ sym (b .chunked)) ∙ b .presented),
-          omega (arith, sym (length-take rank down) ∙ ap length (n .downs) ∙ length-multipliers (ordered g) ∙ length-ordered g b),
-        )
+    pub bound-room : rank ≤ length bound
+    bound-room = omega (arith, sym (length-take rank bound) ∙ ap length (x .bounds) ∙ length-pairwise ceilDiv _ _ (b .presented ∙ sym (b .chunked)) ∙ b .presented, n .ranked)
 
     -- an offset whose quotient is below its bound fits 64 bits
     pub offset-fits : (q d : ℕ) → d < rank → q < getD bound d 0 → q * getD chunk d 0 ≤ largest64

@@ -1,9 +1,9 @@
 -- Slots and chunks: each gives the other back, and two chunks never share a slot. Assumes nothing.
-use Prim.Native.Nat.{ℕ, zero, suc, _+_, _-_, _*_, _/_, _%_, _<_, _≤_, max}
+use Prim.Native.Nat.{ℕ, suc, _+_, _-_, _*_, _/_, _%_, _<_, _≤_, max}
 use mathlib.Core.Path.{_≡_, refl, sym, ap, subst, _∙_}
 use mathlib.Core.Bool.{Bool, true, false, not, cond, _&&_, _||_}
-use mathlib.Core.List.{List, [], _∷_, _++_}
-use mathlib.Core.Option.{Option, none, some, Option·some-injective}
+use mathlib.Core.List.{List, [], _∷_}
+use mathlib.Core.Option.{Option, some, Option·some-injective}
 use native.Mathlib.Omega.{arith}
 use native.Mathlib.Nat.{pos-of-ne-zero, div-lt-iff-lt-mul, mod-lt, div-add-mod', mul-div-cancel, mul-mod-left, mul-le-mul-right}
 use borrow.Author.Tests.{lt-ltb, le-leb, eq-eqb, ne-eqb, ltb-true, ltb-false, leb-true, eqb-true, eqb-false, not-false}
@@ -13,7 +13,7 @@ use lib.Arith.{digits-lt, digits-div, digits-mod}
 use Rattle.refusal.specs.declared.Checked.the-variants.{Passed}
 use Rattle.refusal.specs.Refusals.{largest64}
 use Rattle.chunk_grid.specs.declared.Slot.{Slot}
-use Rattle.chunk_grid.specs.declared.Slot.the-variants.{At, NoSlot}
+use Rattle.chunk_grid.specs.declared.Slot.the-variants.{At}
 use Rattle.chunk_grid.specs.Grid.{Grid, pairwise, every, any, countOf, counts, firstUnlimited, leadingIn, leading, toFront, fromFront, ordered, multiplier, multipliers, hasZero, numbersNothing, quotients, offsets, below, chunkAt, aligned, isChunk, total, slotFrom, slotOf, shapesTest, gridTest}
 use Rattle.chunk_grid.proofs.Tests.{by-cond, false-true, both, neither, then-inv, refuse-inv}
 use Rattle.chunk_grid.proofs.Order.{back-front, front-back, length-front, length-back, length-pairwise, pairwise-front, pairwise-back, same-drop, any-front}
@@ -147,38 +147,53 @@ pub is-chunk : (g : Grid) (corner : List ℕ) → Chunk g corner → isChunk g c
 unfolding isChunk
 is-chunk g corner k = rw (eq-eqb (length corner) (g .rank) (k .ranked), k .multiple, k .inside) refl
 
--- what a grid that is not refused keeps to
-pub record Built (g : Grid) : Type 0 where
+-- what shapes of one rank keep to
+pub record Shaped (g : Grid) : Type 0 where
+  pub small : g .rank ≤ 32
+  pub chunked : length (g .chunk) ≡ g .rank
+  pub presented : length (g .present) ≡ g .rank
+  pub bounded : g .hasMaximum ≡ true → length (g .maximum) ≡ g .rank
+
+same-eqb : (a b : ℕ) → not (eqb a b) ≡ false → a ≡ b
+same-eqb a b h = eqb-true a b (not-false _ h)
+
+pub shaped : (g : Grid) → shapesTest g ≡ Passed → Shaped g
+unfolding shapesTest
+shaped g h =
+    let b = then-inv _ _ h in
+    let d = then-inv _ _ (b .1) in
+    let r = neither (ltb 32 (g .rank)) (not (eqb (length (g .chunk)) (g .rank))) (refuse-inv _ _ _ _ (b .0)) in
+    record {
+      small = ltb-false 32 (g .rank) (r .0);
+      chunked = same-eqb _ _ (r .1);
+      presented = same-eqb _ _ (refuse-inv _ _ _ _ (d .0));
+      bounded = λ m. same-eqb _ _ (rw m at (refuse-inv _ _ _ _ (d .1)));
+    }
+
+-- what an accepted grid keeps to
+pub record Accepted (g : Grid) : Type 0 where
   pub small : g .rank ≤ 32
   pub chunked : length (g .chunk) ≡ g .rank
   pub presented : length (g .present) ≡ g .rank
   pub counted : length (counts g) ≡ g .rank
   pub positive : hasZero (g .chunk) ≡ false
 
-same-eqb : (a b : ℕ) → not (eqb a b) ≡ false → a ≡ b
-same-eqb a b h = eqb-true a b (not-false _ h)
-
-extents-length : (t : Bool) (m p : List ℕ) (n : ℕ) → length p ≡ n → t && not (eqb (length m) n) ≡ false → length (cond t m p) ≡ n
-extents-length true m p n h k = same-eqb (length m) n k
+extents-length : (t : Bool) (m p : List ℕ) (n : ℕ) → length p ≡ n → (t ≡ true → length m ≡ n) → length (cond t m p) ≡ n
+extents-length true m p n h k = k refl
 extents-length false m p n h k = h
 
-pub built : (g : Grid) → gridTest g ≡ Passed → Built g
-unfolding gridTest shapesTest counts
-built g h =
+pub accepted : (g : Grid) → gridTest g ≡ Passed → Accepted g
+unfolding gridTest counts
+accepted g h =
     let a = then-inv _ _ h in
-    let b = then-inv _ _ (a .0) in
-    let d = then-inv _ _ (b .1) in
-    let e = then-inv _ _ (a .1) in
-    let r = neither (ltb 32 (g .rank)) (not (eqb (length (g .chunk)) (g .rank))) (refuse-inv _ _ _ _ (b .0)) in
-    let c : length (g .chunk) ≡ g .rank = same-eqb _ _ (r .1) in
-    let p : length (g .present) ≡ g .rank = same-eqb _ _ (refuse-inv _ _ _ _ (d .0)) in
-    let x = extents-length (g .hasMaximum) (g .maximum) (g .present) (g .rank) p (refuse-inv _ _ _ _ (d .1)) in
+    let s = shaped g (a .0) in
+    let x = extents-length (g .hasMaximum) (g .maximum) (g .present) (g .rank) (s .presented) (s .bounded) in
     record {
-      small = ltb-false 32 (g .rank) (r .0);
-      chunked = c;
-      presented = p;
-      counted = length-pairwise countOf _ (g .chunk) (x ∙ sym c) ∙ x;
-      positive = refuse-inv _ _ _ _ (e .0);
+      small = s .small;
+      chunked = s .chunked;
+      presented = s .presented;
+      counted = length-pairwise countOf _ (g .chunk) (x ∙ sym (s .chunked)) ∙ x;
+      positive = refuse-inv _ _ _ _ (then-inv _ _ (a .1) .0);
     }
 
 -- the leading dimension is one of them
@@ -211,7 +226,7 @@ slot-from-inv qs cs s =
     (b .0, e, rw e k))
     (λ t h. let z : _≡_ {A = ℕ} 0 1 = cc in absurd (omega arith))
 
-module _ (g : Grid) (b : Built g) where
+module _ (g : Grid) (b : Accepted g) where
   pub lead : leading g ≤ g .rank - 1
   unfolding leading
   lead = let c = b .counted in let l = leading-le (g .unlimitedFirst) (counts g) in omega arith

@@ -2,4 +2,8 @@ pub mod Tests
 pub mod Order
 pub mod Grids
 pub mod Places
+pub mod Members
 pub mod Extents
+pub mod Building
+pub mod Numbered
+pub mod Corners

@@ -1,20 +1,18 @@
 -- The dimension at each place of the grid's order, and what is stored place by place. Assumes nothing.
 use Prim.Native.Nat.{ℕ, zero, suc, _+_, _-_, _<_, _≤_}
 use mathlib.Core.Path.{_≡_, refl, sym, ap, _∙_}
-use mathlib.Core.Bool.{Bool, true, false, cond}
 use mathlib.Core.List.{List, [], _∷_, _++_}
 use mathlib.Core.Logic.{_⊎_, inl, inr, ⊎-elim}
 use native.Mathlib.Decide.{ℕ-discrete}
 use native.Mathlib.Omega.{arith}
 use native.Mathlib.Nat.{add-zero, zero-add}
 use borrow.Author.Tests.{lt-ltb, le-ltb}
-use lib.Dec.{ltb}
-use lib.ListN.{length, getD, take, drop, set, length-append, length-drop, length-set, List·getD-append}
+use lib.ListN.{length, getD, take, drop, set, length-set, List·getD-append}
 use lib.Seq.{getD-take, getD-drop, getD-append-add, getD-set-same, getD-set-other, length-take-le, ext-getD, sets, length-sets}
 use Rattle.chunk_grid.specs.Grid.{toFront, fromFront}
 use Rattle.chunk_grid.specs.Values.{dimAt}
 use Rattle.chunk_grid.proofs.Tests.{lt-or-ge}
-use Rattle.chunk_grid.proofs.Order.{front-is, front-back, length-back}
+use Rattle.chunk_grid.proofs.Order.{front-is, front-back, length-front, length-back}
 
 -- dimensions before the leading one are one place later, the others stand where they were
 pub dim-low : (u i : ℕ) → i < u → dimAt u (suc i) ≡ i
@@ -72,6 +70,19 @@ pub back-at : (u i : ℕ) (l : List ℕ) → u < length l → i < length l → g
 back-at u i l k h =
     let e = length-back u l (omega arith) in
     sym (front-at u i (fromFront u l) (omega arith) (omega arith)) ∙ ap (λ (m : List ℕ). getD m i 0) (front-back u l (omega arith))
+
+-- the first `rank` members of an array, in the grid's order
+abbrev pub inOrder : ℕ → ℕ → List ℕ → List ℕ
+inOrder rank u l = toFront u (take rank l)
+
+module _ (rank u : ℕ) (l : List ℕ) (leads : u ≤ rank - 1) (room : rank ≤ length l) where
+  pub length-order : length (inOrder rank u l) ≡ rank
+  length-order = let e = length-take-le rank l room in length-front u (take rank l) (omega arith) ∙ e
+
+  pub order-at : (i : ℕ) → i < rank → getD (inOrder rank u l) i 0 ≡ getD l (dimAt u i) 0
+  order-at i h =
+      let e = length-take-le rank l room in
+      front-at u i (take rank l) (omega arith) (omega arith) ∙ getD-take rank l (dimAt u i) 0 (dim-lt u rank i (omega arith) h)
 
 -- a run of stores, member by member
 sets-low : (w l : List ℕ) (i k : ℕ) → k < i → getD (sets l i w) k 0 ≡ getD l k 0

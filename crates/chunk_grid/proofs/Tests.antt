@@ -28,6 +28,9 @@ false-true h = let z : _≡_ {A = ℕ} 0 1 = cc in omega arith
 pub both : (a b : Bool) → a && b ≡ true → (a ≡ true) × (b ≡ true)
 both a b h = and-eq-true-iff a b .0 h
 
+pub not-both : (a b : Bool) → a && b ≡ false → a ≡ true → b ≡ false
+not-both a b h e = rw e at h
+
 pub neither : (a b : Bool) → a || b ≡ false → (a ≡ false) × (b ≡ false)
 neither true b h = let z : _≡_ {A = ℕ} 0 1 = cc in absurd (omega arith)
 neither false b h = (refl, h)

@@ -51,6 +51,10 @@ pub record Numbers (rank rotated : ℕ) (chunk down : List ℕ) (g : Grid) : Typ
   pub chunks : take rank chunk ≡ g .chunk
   pub downs : take rank down ≡ multipliers (ordered g)
 
+-- And its counts.
+abbrev pub Counted : ℕ → List ℕ → Grid → Type 0
+Counted rank l g = take rank l ≡ counts g
+
 -- And for its present extents: whether it numbers anything, and how many chunks the extents reach into in each dimension.
 pub record Extents (rank : ℕ) (numbers : Bool) (bound : List ℕ) (g : Grid) : Type 0 where
   pub numbering : numbers ≡ not (numbersNothing g)

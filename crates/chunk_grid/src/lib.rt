@@ -1,11 +1,21 @@
 // The chunk grid: which slot of a chunk index is which chunk's.
 ghost use mathlib.Core.Path.{_≡_};
-ghost use mathlib.Core.Bool.{cond};
-ghost use Prim.Native.Nat.{_*_, _/_, _%_, _<_, _≤_};
-ghost use lib.Dec.{ltb};
-ghost use Rattle.refusal.specs.Refusals.{largest64};
-ghost use Rattle.chunk_grid.specs.Grid.{Grid, inExtent};
-ghost use Rattle.chunk_grid.specs.Values.{dimAt, Numbers, Extents, handed};
+ghost use mathlib.Core.Bool.{false, not, cond, _&&_};
+ghost use mathlib.Core.List.{[]};
+ghost use Prim.Native.Nat.{_-_, _*_, _/_, _%_, _<_, _≤_, max};
+ghost use lib.Dec.{eqb, ltb};
+ghost use lib.ListN.{length, take, drop};
+ghost use lib.Seq.{sets};
+ghost use Rattle.refusal.specs.declared.Checked.the-variants.{Passed, Refused};
+ghost use Rattle.refusal.specs.Refusals.{largest64, refuse, _then_};
+ghost use Rattle.chunk_grid.specs.Grid.{Grid, pairwise, ceilDiv, countOf, firstUnlimited, leadingIn, toFront};
+ghost use Rattle.chunk_grid.specs.Grid.{multipliers, hasZero, inExtent, cornerTest, slotOf};
+ghost use Rattle.chunk_grid.specs.Grid.{shapesTest, multiplierTest, productTest, gridTest};
+ghost use Rattle.chunk_grid.specs.Values.{isUnlimitedFirst, given, gridOf, whereTested, dimAt, Numbers, Counted, Extents, handed};
+use fields::convert::Exact;
+use fields::convert::checked_add;
+use fields::convert::checked_mul;
+use refusal::Checked;
 use refusal::Refusal;
 
 // How a chunk index numbers its slots: dimensions in their order, or the first unlimited one in front.
@@ -24,6 +34,34 @@ pub struct ChunkGrid {
     pub order: GridOrder,
 }
 
+// A grid, where its test has passed; else one of rank 0.
+pub struct Built {
+    pub checked: Checked,
+    pub grid: ChunkGrid,
+}
+
+// What a grid's slots are numbered by, where its test has passed: the dimension in front; whether any slot is numbered at all; for each
+// dimension how many chunks the present extent reaches into, and its chunk count; and the multipliers, in the grid's order.
+pub struct Numbering {
+    pub checked: Checked,
+    pub rotated: u64,
+    pub numbers: bool,
+    pub bound: [u64; 32],
+    pub counts: [u64; 32],
+    pub down: [u64; 32],
+}
+
+struct Counts {
+    counts: [u64; 32],
+    bound: [u64; 32],
+}
+
+struct Multipliers {
+    checked: Checked,
+    numbers: bool,
+    down: [u64; 32],
+}
+
 // What a slot's offsets come to.
 pub enum Offsets {
     Inside,
@@ -35,6 +73,346 @@ pub enum Offsets {
 pub enum Slot {
     At(u64),
     NoSlot,
+}
+
+impl ChunkGrid {
+    // The grid of these shapes; without a maximum its present extents bound it.
+    pub fn new(
+        rank: u64,
+        chunk: &[u64],
+        present: &[u64],
+        has_maximum: bool,
+        maximum: &[u64],
+        order: GridOrder,
+    ) -> Built
+        ensures checked { λ r. ⌜ r .checked ≡ gridTest (given rank (now (chunk .entry)) (now (present .entry)) «has_maximum» (now (maximum .entry)) order) ⌝ }
+        ensures grid { λ r. ⌜ gridOf (r .grid) ≡ whereTested (r .checked) (given rank (now (chunk .entry)) (now (present .entry)) «has_maximum» (now (maximum .entry)) order) ⌝ }
+    {
+        let shapes = shapes_test(rank, chunk, present, has_maximum, maximum);
+        if let Checked::Refused(r) = shapes {
+            return refused_grid(r);
+        }
+        let chunk = padded(chunk);
+        let present = padded(present);
+        let maximum = padded(maximum);
+        let grid = ChunkGrid {
+            rank,
+            chunk,
+            present,
+            has_maximum,
+            maximum,
+            order,
+        };
+        let numbering = grid.numbering();
+        let checked = numbering.checked;
+        if let Checked::Refused(r) = checked {
+            return refused_grid(r);
+        }
+        Built { checked, grid }
+    }
+
+    // What the grid's slots are numbered by.
+    pub fn numbering(self) -> Numbering
+        ensures checked { λ r. ⌜ r .checked ≡ gridTest (gridOf self) ⌝ }
+        ensures numbers { λ r. ⌜ (r .checked ≡ Passed → (Numbers (self .rank) (r .rotated) (self .chunk) (r .down) (gridOf self)) × (Counted (self .rank) (r .counts) (gridOf self)) × (Extents (self .rank) (r .numbers) (r .bound) (gridOf self))) ⌝ }
+    {
+        if 32 < self.rank {
+            return refused_numbering(Refusal::RANK);
+        }
+        let rank = self.rank as usize;
+        let chunk = self.chunk;
+        if has_zero(&chunk[..rank]) {
+            return refused_numbering(Refusal::CHUNK_LENGTH);
+        }
+        let present = self.present;
+        let limits = self.limits();
+        let made = counts_of(&limits[..rank], &present[..rank], &chunk[..rank]);
+        let counts = made.counts;
+        let bound = made.bound;
+        let order = self.order;
+        let rotated = leading(order, &counts[..rank]);
+        let made = multipliers_of(&counts[..rank], rotated);
+        let down = made.down;
+        let behind = made.checked;
+        let checked = and_then(behind, product_test(&counts[..rank]));
+        Numbering {
+            checked,
+            rotated: rotated as u64,
+            numbers: made.numbers,
+            bound,
+            counts,
+            down,
+        }
+    }
+
+    // The extents that the counts are taken from: the maximum, else the present ones.
+    fn limits(self) -> [u64; 32]
+        ensures { λ r. ⌜ r ≡ cond (self .«has_maximum») (self .maximum) (self .present) ⌝ }
+    {
+        if self.has_maximum {
+            self.maximum
+        } else {
+            self.present
+        }
+    }
+
+    // Tests that a corner is a chunk's.
+    pub fn corner_test(self, corner: &[u64]) -> Checked
+        requires { ⌜ gridTest (gridOf self) ≡ Passed ⌝ }
+        ensures { λ r. ⌜ r ≡ cornerTest (gridOf self) (now (corner .entry)) ⌝ }
+    {
+        if corner.len() as u64 != self.rank {
+            return refused(Refusal::CORNER);
+        }
+        let chunk = self.chunk;
+        let present = self.present;
+        let mut i = 0;
+        while i < corner.len() {
+            if corner[i] % chunk[i] != 0 {
+                return refused(Refusal::CORNER);
+            }
+            if present[i] <= corner[i] {
+                return refused(Refusal::CORNER);
+            }
+            i += 1;
+        }
+        Checked::Passed
+    }
+}
+
+// Refused with this number, which names no figures.
+fn refused(number: u64) -> Checked
+    ensures { λ r. ⌜ r ≡ Refused (record { number = number; first = 0; second = 0 }) ⌝ }
+{
+    Checked::Refused(Refusal {
+        number,
+        first: 0,
+        second: 0,
+    })
+}
+
+fn refused_grid(r: Refusal) -> Built
+    ensures { λ b. ⌜ (b .checked ≡ Refused r) × (gridOf (b .grid) ≡ whereTested (Refused r) (gridOf (b .grid))) ⌝ }
+{
+    let zeros = [0u64; 32];
+    let grid = ChunkGrid {
+        rank: 0,
+        chunk: zeros,
+        present: zeros,
+        has_maximum: false,
+        maximum: zeros,
+        order: GridOrder::RowMajor,
+    };
+    Built {
+        checked: Checked::Refused(r),
+        grid,
+    }
+}
+
+fn refused_numbering(number: u64) -> Numbering
+    ensures { λ r. ⌜ r .checked ≡ Refused (record { number = number; first = 0; second = 0 }) ⌝ }
+{
+    let zeros = [0u64; 32];
+    Numbering {
+        checked: refused(number),
+        rotated: 0,
+        numbers: false,
+        bound: zeros,
+        counts: zeros,
+        down: zeros,
+    }
+}
+
+// The second test counts only where the first has passed.
+fn and_then(first: Checked, second: Checked) -> Checked
+    ensures { λ r. ⌜ r ≡ first then second ⌝ }
+{
+    match first {
+        Checked::Passed => second,
+        Checked::Refused(r) => Checked::Refused(r),
+    }
+}
+
+// Tests the lengths of the shapes.
+fn shapes_test(
+    rank: u64,
+    chunk: &[u64],
+    present: &[u64],
+    has_maximum: bool,
+    maximum: &[u64],
+) -> Checked
+    ensures { λ r. ⌜ ((o : GridOrder) → r ≡ shapesTest (given rank (now (chunk .entry)) (now (present .entry)) «has_maximum» (now (maximum .entry)) o)) ⌝ }
+{
+    if 32 < rank {
+        return refused(Refusal::RANK);
+    }
+    if chunk.len() as u64 != rank {
+        return refused(Refusal::RANK);
+    }
+    if present.len() as u64 != rank {
+        return refused(Refusal::PRESENT_RANK);
+    }
+    if has_maximum {
+        if maximum.len() as u64 != rank {
+            return refused(Refusal::MAXIMUM_RANK);
+        }
+    }
+    Checked::Passed
+}
+
+// The numbers of s in an array, up to 32 of them.
+fn padded(s: &[u64]) -> [u64; 32]
+    ensures { λ r. ⌜ take (length (now (s .entry))) r ≡ take 32 (now (s .entry)) ⌝ }
+{
+    let mut r = [0u64; 32];
+    let mut i = 0;
+    while i < 32 {
+        if s.len() <= i {
+            return r;
+        }
+        r[i] = s[i];
+        i += 1;
+    }
+    r
+}
+
+fn has_zero(s: &[u64]) -> bool
+    ensures { λ r. ⌜ r ≡ hasZero (now (s .entry)) ⌝ }
+{
+    let mut i = 0;
+    while i < s.len() {
+        if s[i] == 0 {
+            return true;
+        }
+        i += 1;
+    }
+    false
+}
+
+// a / b, rounded up.
+fn ceil_div(a: u64, b: u64) -> u64
+    requires { ⌜ 0 < b ⌝ }
+    ensures { λ r. ⌜ r ≡ ceilDiv a b ⌝ }
+{
+    if a % b == 0 { a / b } else { a / b + 1 }
+}
+
+// A dimension's chunk count.
+fn count_of(extent: u64, length: u64) -> u64
+    requires { ⌜ 0 < length ⌝ }
+    ensures { λ r. ⌜ r ≡ countOf extent length ⌝ }
+{
+    if extent == u64::MAX {
+        u64::MAX
+    } else {
+        ceil_div(extent, length)
+    }
+}
+
+// Every dimension's chunk count, and how many chunks its present extent reaches into.
+fn counts_of(limits: &[u64], present: &[u64], chunk: &[u64]) -> Counts
+    requires { ⌜ (length (now limits) ≡ length (now chunk)) × (length (now present) ≡ length (now chunk)) × (length (now chunk) ≤ 32) × (hasZero (now chunk) ≡ false) ⌝ }
+    ensures { λ r. ⌜ (take (length (now (chunk .entry))) (r .counts) ≡ pairwise countOf (now (limits .entry)) (now (chunk .entry))) × (take (length (now (chunk .entry))) (r .bound) ≡ pairwise ceilDiv (now (present .entry)) (now (chunk .entry))) ⌝ }
+{
+    let mut counts = [0u64; 32];
+    let mut bound = [0u64; 32];
+    let mut i = 0;
+    while i < chunk.len() {
+        let length = chunk[i];
+        counts[i] = count_of(limits[i], length);
+        bound[i] = ceil_div(present[i], length);
+        i += 1;
+    }
+    Counts { counts, bound }
+}
+
+// The first unlimited dimension; the rank where there is none.
+fn first_unlimited(counts: &[u64]) -> usize
+    ensures { λ r. ⌜ r ≡ firstUnlimited (now (counts .entry)) ⌝ }
+{
+    let mut i = 0;
+    while i < counts.len() {
+        if counts[i] == u64::MAX {
+            return i;
+        }
+        i += 1;
+    }
+    i
+}
+
+// The dimension in front of the grid's order.
+fn leading(order: GridOrder, counts: &[u64]) -> usize
+    ensures { λ r. ⌜ r ≡ leadingIn (isUnlimitedFirst order) (now (counts .entry)) ⌝ }
+{
+    match order {
+        GridOrder::RowMajor => 0,
+        GridOrder::UnlimitedFirst => {
+            let u = first_unlimited(counts);
+            if u < counts.len() { u } else { 0 }
+        }
+    }
+}
+
+fn at_least_one(n: u64) -> u64
+    ensures { λ r. ⌜ r ≡ max n 1 ⌝ }
+{
+    if n == 0 { 1 } else { n }
+}
+
+// The multipliers from the last dimension forward: the last is 1, each earlier one the next one times the following count.
+fn multipliers_of(counts: &[u64], rotated: usize) -> Multipliers
+    requires { ⌜ (length (now counts) ≤ 32) × (rotated ≤ length (now counts) - 1) ⌝ }
+    ensures checked { λ r. ⌜ r .checked ≡ multiplierTest (drop 1 (toFront rotated (now (counts .entry)))) ⌝ }
+    ensures made { λ r. ⌜ (r .checked ≡ Passed → (r .numbers ≡ not (hasZero (drop 1 (toFront rotated (now (counts .entry)))))) × (take (length (now (counts .entry))) (r .down) ≡ multipliers (toFront rotated (now (counts .entry))))) ⌝ }
+{
+    let mut down = [1u64; 32];
+    let mut numbers = true;
+    let mut i = counts.len();
+    while 1 < i {
+        i -= 1;
+        let count = counts[dim_at(i, rotated)];
+        if count == u64::MAX {
+            return Multipliers {
+                checked: refused(Refusal::UNLIMITED),
+                numbers,
+                down,
+            };
+        }
+        let Exact::Fits(next) = checked_mul(down[i], at_least_one(count)) else {
+            return Multipliers {
+                checked: refused(Refusal::TOO_MANY_CHUNKS),
+                numbers,
+                down,
+            };
+        };
+        down[i - 1] = next;
+        numbers = numbers & (count != 0);
+    }
+    Multipliers {
+        checked: Checked::Passed,
+        numbers,
+        down,
+    }
+}
+
+// Tests the product of all counts in dimension order, up to an unlimited one.
+fn product_test(counts: &[u64]) -> Checked
+    ensures { λ r. ⌜ r ≡ productTest 1 (now (counts .entry)) ⌝ }
+{
+    let mut product = 1u64;
+    let mut i = 0;
+    while i < counts.len() {
+        let count = counts[i];
+        if count == u64::MAX {
+            return Checked::Passed;
+        }
+        let Exact::Fits(next) = checked_mul(product, count) else {
+            return refused(Refusal::TOO_MANY_CHUNKS);
+        };
+        product = next;
+        i += 1;
+    }
+    Checked::Passed
 }
 
 // The dimension at place i of the grid's order: dimension `rotated` is in front, those before it are one place later.
@@ -133,4 +511,36 @@ pub fn offsets_in_extent(
     } else {
         Offsets::Dropped
     }
+}
+
+// The slot of a corner, where it has one.
+pub fn slot_of(
+    corner: &[u64],
+    rotated: usize,
+    chunk: &[u64; 32],
+    counts: &[u64; 32],
+    down: &[u64; 32],
+) -> Slot
+    requires { ⌜ ((g : Grid) × (Numbers (length (now corner)) rotated (now chunk) (now down) g) × (Counted (length (now corner)) (now counts) g)) ⌝ }
+    ensures { λ r. ⌜ ((g : Grid) → Numbers (length (now (corner .entry))) rotated (now (chunk .entry)) (now (down .entry)) g → Counted (length (now (corner .entry))) (now (counts .entry)) g
+        → r ≡ slotOf g (now (corner .entry))) ⌝ }
+{
+    let mut slot = 0u64;
+    let mut i = 0;
+    while i < corner.len() {
+        let d = dim_at(i, rotated);
+        let q = corner[d] / chunk[d];
+        if (0 < i) & (counts[d] <= q) {
+            return Slot::NoSlot;
+        }
+        let Exact::Fits(part) = checked_mul(q, down[i]) else {
+            return Slot::NoSlot;
+        };
+        let Exact::Fits(sum) = checked_add(slot, part) else {
+            return Slot::NoSlot;
+        };
+        slot = sum;
+        i += 1;
+    }
+    Slot::At(slot)
 }

@@ -1,9 +1,8 @@
 -- `chunk_grid::offset_overflows` meets its contract. Assumes nothing.
 use Prim.Native.Nat.{_*_, _/_, _<_, _≤_}
-use mathlib.Core.Path.{_≡_, sym, _∙_}
+use mathlib.Core.Path.{sym, _∙_}
 use mathlib.Core.Logic.{⊎-elim}
 use native.Mathlib.Nat.{div-lt-iff-lt-mul, le-div-iff-mul-le}
-use native.Mathlib.Omega.{arith}
 use borrow.Author.Needs.{needs}
 use borrow.Author.Tests.{lt-ltb, le-ltb}
 use Rattle.refusal.specs.Refusals.{largest64}

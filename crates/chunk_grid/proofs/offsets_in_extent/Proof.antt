@@ -1,22 +1,14 @@
-use Prim.Native.Nat.{ℕ, _-_, _<_, _≤_}
+use Prim.Native.Nat.{_-_, _<_}
 use native.Mathlib.Omega.{arith}
 use mathlib.Core.Path.{_≡_}
-use lib.ListN.{length}
 use Rattle.chunk_grid.specs.Grid.{Grid, inExtent}
 use Rattle.chunk_grid.specs.Values.{Numbers, Extents, handed}
 use borrow.Author.Needs.{needs}
 use borrow.Author.Tests.{not-true, not-false}
 use Rattle.chunk_grid.proofs.Places.{dim-lt}
-use Rattle.chunk_grid.proofs.Extents.{Turn, turn-first, turn-more, small, leads, chunk-pos, down-pos, rooms, offset-fits, answered, turned, unnumbered}
+use Rattle.chunk_grid.proofs.Extents.{Turn, turn-first, turn-more, small, leads, chunk-pos, down-pos, rooms, bound-room, offset-fits, answered, turned, unnumbered}
 use Rattle.chunk_grid.proofs.offsets_in_extent.Statement.{statement}
 use Rattle.chunk_grid.proofs.offsets_in_extent.Tie as tie
-use Rattle.chunk_grid.proofs.offsets_in_extent.Reads as reads
-use Rattle.chunk_grid.proofs.offsets_in_extent.Lts as lts
-use Rattle.chunk_grid.proofs.dim_at.Reads as dim-at-reads
-use Rattle.chunk_grid.proofs.offset_below.Reads as offset-below-reads
-use Rattle.chunk_grid.proofs.offset_overflows.Reads as offset-overflows-reads
-use Rattle.chunk_grid.proofs.quotient.Reads as quotient-reads
-use Rattle.chunk_grid.proofs.remainder.Reads as remainder-reads
 
 abbrev Inv-loop : tie.InvT-loop
 Inv-loop offsets₀ slot rank rotated numbers chunk bound down rest₀ inside₀ over₀ i₀ offsets rest inside over i =
@@ -104,8 +96,9 @@ loop-again c =
     let d = c .before .before .before .before .before .before .before in
     let l = d .before .before .loop in
     let p = d .before .before .before .before .pre in
+    let room = rooms _ _ _ _ _ (p .1) in
     rw (c .offset-overflows .ensures, c .before .offset-below .ensures, c .before .before .remainder .ensures, c .before .before .before .quotient .ensures, d .dim-at .ensures)
-    (turn-more _ _ _ _ _ _ (leads _ _ _ _ _ (p .1)) (rooms _ _ _ _ _ (p .1) _ _ (p .2)) _ _ _ _ _ _ (l .inv) (d .before .loop-test .taken))
+    (turn-more _ _ _ _ _ _ (leads _ _ _ _ _ (p .1)) (room .0, bound-room _ _ _ _ _ (p .1) _ _ (p .2), room .1) _ _ _ _ _ _ (l .inv) (d .before .loop-test .taken))
 
 returns-2 : tie.Need-returns-2 Inv-loop μ-loop
 returns-2 c = λ g n x. rw (c .if2 .taken) at (ended (c .before) g n x)

@@ -1,0 +1,217 @@
+-- What the loops that build a grid have at each turn. Assumes nothing.
+use Prim.Native.Nat.{ℕ, zero, suc, _+_, _-_, _*_, _/_, _%_, _<_, _≤_, min, max}
+use mathlib.Core.Path.{_≡_, refl, sym, ap, _∙_}
+use mathlib.Core.Bool.{Bool, true, false, not, _&&_, _||_}
+use mathlib.Core.List.{List, [], _∷_}
+use native.Mathlib.Decide.{ℕ-discrete}
+use native.Mathlib.Nat.{mul-comm, pos-of-ne-zero, div-add-mod', mod-lt, mul-le-mul-left}
+use native.Mathlib.Numerals.{add-one}
+use native.Mathlib.Omega.{arith}
+use borrow.Author.Tests.{eq-eqb, ne-eqb, lt-ltb, le-ltb}
+use lib.Arith.{digits-div}
+use lib.Dec.{eqb, ltb}
+use lib.ListN.{length, getD, take, drop, set, length-take, length-set, drop-of-length-le}
+use lib.Seq.{drop-cons, drop-drop, getD-take, getD-set-same, getD-set-other, ext-getD}
+use Rattle.refusal.specs.declared.Refusal.{Refusal}
+use Rattle.refusal.specs.declared.Checked.the-variants.{Passed, Refused}
+use Rattle.refusal.specs.Refusals.{largest64, refuse, _then_}
+use Rattle.chunk_grid.specs.Grid.{any, ceilDiv, firstUnlimited, leadingIn, multiplier, multipliers, hasZero, shapesTest, multiplierTest, productTest}
+use Rattle.chunk_grid.specs.Values.{given}
+use Rattle.chunk_grid.specs.declared.GridOrder.{GridOrder}
+use Rattle.chunk_grid.proofs.Members.{multiplier-at}
+use Rattle.chunk_grid.proofs.Grids.{length-multipliers}
+
+-- rounding up
+pub ceil-exact : (a b : ℕ) → 0 < b → a % b ≡ 0 → a / b ≡ ceilDiv a b
+unfolding ceilDiv
+ceil-exact a b pos e =
+    let d = div-add-mod' a b in
+    let s : a + (b - 1) ≡ a / b * b + (b - 1) = omega arith in
+    rw s (sym (digits-div (a / b) (omega arith)))
+
+pub ceil-over : (a b : ℕ) → 0 < b → (a % b ≡ 0 → ⊥) → (a / b + 1 ≡ ceilDiv a b) × (a / b + 1 ≤ a)
+unfolding ceilDiv
+ceil-over a b pos n =
+    let d = div-add-mod' a b in
+    let r = pos-of-ne-zero n in
+    let lt = mod-lt a pos in
+    let m = mul-le-mul-left (a / b) pos in
+    let s : a + (b - 1) ≡ (a / b + 1) * b + (a % b - 1) = omega arith in
+    (rw s (sym (digits-div (a / b + 1) (omega arith))), omega arith)
+
+-- the first unlimited dimension
+module _ (l : List ℕ) (i : ℕ) where
+  pub first-end : length l ≤ i → firstUnlimited (drop i l) ≡ 0
+  unfolding firstUnlimited
+  first-end h = rw (drop-of-length-le l {i = i} h) refl
+
+  pub first-stop : i < length l → getD l i 0 ≡ largest64 → firstUnlimited (drop i l) ≡ 0
+  unfolding firstUnlimited
+  first-stop h e = rw (drop-cons l i 0 h, eq-eqb (getD l i 0) largest64 e) refl
+
+  pub first-on : i < length l → (getD l i 0 ≡ largest64 → ⊥) → firstUnlimited (drop i l) ≡ suc (firstUnlimited (drop (i + 1) l))
+  unfolding firstUnlimited
+  first-on h n = rw (drop-cons l i 0 h, ne-eqb (getD l i 0) largest64 n, add-one) refl
+
+pub leads-first : (cs : List ℕ) → firstUnlimited cs < length cs → firstUnlimited cs ≡ leadingIn true cs
+unfolding leadingIn
+leads-first cs h = simp (lt-ltb (firstUnlimited cs) (length cs) h)
+
+pub leads-none : (cs : List ℕ) → length cs ≤ firstUnlimited cs → 0 ≡ leadingIn true cs
+unfolding leadingIn
+leads-none cs h = simp (le-ltb (firstUnlimited cs) (length cs) h)
+
+-- the lengths of the shapes
+module _ (rank : ℕ) (chunk present maximum : List ℕ) (o : GridOrder) where
+  pub rank-over : (has : Bool) → 32 < rank → Refused (record { number = 3; first = 0; second = 0 }) ≡ shapesTest (given rank chunk present has maximum o)
+  unfolding shapesTest given refuse _then_
+  rank-over has h = simp (lt-ltb 32 rank h)
+
+  module _ (small : rank ≤ 32) where
+    pub rank-differs : (has : Bool) → (length chunk ≡ rank → ⊥) → Refused (record { number = 3; first = 0; second = 0 }) ≡ shapesTest (given rank chunk present has maximum o)
+    unfolding shapesTest given refuse _then_
+    rank-differs has n = simp (le-ltb 32 rank small, ne-eqb (length chunk) rank n)
+
+    module _ (c : length chunk ≡ rank) where
+      pub present-differs : (has : Bool) → (length present ≡ rank → ⊥) → Refused (record { number = 4; first = 0; second = 0 }) ≡ shapesTest (given rank chunk present has maximum o)
+      unfolding shapesTest given refuse _then_
+      present-differs has n = simp (le-ltb 32 rank small, eq-eqb (length chunk) rank c, ne-eqb (length present) rank n)
+
+      module _ (p : length present ≡ rank) where
+        pub maximum-differs : (length maximum ≡ rank → ⊥) → Refused (record { number = 5; first = 0; second = 0 }) ≡ shapesTest (given rank chunk present true maximum o)
+        unfolding shapesTest given refuse _then_
+        maximum-differs n = simp (le-ltb 32 rank small, eq-eqb (length chunk) rank c, eq-eqb (length present) rank p, ne-eqb (length maximum) rank n)
+
+        pub shapes-agree : (has : Bool) → (has ≡ true → length maximum ≡ rank) → Passed ≡ shapesTest (given rank chunk present has maximum o)
+        unfolding shapesTest given refuse _then_
+        shapes-agree true m = simp (le-ltb 32 rank small, eq-eqb (length chunk) rank c, eq-eqb (length present) rank p, eq-eqb (length maximum) rank (m refl))
+        shapes-agree false m = simp (le-ltb 32 rank small, eq-eqb (length chunk) rank c, eq-eqb (length present) rank p)
+
+-- the product of the counts
+module _ (p i : ℕ) (l : List ℕ) where
+  pub product-end : length l ≤ i → productTest p (drop i l) ≡ Passed
+  unfolding productTest
+  product-end h = rw (drop-of-length-le l {i = i} h) refl
+
+  module _ (h : i < length l) where
+    pub product-unlimited : getD l i 0 ≡ largest64 → productTest p (drop i l) ≡ Passed
+    unfolding productTest
+    product-unlimited e = rw (drop-cons l i 0 h, eq-eqb (getD l i 0) largest64 e) refl
+
+    pub product-over : (getD l i 0 ≡ largest64 → ⊥) → largest64 < p * getD l i 0 → productTest p (drop i l) ≡ Refused (record { number = 8; first = 0; second = 0 })
+    unfolding productTest refuse _then_
+    product-over n k = rw (drop-cons l i 0 h, ne-eqb (getD l i 0) largest64 n, lt-ltb largest64 (p * getD l i 0) k) refl
+
+    pub product-on : (getD l i 0 ≡ largest64 → ⊥) → p * getD l i 0 ≤ largest64 → productTest p (drop i l) ≡ productTest (p * getD l i 0) (drop (i + 1) l)
+    unfolding productTest refuse _then_
+    product-on n k = rw (drop-cons l i 0 h, ne-eqb (getD l i 0) largest64 n, le-ltb largest64 (p * getD l i 0) k, add-one) refl
+
+-- a refusal behind is one in front
+pub refused-front : (k : ℕ) (cs : List ℕ) (r : Refusal) → multiplierTest (drop k cs) ≡ Refused r → multiplierTest cs ≡ Refused r
+unfolding multiplierTest _then_
+refused-front zero cs r h = h
+refused-front (suc k) [] r h = h
+refused-front (suc k) (c ∷ cs) r h = rw (refused-front k cs r h) refl
+
+-- What the loop of the multipliers has where the counts cs from place i on are done.
+pub record Made (cs : List ℕ) (i : ℕ) (numbers : Bool) (down : List ℕ) : Type 0 where
+  pub within : (min 1 (length cs) ≤ i) × (i ≤ length cs) × (length cs ≤ 32)
+  pub size : length down ≡ 32
+  pub tested : multiplierTest (drop i cs) ≡ Passed
+  pub numbering : numbers ≡ not (hasZero (drop i cs))
+  pub each : (j : ℕ) → i ≤ suc j → j < length cs → getD down j 0 ≡ multiplier (drop (suc j) cs)
+
+pub made-none : (cs down : List ℕ) → length cs ≤ 32 → length down ≡ 32 → ((j : ℕ) → j < 32 → getD down j 0 ≡ 1) → Made cs (length cs) true down
+unfolding multiplierTest hasZero any multiplier
+made-none cs down small size ones =
+    let e = drop-of-length-le cs {i = length cs} (omega arith) in
+    record {
+      within = (omega arith, omega arith, small);
+      size = size;
+      tested = rw e refl;
+      numbering = rw e refl;
+      each = λ j h k. ones j (omega arith) ∙ rw (drop-of-length-le cs {i = suc j} (omega arith)) refl;
+    }
+
+module _ (cs : List ℕ) (i : ℕ) (numbers : Bool) (down : List ℕ) (m : Made cs i numbers down) (more : 1 < i) where
+  abbrev pub count : ℕ
+  count = getD cs (i - 1) 0
+
+  abbrev pub next : ℕ
+  next = getD down (i - 1) 0 * max count 1
+
+  here : drop (i - 1) cs ≡ count ∷ drop i cs
+  here = let e : suc (i - 1) ≡ i = omega arith in drop-cons cs (i - 1) 0 (omega (arith, m .within)) ∙ ap (λ (k : ℕ). count ∷ drop k cs) e
+
+  next-is : next ≡ multiplier (drop (i - 1) cs)
+  unfolding multiplier
+  next-is =
+      let e : suc (i - 1) ≡ i = omega arith in
+      rw here (ap (λ (k : ℕ). k * max count 1) (m .each (i - 1) (omega arith) (omega (arith, m .within)) ∙ ap (λ (k : ℕ). multiplier (drop k cs)) e)
+      ∙ mul-comm (multiplier (drop i cs)) (max count 1))
+
+  test-here : multiplierTest (drop (i - 1) cs) ≡ refuse 7 0 0 (eqb count largest64) then refuse 8 0 0 (ltb largest64 next)
+  unfolding multiplierTest _then_
+  test-here =
+      ap multiplierTest here ∙ rw (m .tested) (ap (λ (k : ℕ). refuse 7 0 0 (eqb count largest64) then refuse 8 0 0 (ltb largest64 k)) (ap multiplier (sym here) ∙ sym next-is))
+
+  -- a refusal here is the whole test's
+  refused-here : (r : Refusal) → multiplierTest (drop (i - 1) cs) ≡ Refused r → multiplierTest (drop 1 cs) ≡ Refused r
+  refused-here r h =
+      let e : 1 + (i - 1 - 1) ≡ i - 1 = omega arith in
+      refused-front (i - 1 - 1) (drop 1 cs) r (ap multiplierTest (drop-drop (i - 1 - 1) 1 cs ∙ ap (λ (k : ℕ). drop k cs) e) ∙ h)
+
+  pub made-unlimited : count ≡ largest64 → multiplierTest (drop 1 cs) ≡ Refused (record { number = 7; first = 0; second = 0 })
+  unfolding refuse _then_
+  made-unlimited e = refused-here _ (test-here ∙ rw (eq-eqb count largest64 e) refl)
+
+  pub made-over : (count ≡ largest64 → ⊥) → largest64 < next → multiplierTest (drop 1 cs) ≡ Refused (record { number = 8; first = 0; second = 0 })
+  unfolding refuse _then_
+  made-over n h = refused-here _ (test-here ∙ rw (ne-eqb count largest64 n, lt-ltb largest64 next h) refl)
+
+  pub made-more : (count ≡ largest64 → ⊥) → next ≤ largest64 → Made cs (i - 1) (numbers && not (eqb count 0)) (set down (i - 1 - 1) next)
+  unfolding refuse _then_ hasZero any
+  made-more n h = record {
+    within = (omega arith, omega (arith, m .within), m .within .2);
+    size = length-set down (i - 1 - 1) next ∙ m .size;
+    tested = test-here ∙ rw (ne-eqb count largest64 n, le-ltb largest64 next h) refl;
+    numbering = rw (m .numbering, here) (de-morgan (hasZero (drop i cs)) (eqb count 0));
+    each = at;
+  }
+    where
+      de-morgan : (a b : Bool) → not a && not b ≡ not (b || a)
+      de-morgan true true = refl
+      de-morgan true false = refl
+      de-morgan false true = refl
+      de-morgan false false = refl
+
+      at : (j : ℕ) → i - 1 ≤ suc j → j < length cs → getD (set down (i - 1 - 1) next) j 0 ≡ multiplier (drop (suc j) cs)
+      at j low high = go (ℕ-discrete j (i - 1 - 1))
+        where
+          go : Dec (j ≡ i - 1 - 1) → getD (set down (i - 1 - 1) next) j 0 ≡ multiplier (drop (suc j) cs)
+          go (yes e) =
+              let f : suc j ≡ i - 1 = omega arith in
+              ap (λ (k : ℕ). getD (set down (i - 1 - 1) next) k 0) e
+              ∙ getD-set-same down (i - 1 - 1) next 0 (omega (arith, m .within, m .size)) ∙ next-is ∙ ap (λ (k : ℕ). multiplier (drop k cs)) (sym f)
+          go (no d) = getD-set-other down (i - 1 - 1) j next 0 d ∙ m .each j (omega arith) high
+
+-- all of them
+drop-one : (cs : List ℕ) (i : ℕ) → i ≤ 1 → min 1 (length cs) ≤ i → drop 1 cs ≡ drop i cs
+drop-one [] zero h k = refl
+drop-one (c ∷ cs) zero h k = absurd (omega arith)
+drop-one cs (suc zero) h k = refl
+drop-one cs (suc (suc i)) h k = absurd (omega arith)
+
+pub made-all : (cs : List ℕ) (i : ℕ) (numbers : Bool) (down : List ℕ) → Made cs i numbers down → i ≤ 1
+    → (multiplierTest (drop 1 cs) ≡ Passed) × (numbers ≡ not (hasZero (drop 1 cs))) × (take (length cs) down ≡ multipliers cs)
+made-all cs i numbers down m low =
+    let e = drop-one cs i low (m .within .0) in
+    let s = m .size in
+    let l = length-multipliers cs in
+    let t : length (take (length cs) down) ≡ length cs = length-take (length cs) down ∙ omega (arith, m .within) in (
+      rw e (m .tested),
+      rw e (m .numbering),
+      ext-getD 0 (take (length cs) down) (multipliers cs) (t ∙ sym l) (λ j h.
+          let k : j < length cs = omega arith in
+          getD-take (length cs) down j 0 k ∙ m .each j (omega arith) k ∙ sym (multiplier-at cs j k)),
+    )

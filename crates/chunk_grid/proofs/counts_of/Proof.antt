@@ -1,0 +1,125 @@
+-- `chunk_grid::counts_of` meets its contract. Assumes nothing.
+use lib.ListN.{length-set}
+use lib.Seq.{take-all}
+use lib.Dec.{eqb}
+use native.Mathlib.Nat.{pos-of-ne-zero}
+use borrow.Author.Tests.{eqb-false}
+use Rattle.chunk_grid.specs.Grid.{hasZero}
+use Rattle.chunk_grid.proofs.Members.{getD-pairwise, any-at}
+use Rattle.chunk_grid.proofs.Order.{length-pairwise}
+use mathlib.Core.Path.{_≡_, sym, ap, _∙_}
+use native.Mathlib.Omega.{arith}
+use borrow.Author.Needs.{needs}
+use Prim.Native.Nat.{ℕ, _-_, _≤_}
+use lib.ListN.{length, take}
+use Rattle.chunk_grid.specs.Grid.{pairwise, ceilDiv, countOf}
+use Rattle.chunk_grid.proofs.Members.{take-more}
+use Rattle.chunk_grid.proofs.counts_of.Statement.{statement}
+use Rattle.chunk_grid.proofs.counts_of.Tie as tie
+
+abbrev Inv-loop : tie.InvT-loop
+Inv-loop limits present chunk counts₀ bound₀ i₀ counts bound i =
+    (i ≤ length chunk) × (length counts ≡ 32) × (length bound ≡ 32) × (take i counts ≡ take i (pairwise countOf limits chunk)) × (take i bound ≡ take i (pairwise ceilDiv present chunk))
+
+abbrev μ-loop : tie.MeasureT-loop
+μ-loop limits present chunk counts₀ bound₀ i₀ counts bound i =
+    length chunk - i
+
+loop-holds : tie.Need-loop-holds Inv-loop μ-loop
+loop-holds c = search needs
+
+mul-length : tie.Need-mul-length Inv-loop μ-loop
+mul-length c = search needs
+
+shared-slice-read-length : tie.Need-shared-slice-read-length Inv-loop μ-loop
+shared-slice-read-length c = search needs
+
+mul-count-of : tie.Need-mul-count-of Inv-loop μ-loop
+mul-count-of c = search needs
+
+shared-slice-read-count-of : tie.Need-shared-slice-read-count-of Inv-loop μ-loop
+shared-slice-read-count-of c = search needs
+
+count-of-requires : tie.Need-count-of-requires Inv-loop μ-loop
+unfolding hasZero
+count-of-requires c κs =
+    let a = c .before .before .before .before .before .before .before in
+    pos-of-ne-zero (eqb-false _ 0 (any-at (λ (n : ℕ). eqb n 0) (a .args .chunk .now) _ (a .pre .3) (c .before .before .loop-test .taken)))
+
+mul-counts : tie.Need-mul-counts Inv-loop μ-loop
+mul-counts c = search needs
+
+array-write-counts : tie.Need-array-write-counts Inv-loop μ-loop
+array-write-counts c = search needs
+
+mul-ceil-div : tie.Need-mul-ceil-div Inv-loop μ-loop
+mul-ceil-div c = search needs
+
+shared-slice-read-ceil-div : tie.Need-shared-slice-read-ceil-div Inv-loop μ-loop
+shared-slice-read-ceil-div c = search needs
+
+ceil-div-requires : tie.Need-ceil-div-requires Inv-loop μ-loop
+ceil-div-requires c κs = count-of-requires (c .before .before) κs
+
+mul-bound : tie.Need-mul-bound Inv-loop μ-loop
+mul-bound c = search needs
+
+array-write-bound : tie.Need-array-write-bound Inv-loop μ-loop
+array-write-bound c = search needs
+
+add-i : tie.Need-add-i Inv-loop μ-loop
+add-i c = search needs
+
+loop-less : tie.Need-loop-less Inv-loop μ-loop
+loop-less c = search needs
+
+loop-again : tie.Need-loop-again Inv-loop μ-loop
+loop-again c =
+    let l = c .before .before .before .before .before .before .loop in
+    let t = c .before .before .before .before .before .loop-test .taken in
+    let s = c .before .before .before .before .before .before .before .before .before .before in
+    let x = s .args .limits .now in
+    let y = s .args .present .now in
+    let z = s .args .chunk .now in (
+      omega arith,
+      length-set (l .counts) (l .i) _ ∙ l .inv .1,
+      length-set (l .bound) (l .i) _ ∙ l .inv .2,
+      take-more (pairwise countOf x z) (l .counts) (l .i) _ (l .inv .3) (omega arith) (omega (arith, length-pairwise countOf x z (s .pre .0))) (c .before .before .count-of .ensures ∙ sym (getD-pairwise countOf x z (l .i) (s .pre .0) (omega arith))),
+      take-more (pairwise ceilDiv y z) (l .bound) (l .i) _ (l .inv .4) (omega arith) (omega (arith, length-pairwise ceilDiv y z (s .pre .1))) (c .ceil-div .ensures ∙ sym (getD-pairwise ceilDiv y z (l .i) (s .pre .1) (omega arith))),
+    )
+
+returns : tie.Need-returns Inv-loop μ-loop
+returns c =
+    let l = c .before .loop in
+    let s = c .before .before .before .before .before in
+    let x = s .args .limits .now in
+    let y = s .args .present .now in
+    let z = s .args .chunk .now in
+    let e : length z ≡ l .i = omega arith in (
+      ap (λ (n : ℕ). take n (l .counts)) e ∙ l .inv .3 ∙ take-all (l .i) (pairwise countOf x z) (omega (arith, length-pairwise countOf x z (s .pre .0))),
+      ap (λ (n : ℕ). take n (l .bound)) e ∙ l .inv .4 ∙ take-all (l .i) (pairwise ceilDiv y z) (omega (arith, length-pairwise ceilDiv y z (s .pre .1))),
+    )
+
+pub counts-of-spec : {M : Type 1} → statement M
+counts-of-spec =
+    tie.close
+    (tie.spec
+    Inv-loop
+    μ-loop
+    loop-holds
+    mul-length
+    shared-slice-read-length
+    mul-count-of
+    shared-slice-read-count-of
+    count-of-requires
+    mul-counts
+    array-write-counts
+    mul-ceil-div
+    shared-slice-read-ceil-div
+    ceil-div-requires
+    mul-bound
+    array-write-bound
+    add-i
+    loop-less
+    loop-again
+    returns)

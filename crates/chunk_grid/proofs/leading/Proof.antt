@@ -1,0 +1,32 @@
+-- `chunk_grid::leading` meets its contract. Assumes nothing.
+use Rattle.chunk_grid.proofs.Building.{leads-first, leads-none}
+use Rattle.chunk_grid.specs.Grid.{leadingIn}
+use Rattle.chunk_grid.specs.Values.{isUnlimitedFirst}
+use borrow.Author.Needs.{needs}
+use Rattle.chunk_grid.proofs.leading.Statement.{statement}
+use Rattle.chunk_grid.proofs.leading.Tie as tie
+
+enum-told : tie.Need-enum-told
+enum-told c = search needs
+
+enum-told-2 : tie.Need-enum-told-2
+enum-told-2 c = search needs
+
+first-unlimited-requires : tie.Need-first-unlimited-requires
+first-unlimited-requires c κs = search needs
+
+returns : tie.Need-returns
+unfolding leadingIn isUnlimitedFirst
+returns c = rw (c .enum-told .given .1)
+
+returns-2 : tie.Need-returns-2
+unfolding isUnlimitedFirst
+returns-2 c = rw (c .before .before .enum-told2 .given .1, c .before .first-unlimited .ensures) (leads-first _ (rw (← c .before .first-unlimited .ensures) (c .if1 .taken)))
+
+returns-3 : tie.Need-returns-3
+unfolding isUnlimitedFirst
+returns-3 c = rw (c .before .before .enum-told2 .given .1) (leads-none _ (rw (← c .before .first-unlimited .ensures) (c .if1 .left)))
+
+pub leading-spec : {M : Type 1} → statement M
+leading-spec =
+    tie.close (tie.spec enum-told enum-told-2 first-unlimited-requires returns returns-2 returns-3)
