@@ -12,7 +12,7 @@ use Rattle.refusal.specs.Outcome.{accepted}
 use Rattle.refusal.proofs.Outcomes.{yields-inv}
 use Rattle.chunk_grid.specs.Grid.{chunkAt, slotOf}
 use Rattle.chunk_grid.specs.declared.Slot.the-variants.{At}
-use Rattle.chunk_grid.proofs.Grids.{Built, built, chunk-slot, slot-chunk}
+use Rattle.chunk_grid.proofs.Grids.{Accepted, accepted as grid-accepted, chunk-slot, slot-chunk}
 use Rattle.ea_blocks.specs.declared.Entry.{Entry}
 use Rattle.ea_blocks.specs.Call.{Call, Rec}
 use Rattle.ea_blocks.specs.Places.{held, recordOf, recordAt, with, records}
@@ -79,7 +79,7 @@ whole c (suc m) s t r h k p =
     (eq-or-lt-of-le h)
 
 -- a grid that was built, of rank 1 at least, and a count that 64 bits hold
-module _ (c : Call) (b : Built (c .grid)) (ranked : 0 < c .grid .rank) (fits : c .header .«num_elements» ≤ largest64) where
+module _ (c : Call) (b : Accepted (c .grid)) (ranked : 0 < c .grid .rank) (fits : c .header .«num_elements» ≤ largest64) where
   abbrev count : ℕ
   count = c .header .«num_elements»
 
@@ -145,5 +145,5 @@ list-records c l h = walk-records c l (yields-inv _ _ l h .1)
 pub list-judged : (c : Call) (l : List Rec) → 0 < c .grid .rank → c .header .«num_elements» ≤ largest64 → list c ≡ accepted l → Judged c l (length l)
 unfolding list
 list-judged c l ranked fits h =
-    let b = built (c .grid) (yields-inv _ _ l h .0) in
+    let b = grid-accepted (c .grid) (yields-inv _ _ l h .0) in
     subst (λ (m : List Rec). Judged c m (length m)) (sym (list-records c l h)) (records-judged c b ranked fits)

@@ -18,7 +18,7 @@ use Rattle.refusal.proofs.Outcomes.{yields-inv, yields-passed}
 use Rattle.chunk_grid.specs.Grid.{Grid, gridTest, cornerTest, isChunk, slotOf, chunkAt}
 use Rattle.chunk_grid.specs.declared.Slot.{Slot}
 use Rattle.chunk_grid.specs.declared.Slot.the-variants.{At, NoSlot}
-use Rattle.chunk_grid.proofs.Grids.{Built, built, slot-chunk}
+use Rattle.chunk_grid.proofs.Grids.{Accepted, accepted as grid-accepted, slot-chunk}
 use Rattle.ea_header.specs.Served.{servedTest}
 use Rattle.ea_blocks.specs.declared.Entry.{Entry}
 use Rattle.ea_blocks.specs.Call.{Call, Rec}
@@ -55,7 +55,7 @@ slot-accepts c (At s) p = go (ltb s (c .header .«num_elements»)) refl
     go true e = p s (ltb-true s (c .header .«num_elements») e)
     go false e = refl
 
-module _ (c : Call) (corner : List ℕ) (b : Built (c .grid)) (k : isChunk (c .grid) corner ≡ true) where
+module _ (c : Call) (corner : List ℕ) (b : Accepted (c .grid)) (k : isChunk (c .grid) corner ≡ true) where
   own : (s : ℕ) → slotOf (c .grid) corner ≡ At s → chunkAt (c .grid) s ≡ some corner
   own s e = slot-chunk (c .grid) b corner s k e
 
@@ -99,7 +99,7 @@ is-chunk-test c corner h = not-false _ (refuse-inv _ _ _ _ h)
 pub lookup-answers : (c : Call) (corner : List ℕ) (x : Option Rec) → lookup c corner ≡ accepted x → Answers c corner x
 lookup-answers c corner x h =
     let p = passed c corner x h in
-    answers c corner (built (c .grid) (p .0)) (is-chunk-test c corner (p .1)) x (slot-record c (slotOf (c .grid) corner) x (p .2))
+    answers c corner (grid-accepted (c .grid) (p .0)) (is-chunk-test c corner (p .1)) x (slot-record c (slotOf (c .grid) corner) x (p .2))
 
 chunk-passes : (c : Call) (corner : List ℕ) → isChunk (c .grid) corner ≡ true → cornerTest (c .grid) corner ≡ Passed
 unfolding cornerTest refuse
