@@ -1,2 +1,3 @@
 pub mod Walks
 pub mod Judging
+pub mod Turns
