@@ -40,7 +40,7 @@ pub record Misses (c : Call) (s : ℕ) : Type 0 where
 pub record Ready (c : Call) (u : ℕ) : Type 0 where
   pub named : (isDirect c u ≡ true) ⊎ ((isDirect c u ≡ false) × (superUndefined c u ≡ false) × (testOf c (superBlock u) ≡ Passed))
 
-unreached : (c : Call) (s : ℕ) → reached c (place (c .header) s) ≡ false → recordAt c s ≡ none
+pub unreached : (c : Call) (s : ℕ) → reached c (place (c .header) s) ≡ false → recordAt c s ≡ none
 unfolding recordAt held heldAt recordOf
 unreached c s r = rw r refl
 
@@ -60,7 +60,7 @@ reached-record c s pos x r p h =
 pub led : (c : Call) (s pos : ℕ) (x : Option Rec) → Leads c s pos → answerOf (element c pos s) (offsets (c .grid) s) ≡ accepted x → recordAt c s ≡ x
 led c s pos x m h = reached-record c s pos x (m .reach) (m .position) h
 
-tested-inv : (c : Call) (l : List Structure) (rest : Outcome (Option Rec)) (x : Option Rec) → tested c l rest ≡ accepted x → rest ≡ accepted x
+pub tested-inv : (c : Call) (l : List Structure) (rest : Outcome (Option Rec)) (x : Option Rec) → tested c l rest ≡ accepted x → rest ≡ accepted x
 unfolding tested
 tested-inv c [] rest x h = h
 tested-inv c (y ∷ l) rest x h = tested-inv c l rest x (yields-inv _ _ x h .1)

@@ -1,3 +1,4 @@
 pub mod Walks
 pub mod Judging
 pub mod Turns
+pub mod Writing

@@ -1,3 +1,4 @@
 pub mod Walk
 pub mod Listing
 pub mod Judged
+pub mod Runs

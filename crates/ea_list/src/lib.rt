@@ -1,1 +1,7 @@
 // The chunk list.
+
+// The slots from some slot on: so many of them have no element, or so many have theirs in the file from a position on.
+pub enum Run {
+    Gap(u64),
+    Elements { pos: u64, slots: u64 },
+}

@@ -1,0 +1,24 @@
+-- What the code's values stand for: runs of slots.
+use Prim.Native.Nat.{ℕ, _+_, _*_, _<_, _≤_}
+use mathlib.Core.Path.{_≡_}
+use mathlib.Core.Bool.{true, false}
+use lib.ListN.{length}
+use Rattle.ea_geometry.specs.Extents.{elementStride}
+use Rattle.ea_geometry.specs.Place.{place}
+use Rattle.ea_blocks.specs.Call.{Call}
+use Rattle.ea_blocks.specs.Places.{reached, positionOf}
+use Rattle.ea_list.specs.declared.Run.{Run}
+use Rattle.ea_list.specs.declared.Run.the-variants.{Gap, Elements}
+
+-- slot s has its element at pos
+pub record HasAt (c : Call) (s pos : ℕ) : Type 0 where
+  pub reach : reached c (place (c .header) s) ≡ true
+  pub position : positionOf c (place (c .header) s) ≡ pos
+
+-- the slots from s on are such a run
+abbrev pub RunOf : Call → ℕ → Run → Type 0
+RunOf c s (Gap n) = (0 < n) × ((i : ℕ) → i < n → reached c (place (c .header) (s + i)) ≡ false)
+RunOf c s (Elements pos n) =
+    (0 < n)
+    × (pos + n * elementStride (c .header) (c .offsetSize) ≤ length (c .file))
+    × ((i : ℕ) → i < n → HasAt c (s + i) (pos + i * elementStride (c .header) (c .offsetSize)))
