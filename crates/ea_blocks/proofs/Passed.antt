@@ -26,7 +26,7 @@ pub record Way (c : Call) (u k : ℕ) (inner : List Structure) (rest : Outcome (
   pub block : blockReached c u k ≡ true → (testOf c (dataBlock u k) ≡ Passed) × (tested c inner rest ≡ accepted x)
 
 -- no data block is reached through an undefined super block
-gone : (c : Call) (u k : ℕ) → isDirect c u ≡ false → superUndefined c u ≡ true → blockReached c u k ≡ false
+pub gone : (c : Call) (u k : ℕ) → isDirect c u ≡ false → superUndefined c u ≡ true → blockReached c u k ≡ false
 unfolding blockReached
 gone c u k d e = rw (d, e) refl
 

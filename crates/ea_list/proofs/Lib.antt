@@ -2,3 +2,4 @@ pub mod Walks
 pub mod Judging
 pub mod Turns
 pub mod Writing
+pub mod Runs

@@ -54,7 +54,7 @@ element-inv (Chunk e) k a l h = let i = also-inv _ a l h in (some _, i .0, refl,
 element-inv (ElementRefused r) k a l h = absurd (never r l h)
 
 -- a block that is read by pages has more elements than a page
-in-pages-over : (h : ExtensibleArrayHeader) (u : ℕ) → inPages h u ≡ true → overPage h u ≡ true
+pub in-pages-over : (h : ExtensibleArrayHeader) (u : ℕ) → inPages h u ≡ true → overPage h u ≡ true
 unfolding inPages
 in-pages-over h u q = both (leb (directSuperBlocks h) u) (overPage h u) q .1
 
