@@ -1,6 +1,7 @@
 -- What a list or a lookup looks at, and what it gives.
 use Prim.Native.Nat.{ℕ}
 use mathlib.Core.List.{List}
+use Rattle.checksum.specs.Lookup3.{lookup3}
 use Rattle.chunk_grid.specs.Grid.{Grid}
 use Rattle.ea_header.specs.declared.ExtensibleArrayHeader.{ExtensibleArrayHeader}
 use Rattle.ea_blocks.specs.declared.Entry.{Entry}
@@ -14,6 +15,17 @@ pub record Call : Type 0 where
   pub offsetSize : ℕ
   pub grid : Grid
   pub elementBytes : ℕ
+
+-- One function builds a call: with lookup3 as its checksum.
+abbrev pub callOf : List ℕ → ExtensibleArrayHeader → ℕ → Grid → ℕ → Call
+callOf file header offsetSize grid elementBytes = record {
+  file = file;
+  sum = lookup3;
+  header = header;
+  offsetSize = offsetSize;
+  grid = grid;
+  elementBytes = elementBytes;
+}
 
 -- a record of the list: what the chunk's place holds, and the chunk's corner
 pub record Rec : Type 0 where

@@ -3,3 +3,4 @@ pub mod Judging
 pub mod Turns
 pub mod Writing
 pub mod Runs
+pub mod ChunkBytes

@@ -67,10 +67,13 @@ module _ (c : Call) (v : Served (c .header)) where
   pub inline-run : (i : ℕ) → i < c .header .«idx_blk_elmts» → indexAt c + inlineElementAt (c .header) (c .offsetSize) (c .header .«idx_blk_elmts») ≤ length (c .file)
       → RunOf c i (Elements (indexAt c + inlineElementAt (c .header) (c .offsetSize) i) (c .header .«idx_blk_elmts» - i))
   unfolding inlineElementAt elementAt reached positionOf
-  inline-run i lt room =
-      (omega arith, room-is, λ j k.
-      let e = place-inline (c .header) v (i + j) (omega arith) in
-      record { reach = has e; position = at j e })
+  inline-run i lt room = (
+    omega arith,
+    room-is,
+    λ j k.
+        let e = place-inline (c .header) v (i + j) (omega arith) in
+        record { reach = has e; position = at j e },
+  )
     where
       has : {s : ℕ} → place (c .header) s ≡ Inline s → reached c (place (c .header) s) ≡ true
       has e = rw e refl
@@ -91,10 +94,12 @@ module _ (c : Call) (v : Served (c .header)) where
   -- behind an undefined super block
   pub super-gap : (s u : ℕ) → u < superBlocks (c .header) → firstSlot (c .header) u ≤ s → s < firstSlot (c .header) (u + 1)
       → isDirect c u ≡ false → superUndefined c u ≡ true → RunOf c s (Gap (firstSlot (c .header) (u + 1) - s))
-  super-gap s u hu lo hi d w =
-      (omega arith, λ j lt.
-      let b = super-block-slots (c .header) v (s + j) u hu (omega arith) (omega arith) in
-      not-reached (s + j) u (b .0) (b .1) (b .2) (gone c u (b .0) d w))
+  super-gap s u hu lo hi d w = (
+    omega arith,
+    λ j lt.
+        let b = super-block-slots (c .header) v (s + j) u hu (omega arith) (omega arith) in
+        not-reached (s + j) u (b .0) (b .1) (b .2) (gone c u (b .0) d w),
+  )
     where
       not-reached : (t u′ k i : ℕ) → InBlock (c .header) t u′ k i → blockReached c u′ k ≡ false → reached c (place (c .header) t) ≡ false
       not-reached t u′ k i b r = rw (place-is (c .header) v t u′ k i b) (unreached-in u′ k i r)
@@ -112,10 +117,13 @@ module _ (c : Call) (v : Served (c .header)) where
         → RunOf c s (Elements (blockAt c u k + blockElementAt (c .header) (c .offsetSize) i) (blockElements (c .header) u - i))
     unfolding blockElementAt elementAt
     block-run r q room =
-        let lt = b .element in
-        (omega arith, room-is (omega arith), λ j l.
-        let e = place-is (c .header) v (s + j) u k (i + j) (later (c .header) s u k i j b (omega arith)) in
-        record { reach = rw e (reach j); position = rw e (at j) })
+        let lt = b .element in (
+          omega arith,
+          room-is (omega arith),
+          λ j l.
+              let e = place-is (c .header) v (s + j) u k (i + j) (later (c .header) s u k i j b (omega arith)) in
+              record { reach = rw e (reach j); position = rw e (at j) },
+        )
       where
         reach : (j : ℕ) → reached c (placeIn (c .header) u k (i + j)) ≡ true
         reach j = block-reached u k (i + j) r q
@@ -179,12 +187,15 @@ module _ (c : Call) (v : Served (c .header)) where
           → RunOf c s (Elements (blockAt c u k + pagedElementAt (c .header) (c .offsetSize) i) left)
       unfolding pagedElementAt elementAt dataPageAt
       page-run r t room =
-          let m = in-page in
-          (omega arith, room-is, λ j l.
-          record {
-            reach = rw (place-at j l) (page-reached u k (i + j) q ∙ rw (r, same-page j l, t) refl);
-            position = rw (place-at j l) (page-position u k (i + j) q ∙ ap (λ (x : ℕ). blockAt c u k + x) (rw (same-page j l, same-rest j l) refl) ∙ at j);
-          })
+          let m = in-page in (
+            omega arith,
+            room-is,
+            λ j l.
+                record {
+                  reach = rw (place-at j l) (page-reached u k (i + j) q ∙ rw (r, same-page j l, t) refl);
+                  position = rw (place-at j l) (page-position u k (i + j) q ∙ ap (λ (x : ℕ). blockAt c u k + x) (rw (same-page j l, same-rest j l) refl) ∙ at j);
+                },
+          )
         where
           at : (j : ℕ) → blockAt c u k + (pageAt (c .header) (c .offsetSize) (i / pe) + (i % pe + j) * elementStride (c .header) (c .offsetSize))
               ≡ blockAt c u k + (pageAt (c .header) (c .offsetSize) (i / pe) + i % pe * elementStride (c .header) (c .offsetSize)) + j * elementStride (c .header) (c .offsetSize)

@@ -1,7 +1,9 @@
 -- What fits 64 bits, and what 32. Assumes nothing.
 use mathlib.Core.Path.{_≡_, refl}
 use mathlib.Core.Bool.{Bool, true, false}
-use Prim.Native.Nat.{ℕ, _+_, _^_, _-_, _<_, _≤_}
+use Prim.Native.Nat.{ℕ, zero, suc, _+_, _*_, _^_, _-_, _<_, _≤_, min}
+use mathlib.Core.Logic.{_⊎_, inl, inr, ⊎-elim}
+use Rattle.refusal.proofs.Tests.{lt-or-ge}
 use native.Mathlib.Omega.{arith}
 use lib.Dec.{leb}
 use borrow.Author.Tests.{le-leb, lt-leb, lt-ltb, le-ltb, leb-true, leb-false}
@@ -69,3 +71,23 @@ too-wide-is (Refused q) n r h = cc
 pub figure-sum : (a b d : ℕ) → figure (figure (a + figure b) + figure d) ≡ figure (a + b + d)
 unfolding figure
 figure-sum a b d = omega arith
+
+-- a factor past 2^64 − 1 may be given as 2^64 − 1
+pub figure-mul : (a b : ℕ) → figure (a * figure b) ≡ figure (a * b)
+unfolding figure
+figure-mul a b = ⊎-elim (λ (le : b ≤ largest64). let e : min b largest64 ≡ b = omega arith in rw e refl) (λ (lt : largest64 < b). over a lt) (le-or-lt b)
+  where
+    le-or-lt : (n : ℕ) → (n ≤ largest64) ⊎ (largest64 < n)
+    le-or-lt n = ⊎-elim (λ (h : n < largest64 + 1). inl (omega arith)) (λ (h : largest64 + 1 ≤ n). inr (omega arith)) (lt-or-ge n (largest64 + 1))
+
+    over : (a : ℕ) → largest64 < b → min (a * min b largest64) largest64 ≡ min (a * b) largest64
+    over zero lt = let x : 0 * min b largest64 ≡ 0 = omega arith in let y : 0 * b ≡ 0 = omega arith in rw (x, y) refl
+    over (suc a) lt =
+        let e : min b largest64 ≡ largest64 = omega arith in
+        let x : largest64 ≤ suc a * largest64 = omega arith in
+        let y : largest64 ≤ suc a * b = (let z : suc a * b ≡ b + a * b = omega arith in omega arith) in
+        rw e (omega arith)
+
+pub figure-le : (n : ℕ) → figure n ≤ largest64
+unfolding figure
+figure-le n = omega arith
