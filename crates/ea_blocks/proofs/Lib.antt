@@ -1,2 +1,3 @@
 pub mod Elements
 pub mod Paths
+pub mod StructureTests
