@@ -1,3 +1,4 @@
 pub mod Elements
 pub mod Paths
 pub mod Passed
+pub mod StructureTests
