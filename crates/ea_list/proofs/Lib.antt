@@ -2,5 +2,5 @@ pub mod Walks
 pub mod Judging
 pub mod Turns
 pub mod Writing
-pub mod Runs
+pub mod PlaceRuns
 pub mod ChunkBytes

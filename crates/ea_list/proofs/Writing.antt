@@ -22,7 +22,7 @@ use Rattle.ea_blocks.specs.Places.{reached, positionOf, recordAt, with, records
 use Rattle.ea_blocks.specs.Runs.{Listing, also, alsoElement, elements}
 use Rattle.ea_blocks.proofs.Paths.{unreached}
 use Rattle.ea_blocks.proofs.Passed.{reached-element}
-use Rattle.ea_list.specs.declared.Run.the-variants.{Gap, Elements}
+use Rattle.ea_list.specs.declared.runs.Run.the-variants.{Gap, Elements}
 use Rattle.ea_list.specs.Runs.{HasAt, RunOf}
 
 with-more : (x : Option Rec) (l m : List Rec) → with x (l ++ m) ≡ with x l ++ m

@@ -6,9 +6,12 @@ use lib.ListN.{length}
 use Rattle.ea_geometry.specs.Extents.{elementStride}
 use Rattle.ea_geometry.specs.Place.{place}
 use Rattle.ea_blocks.specs.Call.{Call}
-use Rattle.ea_blocks.specs.Places.{reached, positionOf}
-use Rattle.ea_list.specs.declared.Run.{Run}
-use Rattle.ea_list.specs.declared.Run.the-variants.{Gap, Elements}
+use Rattle.ea_blocks.specs.Structures.{isDirect, superAt, blockAt, superUndefined}
+use Rattle.ea_blocks.specs.Places.{blockReached, reached, positionOf}
+use Rattle.ea_list.specs.declared.runs.Reach.{Reach}
+use Rattle.ea_list.specs.declared.runs.Reach.the-variants.{NoSuper, NoBlock, Block}
+use Rattle.ea_list.specs.declared.runs.Run.{Run}
+use Rattle.ea_list.specs.declared.runs.Run.the-variants.{Gap, Elements}
 
 -- slot s has its element at pos
 pub record HasAt (c : Call) (s pos : ℕ) : Type 0 where
@@ -22,3 +25,9 @@ RunOf c s (Elements pos n) =
     (0 < n)
     × (pos + n * elementStride (c .header) (c .offsetSize) ≤ length (c .file))
     × ((i : ℕ) → i < n → HasAt c (s + i) (pos + i * elementStride (c .header) (c .offsetSize)))
+
+-- how far the pointers to data block k of super block u lead
+abbrev pub ReachedBy : Call → ℕ → ℕ → Reach → Type 0
+ReachedBy c u k NoSuper = (isDirect c u ≡ false) × (superUndefined c u ≡ true)
+ReachedBy c u k NoBlock = blockReached c u k ≡ false
+ReachedBy c u k (Block super at) = (blockReached c u k ≡ true) × (at ≡ blockAt c u k) × (isDirect c u ≡ false → super ≡ superAt c u)

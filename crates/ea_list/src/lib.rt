@@ -6,11 +6,7 @@ ghost use Rattle.refusal.specs.Refusals.{figure};
 ghost use Rattle.ea_blocks.specs.Elements.{product};
 use fields::convert::saturating_mul;
 
-// The slots from some slot on: so many of them have no element, or so many have theirs in the file from a position on.
-pub enum Run {
-    Gap(u64),
-    Elements { pos: u64, slots: u64 },
-}
+pub mod runs;
 
 // The bytes of a chunk, the product of its lengths and the element's bytes, or 2^64 - 1 where they are more.
 fn chunk_bytes(chunk: &[u64; 32], rank: usize, element_bytes: u64) -> u64

@@ -21,7 +21,7 @@ use Rattle.ea_blocks.specs.Call.{Call}
 use Rattle.ea_blocks.specs.Structures.{indexAt, isDirect, blockAt, dataPageAt, superUndefined, bitSet, pageSet}
 use Rattle.ea_blocks.specs.Places.{blockReached, reached, positionOf}
 use Rattle.ea_blocks.proofs.Passed.{gone}
-use Rattle.ea_list.specs.declared.Run.the-variants.{Gap, Elements}
+use Rattle.ea_list.specs.declared.runs.Run.the-variants.{Gap, Elements}
 use Rattle.ea_list.specs.Runs.{HasAt, RunOf}
 use Rattle.ea_list.proofs.Walks.{in-pages-over}
 
