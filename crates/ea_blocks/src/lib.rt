@@ -12,6 +12,8 @@ use fields::bytes::read_u32_le_padded;
 use refusal::Checked;
 use refusal::Refusal;
 
+pub mod read;
+
 // The kinds of structures that an index is made of, behind its header.
 pub enum Kind {
     IndexBlock,
