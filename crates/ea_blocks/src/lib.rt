@@ -12,6 +12,7 @@ use fields::bytes::read_u32_le_padded;
 use refusal::Checked;
 use refusal::Refusal;
 
+pub mod count;
 pub mod read;
 
 // The kinds of structures that an index is made of, behind its header.

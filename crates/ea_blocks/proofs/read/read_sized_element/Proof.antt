@@ -9,7 +9,6 @@ use Rattle.ea_blocks.proofs.Sized.{sized-stride, sized-width, entry, el
 use borrow.Author.Needs.{needs}
 use Rattle.ea_blocks.proofs.read.read_sized_element.Statement.{statement}
 use Rattle.ea_blocks.proofs.read.read_sized_element.Tie as tie
-use Rattle.ea_blocks.proofs.read.read_sized_element.Reads as reads
 
 read-address-requires : tie.Need-read-address-requires
 read-address-requires c κs =
@@ -20,7 +19,7 @@ is-undefined-addr-requires : tie.Need-is-undefined-addr-requires
 is-undefined-addr-requires c κs = search needs
 
 returns : tie.Need-returns
-returns c = λ k reads. element-undefined k _ _ _ _ _ reads (c .before .before .before .before .pre .1) _ _ _ _ (c .before .before .read-address .ensures) (sym (c .before .is-undefined-addr .ensures) ∙ c .if1 .taken)
+returns c = λ k q. element-undefined k _ _ _ _ _ q (c .before .before .before .before .pre .1) _ _ _ _ (c .before .before .read-address .ensures) (sym (c .before .is-undefined-addr .ensures) ∙ c .if1 .taken)
 
 offsets-in-extent-requires : tie.Need-offsets-in-extent-requires
 offsets-in-extent-requires c κs = search needs
@@ -43,25 +42,25 @@ defined : (c : tie.After-offsets-in-extent) (k : Call)
     → (o : Offsets) → c .offsets-in-extent .result ≡ o
     → (insideOnly o (entry k (c .before .before .before .before .before .before .args .pos) (c .before .before .before .before .read-address .result .value)) ≡ element k (c .before .before .before .before .before .before .args .pos) (c .before .before .before .before .before .before .args .slot))
     × (c .offsets-in-extent .last .0 ≡ offsetsLeft k (c .before .before .before .before .before .before .args .pos) (c .before .before .before .before .before .before .args .slot) (c .before .before .before .before .before .before .args .offsets .now))
-defined c k reads o e =
+defined c k q o e =
     let g = c .before .before .before .before .before .before in
-    let x = c .offsets-in-extent .ensures (k .grid) (reads .numbered) (reads .extended) in
-    element-defined k _ _ _ _ _ reads (g .pre .1) _ _ _ _ (c .before .before .before .before .read-address .ensures)
+    let x = c .offsets-in-extent .ensures (k .grid) (q .numbered) (q .extended) in
+    element-defined k _ _ _ _ _ q (g .pre .1) _ _ _ _ (c .before .before .before .before .read-address .ensures)
     (sym (c .before .before .before .is-undefined-addr .ensures) ∙ c .before .before .if1 .left) o _ (sym e ∙ x .0, x .1)
 
 returns-2 : tie.Need-returns-2
 unfolding insideOnly
-returns-2 c = λ k reads.
-    let d = defined (c .before .before .before) k reads _ (c .before .enum-told .given .1) in
-    (c .read-entry .ensures k (reads .bytes) (reads .header) (reads .offset) (reads .chunked) ∙ d .0, d .1)
+returns-2 c = λ k q.
+    let d = defined (c .before .before .before) k q _ (c .before .enum-told .given .1) in
+    (c .read-entry .ensures k (q .bytes) (q .header) (q .offset) (q .chunked) ∙ d .0, d .1)
 
 returns-3 : tie.Need-returns-3
 unfolding insideOnly
-returns-3 c = λ k reads. defined (c .before .before) k reads _ (c .enum-told2 .given .1)
+returns-3 c = λ k q. defined (c .before .before) k q _ (c .enum-told2 .given .1)
 
 returns-4 : tie.Need-returns-4
 unfolding insideOnly
-returns-4 c = λ k reads. defined (c .before .before .before) k reads _ (c .before .r .given .1)
+returns-4 c = λ k q. defined (c .before .before .before) k q _ (c .before .r .given .1)
 
 pub read-sized-element-spec : {M : Type 1} → statement M
 read-sized-element-spec =
