@@ -1,4 +1,8 @@
 pub mod Elements
+pub mod Sized
+pub mod Runs
+pub mod Turns
+pub mod Counting
 pub mod Paths
 pub mod Passed
 pub mod StructureTests

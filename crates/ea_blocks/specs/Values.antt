@@ -3,6 +3,8 @@ use Prim.Native.Nat.{ℕ}
 use mathlib.Core.Path.{_≡_}
 use mathlib.Core.Bool.{Bool, cond}
 use mathlib.Core.List.{List}
+use Rattle.refusal.specs.declared.Checked.{Checked}
+use Rattle.refusal.specs.declared.Checked.the-variants.{Passed, Refused}
 use Rattle.refusal.specs.Refusals.{figure}
 use Rattle.fields.specs.Fields.{undefinedAt}
 use Rattle.chunk_grid.specs.Values.{Numbers, Extents, handed}
@@ -12,7 +14,7 @@ use Rattle.ea_blocks.specs.declared.Reading.{Reading}
 use Rattle.ea_blocks.specs.declared.structures.Pointer.{Pointer}
 use Rattle.ea_blocks.specs.declared.structures.Pointer.the-variants.{Undefined, At}
 use Rattle.ea_blocks.specs.Call.{Call}
-use Rattle.ea_blocks.specs.Elements.{chunkBytes}
+use Rattle.ea_blocks.specs.Elements.{chunkBytes, elementSizeTest}
 
 -- What elements of a call are read by: the file, a `Reading`, and the arrays of the grid's numbering.
 pub record Reads (c : Call) (file : List ℕ) (r : Reading) (chunk bound down : List ℕ) : Type 0 where
@@ -37,3 +39,10 @@ pub record Sees (c : Call) (file : List ℕ) (g : EaGeometry) : Type 0 where
 -- what a pointer says
 unfoldable pub pointerOf : Bool → ℕ → Pointer
 pointerOf undefined address = cond undefined Undefined (At address)
+-- An element whose size is refused leaves the array.
+unfoldable pub leftWhere : Checked → List ℕ → List ℕ → List ℕ
+leftWhere Passed left l = left
+leftWhere (Refused r) left l = l
+
+unfoldable pub offsetsAfter : Call → ℕ → ℕ → List ℕ → List ℕ
+offsetsAfter c pos s l = leftWhere (elementSizeTest (c .header) (c .offsetSize)) (offsetsLeft c pos s l) l

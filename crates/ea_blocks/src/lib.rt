@@ -13,6 +13,8 @@ use refusal::Checked;
 use refusal::Refusal;
 
 pub mod structures;
+pub mod count;
+pub mod read;
 
 // The kinds of structures that an index is made of, behind its header.
 pub enum Kind {

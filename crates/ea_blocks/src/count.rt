@@ -1,0 +1,108 @@
+// A run of elements tested, and its records counted.
+ghost use mathlib.Core.Path.{_≡_};
+ghost use mathlib.Core.List.{[]};
+ghost use Prim.Native.Nat.{_+_, _-_, _*_, _≤_, min};
+ghost use lib.ListN.{length};
+ghost use Rattle.refusal.specs.declared.Checked.the-variants.{Passed};
+ghost use Rattle.refusal.specs.Outcome.{accepted};
+ghost use Rattle.ea_geometry.specs.Extents.{elementStride};
+ghost use Rattle.ea_blocks.specs.Call.{Call};
+ghost use Rattle.ea_blocks.specs.Elements.{elementSizeTest};
+ghost use Rattle.ea_blocks.specs.Runs.{elements, countedOf};
+ghost use Rattle.ea_blocks.specs.Values.{Reads};
+use crate::Counted;
+use crate::Element;
+use crate::Reading;
+use crate::read::read_sized_element;
+use crate::read::test_element_size;
+use refusal::Checked;
+
+// Tests and counts n elements from pos on, whose slots begin at `slot`, up to the published count.
+pub fn count_elements(
+    file: &[u8],
+    pos: u64,
+    n: u64,
+    slot: u64,
+    reading: Reading,
+    chunk: &[u64; 32],
+    bound: &[u64; 32],
+    down: &[u64; 32],
+) -> Counted
+    requires { ⌜ ((c : Call) × Reads c (now file) reading (now chunk) (now bound) (now down))
+        × (pos + n * elementStride (reading .geometry .header) (reading .geometry .«offset_size») ≤ length (now file)) ⌝ }
+    ensures { λ r. ⌜ ((c : Call) → Reads c (now (file .entry)) reading (now (chunk .entry)) (now (bound .entry)) (now (down .entry))
+        → r ≡ countedOf (elements c pos n slot (accepted []))) ⌝ }
+{
+    let left = below_count(n, slot, reading.geometry.header.num_elements);
+    if left == 0 {
+        return Counted::Count(0);
+    }
+    match test_element_size(reading.geometry) {
+        Checked::Passed => count_sized_elements(
+            file,
+            pos as usize,
+            left,
+            slot,
+            reading,
+            chunk,
+            bound,
+            down,
+        ),
+        Checked::Refused(r) => Counted::Refused(r),
+    }
+}
+
+// How many of n slots from `slot` on lie below the count.
+pub fn below_count(n: u64, slot: u64, count: u64) -> u64
+    ensures { λ r. ⌜ r ≡ min n (count - slot) ⌝ }
+{
+    if count <= slot {
+        return 0;
+    }
+    let left = count - slot;
+    if left < n { left } else { n }
+}
+
+// The same where all slots lie below the count, and the size of elements has passed its test.
+fn count_sized_elements(
+    file: &[u8],
+    pos: usize,
+    n: u64,
+    slot: u64,
+    reading: Reading,
+    chunk: &[u64; 32],
+    bound: &[u64; 32],
+    down: &[u64; 32],
+) -> Counted
+    requires { ⌜ ((c : Call) × Reads c (now file) reading (now chunk) (now bound) (now down))
+        × (elementSizeTest (reading .geometry .header) (reading .geometry .«offset_size») ≡ Passed)
+        × (slot + n ≤ reading .geometry .header .«num_elements»)
+        × (pos + n * elementStride (reading .geometry .header) (reading .geometry .«offset_size») ≤ length (now file)) ⌝ }
+    ensures { λ r. ⌜ ((c : Call) → Reads c (now (file .entry)) reading (now (chunk .entry)) (now (bound .entry)) (now (down .entry))
+        → r ≡ countedOf (elements c pos n slot (accepted []))) ⌝ }
+{
+    let stride = reading.geometry.element_stride() as usize;
+    let mut offsets = [0u64; 32];
+    let mut count = 0;
+    let mut at = pos;
+    let mut i = 0;
+    while i < n {
+        match read_sized_element(
+            file,
+            at,
+            slot + i,
+            reading,
+            &mut offsets,
+            chunk,
+            bound,
+            down,
+        ) {
+            Element::Absent => {}
+            Element::Chunk(_) => count += 1,
+            Element::Refused(r) => return Counted::Refused(r),
+        }
+        at += stride;
+        i += 1;
+    }
+    Counted::Count(count)
+}
