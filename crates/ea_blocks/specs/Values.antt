@@ -39,6 +39,7 @@ pub record Sees (c : Call) (file : List ℕ) (g : EaGeometry) : Type 0 where
 -- what a pointer says
 unfoldable pub pointerOf : Bool → ℕ → Pointer
 pointerOf undefined address = cond undefined Undefined (At address)
+
 -- An element whose size is refused leaves the array.
 unfoldable pub leftWhere : Checked → List ℕ → List ℕ → List ℕ
 leftWhere Passed left l = left

@@ -12,9 +12,9 @@ use fields::bytes::read_u32_le_padded;
 use refusal::Checked;
 use refusal::Refusal;
 
-pub mod structures;
 pub mod count;
 pub mod read;
+pub mod structures;
 
 // The kinds of structures that an index is made of, behind its header.
 pub enum Kind {

@@ -4,3 +4,4 @@ pub mod Turns
 pub mod Writing
 pub mod PlaceRuns
 pub mod ChunkBytes
+pub mod SeenRuns

@@ -27,7 +27,7 @@ direct-super-blocks-requires c κs = search needs
 
 -- src/runs.rt:48:15
 super-pointer-requires : tie.Need-super-pointer-requires
-super-pointer-requires c κs = 
+super-pointer-requires c κs =
     let a = c .before .before .before in
     let d = c .before .direct-super-blocks .ensures in
     let p = a .pre .4 in
@@ -71,7 +71,7 @@ super-room c le =
     rw e (super-seen (p .0) _ _ (p .1) _ (p .3 d (named-defined (p .0) _ _ (named c (p .0) (p .1)) d)))
 
 block-pointer-requires : tie.Need-block-pointer-requires
-block-pointer-requires c κs = 
+block-pointer-requires c κs =
     let a = c .before .before .before in
     let p = a .pre .4 in
     (a .pre .0, a .pre .1, a .pre .2, a .pre .3, index-seen _ _ _ (p .1) (p .2), super-room c)
