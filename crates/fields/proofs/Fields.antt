@@ -1,70 +1,59 @@
--- The tests of a field, taken apart. Assumes nothing.
-use mathlib.Core.Path.{_≡_, refl, ap, sym}
-use mathlib.Core.Bool.{Bool, true, false}
+-- Laws of a field's test and of what it holds. Assumes nothing.
+use mathlib.Core.Path.{_≡_, refl, ap}
+use mathlib.Core.Bool.{Bool, true, false, not}
 use mathlib.Core.List.{List}
 use Prim.Native.Nat.{ℕ, _+_, _<_, _≤_}
 use native.Mathlib.Omega.{arith}
-use lib.Dec.{ltb}
 use lib.ListN.{length}
-use borrow.Author.Tests.{lt-ltb, le-ltb, ltb-false}
+use borrow.Author.Tests.{lt-ltb, le-ltb, ltb-false, not-false}
 use Rattle.refusal.specs.declared.Refusal.{Refusal}
 use Rattle.refusal.specs.declared.Checked.{Checked}
 use Rattle.refusal.specs.declared.Checked.the-variants.{Passed, Refused}
-use Rattle.refusal.specs.Refusals.{refuse, figure, _then_}
+use Rattle.refusal.specs.Refusals.{figure}
 use Rattle.fields.specs.declared.bytes.Field.the-variants.{Value, Refused as FieldRefused}
 use Rattle.fields.specs.declared.bytes.OptionalOffset.the-variants.{Undefined, At, Refused as OptionalRefused}
-use Rattle.fields.specs.Fields.{isWidth, widthTest, inFile, sizedTest, sizeFieldTest, fieldAfter, optionalAfter, undefined}
+use Rattle.fields.specs.Fields.{isWidth, widthTest, inFile, fieldTest, sizeFieldTest, fieldAfter, optionalAfter, undefined}
+use Rattle.fields.proofs.Tests.{refuse-false, refuse-true, refuse-passed, then-second, then-first, then-passed}
 
 module _ (s : List ℕ) (pos len : ℕ) where
   pub in-file : pos + len ≤ length s → Passed ≡ inFile s pos len
-  unfolding inFile refuse
-  in-file h = simp (le-ltb (length s) (pos + len) h)
+  unfolding inFile
+  in-file h = refuse-false 20 (figure (pos + len)) (length s) _ (le-ltb (length s) (pos + len) h)
 
   pub past-end : length s < pos + len → Refused (record { number = 20; first = figure (pos + len); second = length s }) ≡ inFile s pos len
-  unfolding inFile refuse
-  past-end h = simp (lt-ltb (length s) (pos + len) h)
+  unfolding inFile
+  past-end h = refuse-true 20 (figure (pos + len)) (length s) _ (lt-ltb (length s) (pos + len) h)
 
   pub inside : Passed ≡ inFile s pos len → pos + len ≤ length s
-  unfolding inFile refuse
-  inside h = go (ltb (length s) (pos + len)) refl
-    where
-      go : (t : Bool) → ltb (length s) (pos + len) ≡ t → pos + len ≤ length s
-      go true e = let z : _≡_ {A = ℕ} 0 1 = cc (simp e at h) in absurd (omega arith)
-      go false e = ltb-false (length s) (pos + len) e
+  unfolding inFile
+  inside h = ltb-false (length s) (pos + len) (refuse-passed 20 (figure (pos + len)) (length s) _ h)
 
 module _ (number w : ℕ) where
   pub width-passed : isWidth w ≡ true → Passed ≡ widthTest number w
-  unfolding widthTest refuse
-  width-passed e = simp e
+  unfolding widthTest
+  width-passed e = refuse-false number w 0 _ (ap not e)
 
   pub width-refused : isWidth w ≡ false → Refused (record { number = number; first = w; second = 0 }) ≡ widthTest number w
-  unfolding widthTest refuse
-  width-refused e = simp e
+  unfolding widthTest
+  width-refused e = refuse-true number w 0 _ (ap not e)
 
-  pub width-is : Passed ≡ widthTest number w → isWidth w ≡ true
-  unfolding widthTest refuse
-  width-is h = go (isWidth w) refl
-    where
-      go : (t : Bool) → isWidth w ≡ t → isWidth w ≡ true
-      go true e = e
-      go false e = let z : _≡_ {A = ℕ} 0 1 = cc (simp e at h) in absurd (omega arith)
+  -- a field of such a width that is read lies in the file
+  pub field-is : (s : List ℕ) (pos : ℕ) → Passed ≡ fieldTest number s pos w → (pos + w ≤ length s) × (isWidth w ≡ true)
+  unfolding fieldTest widthTest
+  field-is s pos h =
+      let b = then-passed (widthTest number w) (inFile s pos w) h in
+      (inside s pos w (b .1), not-false (isWidth w) (refuse-passed number w 0 _ (b .0)))
 
--- two tests in their order
-module _ (a b : Checked) where
-  pub then-second : Passed ≡ a → b ≡ a then b
-  unfolding _then_
-  then-second e = ap (λ (t : Checked). t then b) e
+module _ (s : List ℕ) (pos w : ℕ) where
+  pub to-eight : w ≤ 8 → inFile s pos w ≡ sizeFieldTest s pos w
+  unfolding sizeFieldTest
+  to-eight h = then-second _ (inFile s pos w) (refuse-false 29 0 0 _ (le-ltb 8 w h))
 
-  pub then-first : {r : Refusal} → Refused r ≡ a → Refused r ≡ a then b
-  unfolding _then_
-  then-first e = ap (λ (t : Checked). t then b) e
+  pub over-eight : 8 < w → Refused (record { number = 29; first = 0; second = 0 }) ≡ sizeFieldTest s pos w
+  unfolding sizeFieldTest
+  over-eight h = then-first _ (inFile s pos w) (refuse-true 29 0 0 _ (lt-ltb 8 w h))
 
-pub then-passed : (a b : Checked) → Passed ≡ a then b → (Passed ≡ a) × (Passed ≡ b)
-unfolding _then_
-then-passed Passed b h = (refl, h)
-then-passed (Refused r) b h = let z : _≡_ {A = ℕ} 0 1 = cc in absurd (omega arith)
-
--- what a field holds, by its test
+-- what a field holds, from its test and back
 module _ (t : Checked) (n : ℕ) where
   pub value-after : Passed ≡ t → Value n ≡ fieldAfter t n
   unfolding fieldAfter
@@ -73,6 +62,16 @@ module _ (t : Checked) (n : ℕ) where
   pub refused-after : {r : Refusal} → Refused r ≡ t → FieldRefused r ≡ fieldAfter t n
   unfolding fieldAfter
   refused-after e = ap (λ (x : Checked). fieldAfter x n) e
+
+pub value-is : (t : Checked) (n v : ℕ) → Value v ≡ fieldAfter t n → (Passed ≡ t) × (v ≡ n)
+unfolding fieldAfter
+value-is Passed n v h = (refl, cc)
+value-is (Refused r) n v h = let z : _≡_ {A = ℕ} 0 1 = cc in absurd (omega arith)
+
+pub refused-is : (t : Checked) (n : ℕ) (r : Refusal) → FieldRefused r ≡ fieldAfter t n → Refused r ≡ t
+unfolding fieldAfter
+refused-is Passed n r h = let z : _≡_ {A = ℕ} 0 1 = cc in absurd (omega arith)
+refused-is (Refused q) n r h = cc
 
 module _ (t : Checked) (b : Bool) (a : ℕ) where
   pub undefined-after : Passed ≡ t → b ≡ true → Undefined ≡ optionalAfter t b a
@@ -87,23 +86,25 @@ module _ (t : Checked) (b : Bool) (a : ℕ) where
   unfolding optionalAfter
   optional-refused e = ap (λ (x : Checked). optionalAfter x b a) e
 
--- a field of such a width that is read lies in the file
-pub sized-is : (number : ℕ) (s : List ℕ) (pos w : ℕ) → Passed ≡ sizedTest number s pos w → (pos + w ≤ length s) × (isWidth w ≡ true)
-unfolding sizedTest
-sized-is number s pos w h =
-    let b = then-passed (widthTest number w) (inFile s pos w) h in
-    (inside s pos w (b .1), width-is number w (b .0))
+pub undefined-is : (t : Checked) (b : Bool) (a : ℕ) → Undefined ≡ optionalAfter t b a → (Passed ≡ t) × (b ≡ true)
+unfolding optionalAfter
+undefined-is Passed true a h = (refl, refl)
+undefined-is Passed false a h = let z : _≡_ {A = ℕ} 0 1 = cc in absurd (omega arith)
+undefined-is (Refused r) b a h = let z : _≡_ {A = ℕ} 0 1 = cc in absurd (omega arith)
 
--- and one of a width of its own
-pub size-field-is : (s : List ℕ) (pos w : ℕ) → w ≤ 8 → inFile s pos w ≡ sizeFieldTest s pos w
-unfolding sizeFieldTest refuse _then_
-size-field-is s pos w h = simp (le-ltb 8 w h)
+pub at-is : (t : Checked) (b : Bool) (a v : ℕ) → At v ≡ optionalAfter t b a → (Passed ≡ t) × (b ≡ false) × (v ≡ a)
+unfolding optionalAfter
+at-is Passed true a v h = let z : _≡_ {A = ℕ} 0 1 = cc in absurd (omega arith)
+at-is Passed false a v h = (refl, refl, cc)
+at-is (Refused r) b a v h = let z : _≡_ {A = ℕ} 0 1 = cc in absurd (omega arith)
 
-pub over-eight : (s : List ℕ) (pos w : ℕ) → 8 < w → Refused (record { number = 29; first = 0; second = 0 }) ≡ sizeFieldTest s pos w
-unfolding sizeFieldTest refuse _then_
-over-eight s pos w h = simp (lt-ltb 8 w h)
+pub optional-refused-is : (t : Checked) (b : Bool) (a : ℕ) (r : Refusal) → OptionalRefused r ≡ optionalAfter t b a → Refused r ≡ t
+unfolding optionalAfter
+optional-refused-is Passed true a r h = let z : _≡_ {A = ℕ} 0 1 = cc in absurd (omega arith)
+optional-refused-is Passed false a r h = let z : _≡_ {A = ℕ} 0 1 = cc in absurd (omega arith)
+optional-refused-is (Refused q) b a r h = cc
 
--- the undefined address of each width
-pub no-undefined : (o a : ℕ) → false ≡ isWidth o → false ≡ undefined o a
+-- another width has no undefined address
+pub no-undefined : (o a : ℕ) → isWidth o ≡ false → false ≡ undefined o a
 unfolding undefined
-no-undefined o a e = simp (sym e)
+no-undefined o a e = rw e

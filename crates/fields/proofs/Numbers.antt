@@ -5,9 +5,12 @@ use Prim.Native.Nat.{ℕ, _^_, _-_, _<_, _≤_}
 use native.Mathlib.Omega.{arith}
 use lib.Dec.{leb}
 use borrow.Author.Tests.{le-leb, lt-leb, lt-ltb, le-ltb, leb-true, leb-false}
+use Rattle.refusal.specs.declared.Refusal.{Refusal}
+use Rattle.refusal.specs.declared.Checked.{Checked}
+use Rattle.refusal.specs.declared.Checked.the-variants.{Passed, Refused}
 use Rattle.refusal.specs.Refusals.{refuse, figure, largest64}
 use Rattle.fields.specs.declared.convert.Exact.the-variants.{Fits, Overflows}
-use Rattle.fields.specs.declared.convert.Narrowed.the-variants.{Value, Refused}
+use Rattle.fields.specs.declared.convert.Narrowed.the-variants.{Value, Refused as NarrowedRefused}
 use Rattle.fields.specs.Numbers.{exact, sizeTest, narrowedAfter, narrowed}
 
 pub fits : (n : ℕ) → n ≤ largest64 → Fits n ≡ exact n
@@ -43,10 +46,21 @@ pub figure-overflows : (n : ℕ) → Overflows ≡ exact n → largest64 ≡ fig
 unfolding figure
 figure-overflows n h = omega (arith, overflows-is n h)
 
+-- a number in 32 bits, from its test and back
 pub narrow : (n : ℕ) → n ≤ 2 ^ 32 - 1 → Value n ≡ narrowed n
 unfolding narrowed narrowedAfter sizeTest refuse
 narrow n h = simp (le-ltb (2 ^ 32 - 1) n h)
 
-pub too-wide : (n : ℕ) → 2 ^ 32 - 1 < n → n ≤ largest64 → Refused (record { number = 30; first = n; second = 0 }) ≡ narrowed n
+pub too-wide : (n : ℕ) → 2 ^ 32 - 1 < n → n ≤ largest64 → NarrowedRefused (record { number = 30; first = n; second = 0 }) ≡ narrowed n
 unfolding narrowed narrowedAfter sizeTest refuse figure
 too-wide n h fit = let e : figure n ≡ n = omega arith in simp (lt-ltb (2 ^ 32 - 1) n h, e)
+
+pub narrow-is : (t : Checked) (n v : ℕ) → Value v ≡ narrowedAfter t n → (Passed ≡ t) × (v ≡ n)
+unfolding narrowedAfter
+narrow-is Passed n v h = (refl, cc)
+narrow-is (Refused r) n v h = let z : _≡_ {A = ℕ} 0 1 = cc in absurd (omega arith)
+
+pub too-wide-is : (t : Checked) (n : ℕ) (r : Refusal) → NarrowedRefused r ≡ narrowedAfter t n → Refused r ≡ t
+unfolding narrowedAfter
+too-wide-is Passed n r h = let z : _≡_ {A = ℕ} 0 1 = cc in absurd (omega arith)
+too-wide-is (Refused q) n r h = cc

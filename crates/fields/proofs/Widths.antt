@@ -11,11 +11,11 @@ use Rattle.fields.specs.Fields.{isWidth}
 abbrev pub OneOf : ℕ → Type 0
 OneOf w = (w ≡ 2) ⊎ ((w ≡ 4) ⊎ (w ≡ 8))
 
-pub is-width : (w : ℕ) → OneOf w → true ≡ isWidth w
+pub is-width : (w : ℕ) → OneOf w → isWidth w ≡ true
 unfolding isWidth
 is-width w o = ⊎-elim (λ e. rw e) (λ p. ⊎-elim (λ e. rw e) (λ e. rw e) p) o
 
-pub no-width : (w : ℕ) → (OneOf w → ⊥) → false ≡ isWidth w
+pub no-width : (w : ℕ) → (OneOf w → ⊥) → isWidth w ≡ false
 unfolding isWidth
 no-width w n = simp (ne-eqb w 2 (λ e. n (inl e)), ne-eqb w 4 (λ e. n (inr (inl e))), ne-eqb w 8 (λ e. n (inr (inr e))))
 

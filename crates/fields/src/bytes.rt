@@ -3,8 +3,9 @@ ghost use mathlib.Core.Path.{_≡_};
 ghost use mathlib.Core.Bool.{true};
 ghost use Prim.Native.Nat.{_+_, _*_, _^_, _<_, _≤_};
 ghost use lib.ListN.{length};
-ghost use Rattle.fields.specs.LittleEndian.{leAt};
-ghost use Rattle.fields.specs.Fields.{isWidth, widthTest, inFile, sizedTest, addressAt};
+ghost use lib.Seq.{sets};
+ghost use Rattle.fields.specs.LittleEndian.{leAt, leBytes};
+ghost use Rattle.fields.specs.Fields.{isWidth, widthTest, inFile, fieldTest, addressAt};
 ghost use Rattle.fields.specs.Fields.{offsetField, optionalOffsetField, lengthField, sizeField};
 use crate::address::Address;
 use crate::address::is_undefined_addr;
@@ -20,7 +21,7 @@ pub enum Field {
     Refused(Refusal),
 }
 
-// What reading an address finds that the file may leave undefined.
+// What reading an address finds that may be undefined.
 pub enum OptionalOffset {
     Undefined,
     At(u64),
@@ -37,7 +38,7 @@ pub fn is_width(width: u64) -> bool
     }
 }
 
-// Tests that `needed` bytes from pos on lie in s.
+// Tests that `needed` bytes from pos on lie in s: 20 where they don't.
 pub fn ensure_len(s: &[u8], pos: u64, needed: u64) -> Checked
     ensures { λ r. ⌜ r ≡ inFile (now (s .entry)) pos needed ⌝ }
 {
@@ -54,7 +55,7 @@ pub fn ensure_len(s: &[u8], pos: u64, needed: u64) -> Checked
     })
 }
 
-// Tests that an offset or length can be `width` bytes wide; where it can't, it is refused with this number.
+// Tests that an offset or length can be `width` bytes wide; where it can't, `number` is its refusal.
 pub fn ensure_width(width: u64, number: u64) -> Checked
     ensures { λ r. ⌜ r ≡ widthTest number width ⌝ }
 {
@@ -68,9 +69,9 @@ pub fn ensure_width(width: u64, number: u64) -> Checked
     })
 }
 
-// The two tests of an offset or length.
-fn ensure_sized(s: &[u8], pos: u64, width: u64, number: u64) -> Checked
-    ensures { λ r. ⌜ r ≡ sizedTest number (now (s .entry)) pos width ⌝ }
+// The tests of an offset or length: its width, then that it lies in s.
+fn ensure_field(s: &[u8], pos: u64, width: u64, number: u64) -> Checked
+    ensures { λ r. ⌜ r ≡ fieldTest number (now (s .entry)) pos width ⌝ }
 {
     match ensure_width(width, number) {
         Checked::Passed => ensure_len(s, pos, width),
@@ -78,11 +79,11 @@ fn ensure_sized(s: &[u8], pos: u64, width: u64, number: u64) -> Checked
     }
 }
 
-// The address in the `width` bytes of s from pos on.
+// The address in the `width` bytes of s from pos on: 1 where no offset is so wide, 20 past the end.
 pub fn read_offset(s: &[u8], pos: u64, width: u64) -> Field
     ensures { λ r. ⌜ r ≡ offsetField (now (s .entry)) pos width ⌝ }
 {
-    match ensure_sized(s, pos, width, Refusal::OFFSET_SIZE) {
+    match ensure_field(s, pos, width, Refusal::OFFSET_SIZE) {
         Checked::Passed => {
             let a = read_address(s, pos as usize, width as usize);
             Field::Value(a.value)
@@ -91,11 +92,11 @@ pub fn read_offset(s: &[u8], pos: u64, width: u64) -> Field
     }
 }
 
-// The same of an address that the file may leave undefined.
+// The same, where the address may be undefined.
 pub fn read_optional_offset(s: &[u8], pos: u64, width: u64) -> OptionalOffset
     ensures { λ r. ⌜ r ≡ optionalOffsetField (now (s .entry)) pos width ⌝ }
 {
-    match ensure_sized(s, pos, width, Refusal::OFFSET_SIZE) {
+    match ensure_field(s, pos, width, Refusal::OFFSET_SIZE) {
         Checked::Passed => {
             let a = read_address(s, pos as usize, width as usize);
             if is_undefined_addr(a, width) {
@@ -108,17 +109,17 @@ pub fn read_optional_offset(s: &[u8], pos: u64, width: u64) -> OptionalOffset
     }
 }
 
-// The length in the `width` bytes of s from pos on.
+// The length in the `width` bytes of s from pos on: 2 where no length is so wide, 20 past the end.
 pub fn read_length(s: &[u8], pos: u64, width: u64) -> Field
     ensures { λ r. ⌜ r ≡ lengthField (now (s .entry)) pos width ⌝ }
 {
-    match ensure_sized(s, pos, width, Refusal::LENGTH_SIZE) {
+    match ensure_field(s, pos, width, Refusal::LENGTH_SIZE) {
         Checked::Passed => Field::Value(read_le(s, pos as usize, width as usize)),
         Checked::Refused(r) => Field::Refused(r),
     }
 }
 
-// The size in the `width` bytes of s from pos on.
+// The size in the `width` bytes of s from pos on: 29 over 8 bytes, 20 past the end.
 pub fn read_variable_length(s: &[u8], pos: u64, width: u64) -> Field
     ensures { λ r. ⌜ r ≡ sizeField (now (s .entry)) pos width ⌝ }
 {
@@ -133,12 +134,6 @@ pub fn read_variable_length(s: &[u8], pos: u64, width: u64) -> Field
         Checked::Passed => Field::Value(read_le(s, pos as usize, width as usize)),
         Checked::Refused(r) => Field::Refused(r),
     }
-}
-
-fn wide(b: u8) -> u64
-    ensures { λ r. ⌜ (r ≡ b) × (r < 256) ⌝ }
-{
-    b as u64
 }
 
 // The address that is stored in the `width` bytes of s from pos on. No other function reads one.
@@ -164,6 +159,12 @@ pub fn read_le(s: &[u8], pos: usize, width: usize) -> u64
     }
 }
 
+fn wide(b: u8) -> u64
+    ensures { λ r. ⌜ (r ≡ b) × (r < 256) ⌝ }
+{
+    b as u64
+}
+
 // The same, byte by byte.
 fn read_le_bytes(s: &[u8], pos: usize, width: usize) -> u64
     requires { ⌜ (pos + width ≤ length (now s)) × (width ≤ 8) ⌝ }
@@ -179,7 +180,7 @@ fn read_le_bytes(s: &[u8], pos: usize, width: usize) -> u64
 }
 
 // The number in the 2 bytes of s from pos on. (This and the next two are written as sums, which compile to one load.)
-pub fn read_u16_le(s: &[u8], pos: usize) -> u16
+fn read_u16_le(s: &[u8], pos: usize) -> u16
     requires { ⌜ pos + 2 ≤ length (now s) ⌝ }
     ensures { λ r. ⌜ r ≡ leAt (now (s .entry)) pos 2 ⌝ }
 {
@@ -217,6 +218,20 @@ pub fn read_u32_le_padded(s: &[u8], pos: usize) -> u32
     if 4 <= left {
         read_u32_le(s, pos)
     } else {
-        read_le(s, pos, left) as u32
+        read_le_bytes(s, pos, left) as u32
+    }
+}
+
+// Stores the lowest `width` bytes of a number in s from pos on.
+pub fn put_le(s: &mut [u8], pos: usize, width: usize, value: u64)
+    requires { ⌜ pos + width ≤ length (now s) ⌝ }
+    ensures { λ _. ⌜ now (s .exit) ≡ sets (now (s .entry)) pos (leBytes width value) ⌝ }
+{
+    let mut rest = value;
+    let mut i = 0;
+    while i < width {
+        s[pos + i] = (rest % 256) as u8;
+        rest = rest / 256;
+        i += 1;
     }
 }

@@ -1,11 +1,11 @@
-// Sums, products and narrowed numbers that may not fit their type.
+// Sums, products and numbers that may not fit their type.
 ghost use mathlib.Core.Path.{_≡_};
 ghost use Prim.Native.Nat.{_+_, _*_};
 ghost use Rattle.refusal.specs.Refusals.{figure};
 ghost use Rattle.fields.specs.Numbers.{exact, narrowed};
 use refusal::Refusal;
 
-// A sum or product, where 64 bits hold it.
+// A sum or product where 64 bits hold it.
 pub enum Exact {
     Fits(u64),
     Overflows,

@@ -1,8 +1,8 @@
 -- `fields::address::is_undefined_addr` meets its contract. Assumes nothing.
+use mathlib.Core.Logic.{⊎-elim}
 use Rattle.fields.specs.Fields.{undefined, isWidth}
 use Rattle.fields.proofs.Fields.{no-undefined}
 use Rattle.fields.proofs.Widths.{no-width}
-use mathlib.Core.Logic.{⊎-elim}
 use Rattle.fields.proofs.address.is_undefined_addr.Statement.{statement}
 use Rattle.fields.proofs.address.is_undefined_addr.Tie as tie
 

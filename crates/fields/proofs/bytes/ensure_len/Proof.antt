@@ -1,10 +1,10 @@
 -- `fields::bytes::ensure_len` meets its contract. Assumes nothing.
 use mathlib.Core.Logic.{⊎-elim}
-use Rattle.fields.proofs.Fields.{in-file, past-end}
-use Rattle.fields.proofs.Numbers.{fits-is, overflows-is}
 use mathlib.Core.Path.{sym, _∙_}
 use native.Mathlib.Omega.{arith}
 use borrow.Author.Needs.{needs}
+use Rattle.fields.proofs.Fields.{in-file, past-end}
+use Rattle.fields.proofs.Numbers.{fits-is, overflows-is}
 use Rattle.fields.proofs.bytes.ensure_len.Statement.{statement}
 use Rattle.fields.proofs.bytes.ensure_len.Tie as tie
 

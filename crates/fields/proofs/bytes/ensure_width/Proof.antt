@@ -1,7 +1,7 @@
 -- `fields::bytes::ensure_width` meets its contract. Assumes nothing.
 use mathlib.Core.Path.{sym, _∙_}
-use Rattle.fields.proofs.Fields.{width-passed, width-refused}
 use borrow.Author.Needs.{needs}
+use Rattle.fields.proofs.Fields.{width-passed, width-refused}
 use Rattle.fields.proofs.bytes.ensure_width.Statement.{statement}
 use Rattle.fields.proofs.bytes.ensure_width.Tie as tie
 

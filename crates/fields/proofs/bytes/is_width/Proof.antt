@@ -1,13 +1,14 @@
 -- `fields::bytes::is_width` meets its contract. Assumes nothing.
+use mathlib.Core.Path.{sym}
 use Rattle.fields.proofs.Widths.{is-width, no-width}
 use Rattle.fields.proofs.bytes.is_width.Statement.{statement}
 use Rattle.fields.proofs.bytes.is_width.Tie as tie
 
 returns : tie.Need-returns
-returns c = is-width (c .before .args .width) (c .match .keys1)
+returns c = sym (is-width _ (c .match .keys1))
 
 returns-2 : tie.Need-returns-2
-returns-2 c = no-width (c .before .args .width) (c .match .rest .1)
+returns-2 c = sym (no-width _ (c .match .rest .1))
 
 pub is-width-spec : {M : Type 1} → statement M
 is-width-spec = tie.close (tie.spec returns returns-2)

@@ -1,7 +1,7 @@
 -- `fields::bytes::read_address` meets its contract. Assumes nothing.
 use native.Mathlib.Omega.{arith}
-use Rattle.fields.proofs.Widths.{width-le}
 use Rattle.fields.specs.Fields.{addressAt}
+use Rattle.fields.proofs.Widths.{width-le}
 use Rattle.fields.proofs.bytes.read_address.Statement.{statement}
 use Rattle.fields.proofs.bytes.read_address.Tie as tie
 

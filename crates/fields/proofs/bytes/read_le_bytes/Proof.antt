@@ -1,8 +1,8 @@
 -- `fields::bytes::read_le_bytes` meets its contract: after each turn v is the number in the bytes from at + i to at + w. Assumes nothing.
-use borrow.Author.Needs.{needs}
-use Prim.Native.Nat.{_+_, _-_, _*_, _^_, _≤_, _<_}
 use mathlib.Core.Path.{_≡_}
+use Prim.Native.Nat.{_+_, _-_, _*_, _^_, _≤_, _<_}
 use native.Mathlib.Omega.{arith}
+use borrow.Author.Needs.{needs}
 use Rattle.fields.specs.LittleEndian.{leAt}
 use Rattle.fields.proofs.LittleEndian.{grown, whole-left, byte-room, all-read}
 use Rattle.fields.proofs.bytes.read_le_bytes.Statement.{statement}

@@ -1,22 +1,21 @@
 -- `fields::bytes::read_length` meets its contract. Assumes nothing.
-use Rattle.fields.proofs.Fields.{value-after, refused-after}
-use Rattle.fields.proofs.Widths.{width-le}
-use Rattle.fields.proofs.Fields.{sized-is}
-use Rattle.fields.specs.Fields.{lengthField}
 use mathlib.Core.Path.{sym, _∙_}
 use borrow.Author.Needs.{needs}
+use Rattle.fields.specs.Fields.{lengthField}
+use Rattle.fields.proofs.Fields.{value-after, refused-after, field-is}
+use Rattle.fields.proofs.Widths.{width-le}
 use Rattle.fields.proofs.bytes.read_length.Statement.{statement}
 use Rattle.fields.proofs.bytes.read_length.Tie as tie
 
-ensure-sized-requires : tie.Need-ensure-sized-requires
-ensure-sized-requires c κs = search needs
+ensure-field-requires : tie.Need-ensure-field-requires
+ensure-field-requires c κs = search needs
 
 enum-told : tie.Need-enum-told
 enum-told c = search needs
 
 read-le-requires : tie.Need-read-le-requires
 read-le-requires c κs =
-    let p = sized-is _ _ _ _ (sym (c .enum-told .given .1) ∙ c .before .before .ensure-sized .ensures) in
+    let p = field-is _ _ _ _ (sym (c .enum-told .given .1) ∙ c .before .before .ensure-field .ensures) in
     (p .0, width-le _ (p .1))
 
 enum-known-r : tie.Need-enum-known-r
@@ -24,13 +23,13 @@ enum-known-r c = search needs
 
 returns : tie.Need-returns
 unfolding lengthField
-returns c = rw (c .read-le .ensures .0) (value-after _ _ (sym (c .before .enum-told .given .1) ∙ c .before .before .before .ensure-sized .ensures))
+returns c = rw (c .read-le .ensures .0) (value-after _ _ (sym (c .before .enum-told .given .1) ∙ c .before .before .before .ensure-field .ensures))
 
 returns-2 : tie.Need-returns-2
 unfolding lengthField
-returns-2 c = refused-after _ _ (sym (c .before .r .given .1) ∙ c .before .before .before .ensure-sized .ensures)
+returns-2 c = refused-after _ _ (sym (c .before .r .given .1) ∙ c .before .before .before .ensure-field .ensures)
 
 pub read-length-spec : {M : Type 1} → statement M
 read-length-spec =
     tie.close
-    (tie.spec ensure-sized-requires enum-told read-le-requires enum-known-r returns returns-2)
+    (tie.spec ensure-field-requires enum-told read-le-requires enum-known-r returns returns-2)

@@ -1,33 +1,32 @@
 -- `fields::bytes::read_offset` meets its contract. Assumes nothing.
-use Rattle.fields.proofs.Fields.{value-after, refused-after}
-use Rattle.fields.proofs.Fields.{sized-is}
-use Rattle.fields.specs.Fields.{offsetField}
 use mathlib.Core.Path.{sym, _∙_}
 use borrow.Author.Needs.{needs}
+use Rattle.fields.specs.Fields.{offsetField}
+use Rattle.fields.proofs.Fields.{value-after, refused-after, field-is}
 use Rattle.fields.proofs.bytes.read_offset.Statement.{statement}
 use Rattle.fields.proofs.bytes.read_offset.Tie as tie
 
-ensure-sized-requires : tie.Need-ensure-sized-requires
-ensure-sized-requires c κs = search needs
+ensure-field-requires : tie.Need-ensure-field-requires
+ensure-field-requires c κs = search needs
 
 enum-told : tie.Need-enum-told
 enum-told c = search needs
 
 read-address-requires : tie.Need-read-address-requires
-read-address-requires c κs = sized-is _ _ _ _ (sym (c .enum-told .given .1) ∙ c .before .before .ensure-sized .ensures)
+read-address-requires c κs = field-is _ _ _ _ (sym (c .enum-told .given .1) ∙ c .before .before .ensure-field .ensures)
 
 enum-known-r : tie.Need-enum-known-r
 enum-known-r c = search needs
 
 returns : tie.Need-returns
 unfolding offsetField
-returns c = rw (c .read-address .ensures) (value-after _ _ (sym (c .before .enum-told .given .1) ∙ c .before .before .before .ensure-sized .ensures))
+returns c = rw (c .read-address .ensures) (value-after _ _ (sym (c .before .enum-told .given .1) ∙ c .before .before .before .ensure-field .ensures))
 
 returns-2 : tie.Need-returns-2
 unfolding offsetField
-returns-2 c = refused-after _ _ (sym (c .before .r .given .1) ∙ c .before .before .before .ensure-sized .ensures)
+returns-2 c = refused-after _ _ (sym (c .before .r .given .1) ∙ c .before .before .before .ensure-field .ensures)
 
 pub read-offset-spec : {M : Type 1} → statement M
 read-offset-spec =
     tie.close
-    (tie.spec ensure-sized-requires enum-told read-address-requires enum-known-r returns returns-2)
+    (tie.spec ensure-field-requires enum-told read-address-requires enum-known-r returns returns-2)

@@ -1,8 +1,8 @@
 -- `fields::bytes::read_u16_le` meets its contract. Assumes nothing.
-use native.Mathlib.Omega.{arith}
 use Prim.Native.Nat.{_+_}
-use Rattle.fields.proofs.LittleEndian.{le-add, le-one}
+use native.Mathlib.Omega.{arith}
 use borrow.Author.Needs.{needs}
+use Rattle.fields.proofs.LittleEndian.{le-add, le-one}
 use Rattle.fields.proofs.bytes.read_u16_le.Statement.{statement}
 use Rattle.fields.proofs.bytes.read_u16_le.Tie as tie
 

@@ -1,16 +1,15 @@
 -- `fields::bytes::read_variable_length` meets its contract. Assumes nothing.
-use Rattle.fields.proofs.Fields.{value-after, refused-after, inside, over-eight}
-use Rattle.fields.proofs.Fields.{size-field-is}
-use Rattle.fields.specs.Fields.{sizeField}
 use mathlib.Core.Path.{sym, _∙_}
 use native.Mathlib.Omega.{arith}
 use borrow.Author.Needs.{needs}
+use Rattle.fields.specs.Fields.{sizeField}
+use Rattle.fields.proofs.Fields.{value-after, refused-after, inside, over-eight, to-eight}
 use Rattle.fields.proofs.bytes.read_variable_length.Statement.{statement}
 use Rattle.fields.proofs.bytes.read_variable_length.Tie as tie
 
 returns : tie.Need-returns
 unfolding sizeField
-returns c = refused-after _ _ (over-eight _ _ _ (c .if1 .taken))
+returns c = refused-after _ _ (over-eight _ _ _ (omega arith))
 
 ensure-len-requires : tie.Need-ensure-len-requires
 ensure-len-requires c κs = search needs
@@ -26,11 +25,11 @@ enum-known-r c = search needs
 
 returns-2 : tie.Need-returns-2
 unfolding sizeField
-returns-2 c = rw (c .read-le .ensures .0) (value-after _ _ (sym (c .before .enum-told .given .1) ∙ c .before .before .before .ensure-len .ensures ∙ size-field-is _ _ _ (omega arith)))
+returns-2 c = rw (c .read-le .ensures .0) (value-after _ _ (sym (c .before .enum-told .given .1) ∙ c .before .before .before .ensure-len .ensures ∙ to-eight _ _ _ (omega arith)))
 
 returns-3 : tie.Need-returns-3
 unfolding sizeField
-returns-3 c = refused-after _ _ (sym (c .before .r .given .1) ∙ c .before .before .before .ensure-len .ensures ∙ size-field-is _ _ _ (omega arith))
+returns-3 c = refused-after _ _ (sym (c .before .r .given .1) ∙ c .before .before .before .ensure-len .ensures ∙ to-eight _ _ _ (omega arith))
 
 pub read-variable-length-spec : {M : Type 1} → statement M
 read-variable-length-spec =

@@ -1,8 +1,8 @@
 -- `fields::convert::checked_add` meets its contract. Assumes nothing.
 use Prim.Native.Nat.{_+_}
 use native.Mathlib.Omega.{arith}
-use Rattle.fields.proofs.Numbers.{fits, overflows}
 use borrow.Author.Needs.{needs}
+use Rattle.fields.proofs.Numbers.{fits, overflows}
 use Rattle.fields.proofs.convert.checked_add.Statement.{statement}
 use Rattle.fields.proofs.convert.checked_add.Tie as tie
 

@@ -1,7 +1,7 @@
 -- `fields::convert::u32_from` meets its contract. Assumes nothing.
 use native.Mathlib.Omega.{arith}
-use Rattle.fields.proofs.Numbers.{narrow, too-wide}
 use borrow.Author.Needs.{needs}
+use Rattle.fields.proofs.Numbers.{narrow, too-wide}
 use Rattle.fields.proofs.convert.u32_from.Statement.{statement}
 use Rattle.fields.proofs.convert.u32_from.Tie as tie
 

@@ -1,10 +1,10 @@
--- `fields::bytes::ensure_sized` meets its contract. Assumes nothing.
-use Rattle.fields.proofs.Fields.{then-second, then-first}
-use Rattle.fields.specs.Fields.{sizedTest}
+-- `fields::bytes::ensure_field` meets its contract. Assumes nothing.
 use mathlib.Core.Path.{sym, _∙_}
 use borrow.Author.Needs.{needs}
-use Rattle.fields.proofs.bytes.ensure_sized.Statement.{statement}
-use Rattle.fields.proofs.bytes.ensure_sized.Tie as tie
+use Rattle.fields.specs.Fields.{fieldTest}
+use Rattle.fields.proofs.Tests.{then-second, then-first}
+use Rattle.fields.proofs.bytes.ensure_field.Statement.{statement}
+use Rattle.fields.proofs.bytes.ensure_field.Tie as tie
 
 ensure-width-requires : tie.Need-ensure-width-requires
 ensure-width-requires c κs = search needs
@@ -19,14 +19,14 @@ enum-known-r : tie.Need-enum-known-r
 enum-known-r c = search needs
 
 returns : tie.Need-returns
-unfolding sizedTest
+unfolding fieldTest
 returns c = c .ensure-len .ensures ∙ then-second _ _ (sym (c .before .enum-told .given .1) ∙ c .before .before .before .ensure-width .ensures)
 
 returns-2 : tie.Need-returns-2
-unfolding sizedTest
+unfolding fieldTest
 returns-2 c = then-first _ _ (sym (c .before .r .given .1) ∙ c .before .before .before .ensure-width .ensures)
 
-pub ensure-sized-spec : {M : Type 1} → statement M
-ensure-sized-spec =
+pub ensure-field-spec : {M : Type 1} → statement M
+ensure-field-spec =
     tie.close
     (tie.spec ensure-width-requires enum-told ensure-len-requires enum-known-r returns returns-2)
