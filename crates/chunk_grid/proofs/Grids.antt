@@ -10,12 +10,13 @@ use borrow.Author.Tests.{lt-ltb, le-leb, eq-eqb, ne-eqb, ltb-true, ltb-false, le
 use lib.Dec.{ltb, leb, eqb}
 use lib.ListN.{length, drop}
 use lib.Arith.{digits-lt, digits-div, digits-mod}
+use Rattle.fields.proofs.Tests.{refuse-passed, then-passed}
 use Rattle.refusal.specs.declared.Checked.the-variants.{Passed}
 use Rattle.refusal.specs.Refusals.{largest64}
 use Rattle.chunk_grid.specs.declared.Slot.{Slot}
 use Rattle.chunk_grid.specs.declared.Slot.the-variants.{At}
 use Rattle.chunk_grid.specs.Grid.{Grid, pairwise, every, any, countOf, counts, firstUnlimited, leadingIn, leading, toFront, fromFront, ordered, multiplier, multipliers, hasZero, numbersNothing, quotients, offsets, below, chunkAt, aligned, isChunk, total, slotFrom, slotOf, shapesTest, gridTest}
-use Rattle.chunk_grid.proofs.Tests.{by-cond, false-true, both, neither, then-inv, refuse-inv}
+use Rattle.chunk_grid.proofs.Tests.{by-cond, false-true, both, neither}
 use Rattle.chunk_grid.proofs.Order.{back-front, front-back, length-front, length-back, length-pairwise, pairwise-front, pairwise-back, same-drop, any-front}
 
 -- multipliers
@@ -157,17 +158,17 @@ pub record Shaped (g : Grid) : Type 0 where
 same-eqb : (a b : ℕ) → not (eqb a b) ≡ false → a ≡ b
 same-eqb a b h = eqb-true a b (not-false _ h)
 
-pub shaped : (g : Grid) → shapesTest g ≡ Passed → Shaped g
+pub shaped : (g : Grid) → Passed ≡ shapesTest g → Shaped g
 unfolding shapesTest
 shaped g h =
-    let b = then-inv _ _ h in
-    let d = then-inv _ _ (b .1) in
-    let r = neither (ltb 32 (g .rank)) (not (eqb (length (g .chunk)) (g .rank))) (refuse-inv _ _ _ _ (b .0)) in
+    let b = then-passed _ _ h in
+    let d = then-passed _ _ (b .1) in
+    let r = neither (ltb 32 (g .rank)) (not (eqb (length (g .chunk)) (g .rank))) (refuse-passed _ _ _ _ (b .0)) in
     record {
       small = ltb-false 32 (g .rank) (r .0);
       chunked = same-eqb _ _ (r .1);
-      presented = same-eqb _ _ (refuse-inv _ _ _ _ (d .0));
-      bounded = λ m. same-eqb _ _ (rw m at (refuse-inv _ _ _ _ (d .1)));
+      presented = same-eqb _ _ (refuse-passed _ _ _ _ (d .0));
+      bounded = λ m. same-eqb _ _ (rw m at (refuse-passed _ _ _ _ (d .1)));
     }
 
 -- what an accepted grid keeps to
@@ -185,7 +186,7 @@ extents-length false m p n h k = h
 pub accepted : (g : Grid) → gridTest g ≡ Passed → Accepted g
 unfolding gridTest counts
 accepted g h =
-    let a = then-inv _ _ h in
+    let a = then-passed _ _ (sym h) in
     let s = shaped g (a .0) in
     let x = extents-length (g .hasMaximum) (g .maximum) (g .present) (g .rank) (s .presented) (s .bounded) in
     record {
@@ -193,7 +194,7 @@ accepted g h =
       chunked = s .chunked;
       presented = s .presented;
       counted = length-pairwise countOf _ (g .chunk) (x ∙ sym (s .chunked)) ∙ x;
-      positive = refuse-inv _ _ _ _ (then-inv _ _ (a .1) .0);
+      positive = refuse-passed _ _ _ _ (then-passed _ _ (a .1) .0);
     }
 
 -- the leading dimension is one of them

@@ -7,3 +7,4 @@ pub mod Extents
 pub mod Building
 pub mod Numbered
 pub mod Corners
+pub mod Shapes

@@ -7,6 +7,7 @@ use native.Mathlib.Omega.{arith}
 use borrow.Author.Tests.{le-ltb}
 use lib.ListN.{length, getD, take, drop}
 use lib.Seq.{length-take-le, take-all, take-at}
+use Rattle.fields.proofs.Tests.{then-passed}
 use Rattle.refusal.specs.declared.Refusal.{Refusal}
 use Rattle.refusal.specs.declared.Checked.{Checked}
 use Rattle.refusal.specs.declared.Checked.the-variants.{Passed, Refused}
@@ -15,7 +16,6 @@ use Rattle.chunk_grid.specs.declared.ChunkGrid.{ChunkGrid}
 use Rattle.chunk_grid.specs.declared.GridOrder.{GridOrder}
 use Rattle.chunk_grid.specs.Grid.{Grid, pairwise, any, ceilDiv, countOf, counts, leadingIn, leading, toFront, ordered, multipliers, hasZero, numbersNothing, overflows, shapesTest, multiplierTest, productTest, gridTest}
 use Rattle.chunk_grid.specs.Values.{isUnlimitedFirst, given, gridOf, numberingTest, Made, Numbers, Counted, Extents}
-use Rattle.chunk_grid.proofs.Tests.{then-inv}
 use Rattle.chunk_grid.proofs.Grids.{shaped}
 use Rattle.chunk_grid.proofs.Building.{rank-over, shapes-agree}
 
@@ -40,7 +40,7 @@ pub same-grid : (rank : ℕ) (chunk present maximum c p m : List ℕ) (has : Boo
     → gridOf (record { rank = rank; chunk = c; present = p; «has_maximum» = has; maximum = m; order = o }) ≡ given rank chunk present has maximum o
 unfolding gridOf given
 same-grid rank chunk present maximum c p m has o t hc hp hm =
-    let s = shaped (given rank chunk present has maximum o) (sym t) in
+    let s = shaped (given rank chunk present has maximum o) t in
     let first = whole rank chunk c (s .chunked) (s .small) hc in
     let second = whole rank present p (s .presented) (s .small) hp in
     let third : cond has (take rank m) [] ≡ cond has maximum [] = go has (s .small) (s .bounded) in
@@ -77,7 +77,7 @@ module _ (b : Bool) (limits present chunk counts bound down : List ℕ) (rotated
   made = (
     w ∙ rw (t, p, u, c, z) refl,
     λ e.
-        let n = m (then-inv behind product (sym w ∙ e) .0) in
+        let n = m (sym (then-passed behind product (sym e ∙ w) .0)) in
         record {
           leads = u ∙ ap (leadingIn b) c;
           numbering = n .0 ∙ ap (λ (l : List ℕ). not (hasZero (drop 1 (toFront rotated l)))) c;
@@ -137,7 +137,7 @@ pub given-lengths : (rank : ℕ) (chunk present maximum : List ℕ) (has : Bool)
     → (has ≡ true → length maximum ≡ length chunk) × (length present ≡ length chunk) × (length chunk ≤ 32)
 unfolding given
 given-lengths rank chunk present maximum has o e =
-    let s = shaped (given rank chunk present has maximum o) (sym e) in
+    let s = shaped (given rank chunk present has maximum o) e in
     (λ h. (rw h at (s .bounded h)) ∙ sym (s .chunked), s .presented ∙ sym (s .chunked), omega (arith, s .chunked, s .small))
 
 pub tests-given : (rank : ℕ) (chunk present maximum : List ℕ) (has : Bool) (o : GridOrder) → Passed ≡ shapesTest (given rank chunk present has maximum o)

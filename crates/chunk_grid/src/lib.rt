@@ -13,6 +13,8 @@ ghost use Rattle.chunk_grid.specs.Grid.{multipliers, hasZero, inExtent, 
 ghost use Rattle.chunk_grid.specs.Grid.{shapesTest, multiplierTest, productTest, gridTest};
 ghost use Rattle.chunk_grid.specs.Values.{isUnlimitedFirst, given, gridOf, whereTested, dimAt};
 ghost use Rattle.chunk_grid.specs.Values.{numberingTest, Made, Numbers, Counted, Extents, handed};
+ghost use Rattle.chunk_grid.specs.Shapes.{shapeOf, givenBytes};
+use fields::bytes::read_u64_le;
 use fields::convert::Exact;
 use fields::convert::checked_add;
 use fields::convert::checked_mul;
@@ -106,6 +108,41 @@ impl ChunkGrid {
         Built { checked, grid }
     }
 
+    // The same of shapes that are given as bytes.
+    pub fn from_bytes(
+        rank: u64,
+        chunk: &[u8],
+        present: &[u8],
+        has_maximum: bool,
+        maximum: &[u8],
+        order: GridOrder,
+    ) -> Built
+        ensures checked { λ r. ⌜ r .checked ≡ gridTest (givenBytes rank (now (chunk .entry)) (now (present .entry)) «has_maximum» (now (maximum .entry)) order) ⌝ }
+        ensures grid { λ r. ⌜ gridOf (r .grid) ≡ whereTested (r .checked) (givenBytes rank (now (chunk .entry)) (now (present .entry)) «has_maximum» (now (maximum .entry)) order) ⌝ }
+    {
+        if 32 < rank {
+            return refused_grid(Refusal {
+                number: Refusal::RANK,
+                first: 0,
+                second: 0,
+            });
+        }
+        let mut lengths = [0u64; 32];
+        let mut extents = [0u64; 32];
+        let mut limits = [0u64; 32];
+        let n = read_shape(&mut lengths, rank, chunk) as usize;
+        let p = read_shape(&mut extents, rank, present) as usize;
+        let m = read_shape(&mut limits, rank, maximum) as usize;
+        ChunkGrid::new(
+            rank,
+            &lengths[..n],
+            &extents[..p],
+            has_maximum,
+            &limits[..m],
+            order,
+        )
+    }
+
     // What the grid's slots are numbered by: for each dimension its count, and how many chunks its present extent reaches into; and the
     // multipliers, in the grid's order.
     pub fn numbering(self, counts: &mut [u64], bound: &mut [u64], down: &mut [u64]) -> Numbering
@@ -165,6 +202,27 @@ impl ChunkGrid {
         }
         Checked::Passed
     }
+}
+
+// Reads a shape or corner, 8 bytes a dimension, and answers its rank: another one where there aren't 8 * rank bytes.
+pub fn read_shape(shape: &mut [u64], rank: u64, bytes: &[u8]) -> u64
+    requires { ⌜ (rank ≤ 32) × (32 ≤ length (now shape)) ⌝ }
+    ensures { λ r. ⌜ (r ≡ length (shapeOf rank (now (bytes .entry)))) × (now (shape .exit) ≡ sets (now (shape .entry)) 0 (shapeOf rank (now (bytes .entry)))) ⌝ }
+{
+    let n = rank as usize;
+    if bytes.len() != 8 * n {
+        if n == 0 {
+            shape[0] = 0;
+            return 1;
+        }
+        return 0;
+    }
+    let mut i = 0;
+    while i < n {
+        shape[i] = read_u64_le(bytes, 8 * i);
+        i += 1;
+    }
+    rank
 }
 
 // Refused with this number, which names no figures.
