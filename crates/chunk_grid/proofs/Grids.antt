@@ -1,9 +1,8 @@
--- Slots and chunks: each gives the other back, and two chunks never share a slot. Assumes nothing.
+-- The numbering of a grid: quotients of a slot add up to it, and the slot of a slot's offsets is that slot. Assumes nothing.
 use Prim.Native.Nat.{ℕ, suc, _+_, _-_, _*_, _/_, _%_, _<_, _≤_, max}
 use mathlib.Core.Path.{_≡_, refl, sym, ap, subst, _∙_}
-use mathlib.Core.Bool.{Bool, true, false, not, cond, _&&_, _||_}
+use mathlib.Core.Bool.{Bool, true, false, not, cond, _&&_}
 use mathlib.Core.List.{List, [], _∷_}
-use mathlib.Core.Option.{Option, some, Option·some-injective}
 use native.Mathlib.Omega.{arith}
 use native.Mathlib.Nat.{pos-of-ne-zero, div-lt-iff-lt-mul, mod-lt, div-add-mod', mul-div-cancel, mul-mod-left, mul-le-mul-right}
 use borrow.Author.Tests.{lt-ltb, le-leb, eq-eqb, ne-eqb, ltb-true, ltb-false, leb-true, eqb-true, eqb-false, not-false}
@@ -15,7 +14,7 @@ use Rattle.refusal.specs.declared.Checked.the-variants.{Passed}
 use Rattle.refusal.specs.Refusals.{largest64}
 use Rattle.chunk_grid.specs.declared.Slot.{Slot}
 use Rattle.chunk_grid.specs.declared.Slot.the-variants.{At}
-use Rattle.chunk_grid.specs.Grid.{Grid, pairwise, every, any, countOf, counts, firstUnlimited, leadingIn, leading, toFront, fromFront, ordered, multiplier, multipliers, hasZero, numbersNothing, quotients, offsets, below, chunkAt, aligned, isChunk, total, slotFrom, slotOf, shapesTest, gridTest}
+use Rattle.chunk_grid.specs.Grid.{Grid, pairwise, every, any, countOf, counts, firstUnlimited, leadingIn, leading, toFront, fromFront, ordered, multiplier, multipliers, hasZero, numbersNothing, quotients, offsets, below, aligned, isChunk, total, slotFrom, slotOf, shapesTest, gridTest}
 use Rattle.chunk_grid.proofs.Tests.{by-cond, false-true, both, neither}
 use Rattle.chunk_grid.proofs.Order.{back-front, front-back, length-front, length-back, length-pairwise, pairwise-front, pairwise-back, same-drop, any-front}
 
@@ -307,26 +306,3 @@ module _ (g : Grid) (b : Accepted g) where
         below-zero (drop 1 qs) (drop 1 (ordered g)) (same-drop 1 qs (ordered g) lq) (i .0),
         i .2,
       )
-
-  -- From rank 1 on the chunk of a slot has that slot; ..
-  pub chunk-slot : (s : ℕ) (corner : List ℕ) → 0 < g .rank → s ≤ largest64 → chunkAt g s ≡ some corner → (isChunk g corner ≡ true) × (slotOf g corner ≡ At s)
-  unfolding chunkAt
-  chunk-slot s corner r l =
-      by-cond (λ (x : Option (List ℕ)). x ≡ some corner → (isChunk g corner ≡ true) × (slotOf g corner ≡ At s))
-      (numbersNothing g || not (below (offsets g s) (g .present)))
-      (λ t h. let z : _≡_ {A = ℕ} 0 1 = cc in absurd (omega arith))
-      (λ t h.
-      let z = neither (numbersNothing g) (not (below (offsets g s) (g .present))) t in
-      let e = Option·some-injective _ _ h in
-      subst (λ (x : List ℕ). (isChunk g x ≡ true) × (slotOf g x ≡ At s)) e (offsets-chunk s (not-false _ (z .1)), slot-offsets s r (z .0) l))
-
-  -- .. a chunk that has a slot is the chunk of that slot.
-  pub slot-chunk : (corner : List ℕ) (s : ℕ) → isChunk g corner ≡ true → slotOf g corner ≡ At s → chunkAt g s ≡ some corner
-  unfolding chunkAt
-  slot-chunk corner s a h =
-      let o = offsets-slot corner s a h in
-      rw (o .0, o .1, chunk-inv g corner a .inside) refl
-
-  -- Two chunks with one slot are one chunk.
-  pub slot-injective : (a b′ : List ℕ) (s : ℕ) → isChunk g a ≡ true → isChunk g b′ ≡ true → slotOf g a ≡ At s → slotOf g b′ ≡ At s → a ≡ b′
-  slot-injective a b′ s k l h i = sym (offsets-slot a s k h .0) ∙ offsets-slot b′ s l i .0

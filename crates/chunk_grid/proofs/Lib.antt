@@ -8,3 +8,5 @@ pub mod Building
 pub mod Numbered
 pub mod Corners
 pub mod Shapes
+pub mod Slots
+pub mod Tried
