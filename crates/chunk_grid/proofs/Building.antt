@@ -1,5 +1,5 @@
 -- What the loops that build a grid have at each turn. Assumes nothing.
-use Prim.Native.Nat.{ℕ, zero, suc, _+_, _-_, _*_, _/_, _%_, _<_, _≤_, min, max}
+use Prim.Native.Nat.{ℕ, zero, suc, _+_, _-_, _*_, _/_, _%_, _<_, _≤_, max}
 use mathlib.Core.Path.{_≡_, refl, sym, ap, _∙_}
 use mathlib.Core.Bool.{Bool, true, false, not, _&&_, _||_}
 use mathlib.Core.List.{List, [], _∷_}
@@ -10,14 +10,15 @@ use native.Mathlib.Omega.{arith}
 use borrow.Author.Tests.{eq-eqb, ne-eqb, lt-ltb, le-ltb}
 use lib.Arith.{digits-div}
 use lib.Dec.{eqb, ltb}
-use lib.ListN.{length, getD, take, drop, set, length-take, length-set, drop-of-length-le}
-use lib.Seq.{drop-cons, drop-drop, getD-take, getD-set-same, getD-set-other, ext-getD}
+use lib.ListN.{length, getD, drop, set, length-set, drop-of-length-le}
+use lib.Seq.{drop-cons, drop-drop, getD-set-same, getD-set-other, ext-getD}
 use Rattle.refusal.specs.declared.Refusal.{Refusal}
 use Rattle.refusal.specs.declared.Checked.the-variants.{Passed, Refused}
 use Rattle.refusal.specs.Refusals.{largest64, refuse, _then_}
-use Rattle.chunk_grid.specs.Grid.{any, ceilDiv, firstUnlimited, leadingIn, multiplier, multipliers, hasZero, shapesTest, multiplierTest, productTest}
+use Rattle.chunk_grid.specs.Grid.{any, ceilDiv, firstUnlimited, leadingIn, toFront, multiplier, multipliers, hasZero, shapesTest, multiplierTest, productTest}
 use Rattle.chunk_grid.specs.Values.{given}
 use Rattle.chunk_grid.specs.declared.GridOrder.{GridOrder}
+use Rattle.chunk_grid.proofs.Order.{front-nil}
 use Rattle.chunk_grid.proofs.Members.{multiplier-at}
 use Rattle.chunk_grid.proofs.Grids.{length-multipliers}
 
@@ -114,26 +115,29 @@ refused-front (suc k) [] r h = h
 refused-front (suc k) (c ∷ cs) r h = rw (refused-front k cs r h) refl
 
 -- What the loop of the multipliers has where the counts cs from place i on are done.
-pub record Made (cs : List ℕ) (i : ℕ) (numbers : Bool) (down : List ℕ) : Type 0 where
-  pub within : (min 1 (length cs) ≤ i) × (i ≤ length cs) × (length cs ≤ 32)
-  pub size : length down ≡ 32
+pub record Behind (cs : List ℕ) (i : ℕ) (numbers : Bool) (down : List ℕ) : Type 0 where
+  pub within : (0 < i) × (i ≤ length cs)
+  pub size : length down ≡ length cs
   pub tested : multiplierTest (drop i cs) ≡ Passed
   pub numbering : numbers ≡ not (hasZero (drop i cs))
   pub each : (j : ℕ) → i ≤ suc j → j < length cs → getD down j 0 ≡ multiplier (drop (suc j) cs)
 
-pub made-none : (cs down : List ℕ) → length cs ≤ 32 → length down ≡ 32 → ((j : ℕ) → j < 32 → getD down j 0 ≡ 1) → Made cs (length cs) true down
+pub made-none : (cs down : List ℕ) → 0 < length cs → length down ≡ length cs → Behind cs (length cs) true (set down (length cs - 1) 1)
 unfolding multiplierTest hasZero any multiplier
-made-none cs down small size ones =
+made-none cs down pos size =
     let e = drop-of-length-le cs {i = length cs} (omega arith) in
     record {
-      within = (omega arith, omega arith, small);
-      size = size;
+      within = (pos, omega arith);
+      size = length-set down (length cs - 1) 1 ∙ size;
       tested = rw e refl;
       numbering = rw e refl;
-      each = λ j h k. ones j (omega arith) ∙ rw (drop-of-length-le cs {i = suc j} (omega arith)) refl;
+      each = λ j h k.
+          let f : j ≡ length cs - 1 = omega arith in
+          ap (λ (n : ℕ). getD (set down (length cs - 1) 1) n 0) f ∙ getD-set-same down (length cs - 1) 1 0 (omega arith)
+          ∙ rw (drop-of-length-le cs {i = suc j} (omega arith)) refl;
     }
 
-module _ (cs : List ℕ) (i : ℕ) (numbers : Bool) (down : List ℕ) (m : Made cs i numbers down) (more : 1 < i) where
+module _ (cs : List ℕ) (i : ℕ) (numbers : Bool) (down : List ℕ) (m : Behind cs i numbers down) (more : 1 < i) where
   abbrev pub count : ℕ
   count = getD cs (i - 1) 0
 
@@ -169,10 +173,10 @@ module _ (cs : List ℕ) (i : ℕ) (numbers : Bool) (down : List ℕ) (m : Made 
   unfolding refuse _then_
   made-over n h = refused-here _ (test-here ∙ rw (ne-eqb count largest64 n, lt-ltb largest64 next h) refl)
 
-  pub made-more : (count ≡ largest64 → ⊥) → next ≤ largest64 → Made cs (i - 1) (numbers && not (eqb count 0)) (set down (i - 1 - 1) next)
+  pub made-more : (count ≡ largest64 → ⊥) → next ≤ largest64 → Behind cs (i - 1) (numbers && not (eqb count 0)) (set down (i - 1 - 1) next)
   unfolding refuse _then_ hasZero any
   made-more n h = record {
-    within = (omega arith, omega (arith, m .within), m .within .2);
+    within = (omega arith, omega (arith, m .within));
     size = length-set down (i - 1 - 1) next ∙ m .size;
     tested = test-here ∙ rw (ne-eqb count largest64 n, le-ltb largest64 next h) refl;
     numbering = rw (m .numbering, here) (de-morgan (hasZero (drop i cs)) (eqb count 0));
@@ -196,22 +200,21 @@ module _ (cs : List ℕ) (i : ℕ) (numbers : Bool) (down : List ℕ) (m : Made 
           go (no d) = getD-set-other down (i - 1 - 1) j next 0 d ∙ m .each j (omega arith) high
 
 -- all of them
-drop-one : (cs : List ℕ) (i : ℕ) → i ≤ 1 → min 1 (length cs) ≤ i → drop 1 cs ≡ drop i cs
-drop-one [] zero h k = refl
-drop-one (c ∷ cs) zero h k = absurd (omega arith)
-drop-one cs (suc zero) h k = refl
-drop-one cs (suc (suc i)) h k = absurd (omega arith)
-
-pub made-all : (cs : List ℕ) (i : ℕ) (numbers : Bool) (down : List ℕ) → Made cs i numbers down → i ≤ 1
-    → (multiplierTest (drop 1 cs) ≡ Passed) × (numbers ≡ not (hasZero (drop 1 cs))) × (take (length cs) down ≡ multipliers cs)
+pub made-all : (cs : List ℕ) (i : ℕ) (numbers : Bool) (down : List ℕ) → Behind cs i numbers down → i ≤ 1
+    → (multiplierTest (drop 1 cs) ≡ Passed) × (numbers ≡ not (hasZero (drop 1 cs))) × (down ≡ multipliers cs)
 made-all cs i numbers down m low =
-    let e = drop-one cs i low (m .within .0) in
-    let s = m .size in
-    let l = length-multipliers cs in
-    let t : length (take (length cs) down) ≡ length cs = length-take (length cs) down ∙ omega (arith, m .within) in (
-      rw e (m .tested),
-      rw e (m .numbering),
-      ext-getD 0 (take (length cs) down) (multipliers cs) (t ∙ sym l) (λ j h.
+    let e : 1 ≡ i = omega (arith, m .within) in
+    let s = m .size in (
+      ap (λ (k : ℕ). multiplierTest (drop k cs)) e ∙ m .tested,
+      m .numbering ∙ ap (λ (k : ℕ). not (hasZero (drop k cs))) (sym e),
+      ext-getD 0 down (multipliers cs) (s ∙ sym (length-multipliers cs)) (λ j h.
           let k : j < length cs = omega arith in
-          getD-take (length cs) down j 0 k ∙ m .each j (omega arith) k ∙ sym (multiplier-at cs j k)),
+          m .each j (omega arith) k ∙ sym (multiplier-at cs j k)),
     )
+
+pub made-empty : (u : ℕ) (counts down : List ℕ) → length counts ≡ 0 → length down ≡ length counts
+    → (Passed ≡ multiplierTest (drop 1 (toFront u counts))) × (true ≡ not (hasZero (drop 1 (toFront u counts)))) × (down ≡ multipliers (toFront u counts))
+unfolding multiplierTest hasZero any multipliers
+made-empty u [] [] h k = rw (front-nil u) (refl, refl, refl)
+made-empty u [] (x ∷ down) h k = absurd (omega arith)
+made-empty u (c ∷ counts) down h k = absurd (omega arith)

@@ -1,21 +1,21 @@
--- Slots and chunks: each gives the other back, and two chunks never share a slot. Assumes nothing.
+-- The numbering of a grid: quotients of a slot add up to it, and the slot of a slot's offsets is that slot. Assumes nothing.
 use Prim.Native.Nat.{ℕ, suc, _+_, _-_, _*_, _/_, _%_, _<_, _≤_, max}
 use mathlib.Core.Path.{_≡_, refl, sym, ap, subst, _∙_}
-use mathlib.Core.Bool.{Bool, true, false, not, cond, _&&_, _||_}
+use mathlib.Core.Bool.{Bool, true, false, not, cond, _&&_}
 use mathlib.Core.List.{List, [], _∷_}
-use mathlib.Core.Option.{Option, some, Option·some-injective}
 use native.Mathlib.Omega.{arith}
 use native.Mathlib.Nat.{pos-of-ne-zero, div-lt-iff-lt-mul, mod-lt, div-add-mod', mul-div-cancel, mul-mod-left, mul-le-mul-right}
 use borrow.Author.Tests.{lt-ltb, le-leb, eq-eqb, ne-eqb, ltb-true, ltb-false, leb-true, eqb-true, eqb-false, not-false}
 use lib.Dec.{ltb, leb, eqb}
 use lib.ListN.{length, drop}
 use lib.Arith.{digits-lt, digits-div, digits-mod}
+use Rattle.fields.proofs.Tests.{refuse-passed, then-passed}
 use Rattle.refusal.specs.declared.Checked.the-variants.{Passed}
 use Rattle.refusal.specs.Refusals.{largest64}
 use Rattle.chunk_grid.specs.declared.Slot.{Slot}
 use Rattle.chunk_grid.specs.declared.Slot.the-variants.{At}
-use Rattle.chunk_grid.specs.Grid.{Grid, pairwise, every, any, countOf, counts, firstUnlimited, leadingIn, leading, toFront, fromFront, ordered, multiplier, multipliers, hasZero, numbersNothing, quotients, offsets, below, chunkAt, aligned, isChunk, total, slotFrom, slotOf, shapesTest, gridTest}
-use Rattle.chunk_grid.proofs.Tests.{by-cond, false-true, both, neither, then-inv, refuse-inv}
+use Rattle.chunk_grid.specs.Grid.{Grid, pairwise, every, any, countOf, counts, firstUnlimited, leadingIn, leading, toFront, fromFront, ordered, multiplier, multipliers, hasZero, numbersNothing, quotients, offsets, below, aligned, isChunk, total, slotFrom, slotOf, shapesTest, gridTest}
+use Rattle.chunk_grid.proofs.Tests.{by-cond, false-true, both, neither}
 use Rattle.chunk_grid.proofs.Order.{back-front, front-back, length-front, length-back, length-pairwise, pairwise-front, pairwise-back, same-drop, any-front}
 
 -- multipliers
@@ -157,17 +157,17 @@ pub record Shaped (g : Grid) : Type 0 where
 same-eqb : (a b : ℕ) → not (eqb a b) ≡ false → a ≡ b
 same-eqb a b h = eqb-true a b (not-false _ h)
 
-pub shaped : (g : Grid) → shapesTest g ≡ Passed → Shaped g
+pub shaped : (g : Grid) → Passed ≡ shapesTest g → Shaped g
 unfolding shapesTest
 shaped g h =
-    let b = then-inv _ _ h in
-    let d = then-inv _ _ (b .1) in
-    let r = neither (ltb 32 (g .rank)) (not (eqb (length (g .chunk)) (g .rank))) (refuse-inv _ _ _ _ (b .0)) in
+    let b = then-passed _ _ h in
+    let d = then-passed _ _ (b .1) in
+    let r = neither (ltb 32 (g .rank)) (not (eqb (length (g .chunk)) (g .rank))) (refuse-passed _ _ _ _ (b .0)) in
     record {
       small = ltb-false 32 (g .rank) (r .0);
       chunked = same-eqb _ _ (r .1);
-      presented = same-eqb _ _ (refuse-inv _ _ _ _ (d .0));
-      bounded = λ m. same-eqb _ _ (rw m at (refuse-inv _ _ _ _ (d .1)));
+      presented = same-eqb _ _ (refuse-passed _ _ _ _ (d .0));
+      bounded = λ m. same-eqb _ _ (rw m at (refuse-passed _ _ _ _ (d .1)));
     }
 
 -- what an accepted grid keeps to
@@ -185,7 +185,7 @@ extents-length false m p n h k = h
 pub accepted : (g : Grid) → gridTest g ≡ Passed → Accepted g
 unfolding gridTest counts
 accepted g h =
-    let a = then-inv _ _ h in
+    let a = then-passed _ _ (sym h) in
     let s = shaped g (a .0) in
     let x = extents-length (g .hasMaximum) (g .maximum) (g .present) (g .rank) (s .presented) (s .bounded) in
     record {
@@ -193,7 +193,7 @@ accepted g h =
       chunked = s .chunked;
       presented = s .presented;
       counted = length-pairwise countOf _ (g .chunk) (x ∙ sym (s .chunked)) ∙ x;
-      positive = refuse-inv _ _ _ _ (then-inv _ _ (a .1) .0);
+      positive = refuse-passed _ _ _ _ (then-passed _ _ (a .1) .0);
     }
 
 -- the leading dimension is one of them
@@ -306,26 +306,3 @@ module _ (g : Grid) (b : Accepted g) where
         below-zero (drop 1 qs) (drop 1 (ordered g)) (same-drop 1 qs (ordered g) lq) (i .0),
         i .2,
       )
-
-  -- From rank 1 on the chunk of a slot has that slot; ..
-  pub chunk-slot : (s : ℕ) (corner : List ℕ) → 0 < g .rank → s ≤ largest64 → chunkAt g s ≡ some corner → (isChunk g corner ≡ true) × (slotOf g corner ≡ At s)
-  unfolding chunkAt
-  chunk-slot s corner r l =
-      by-cond (λ (x : Option (List ℕ)). x ≡ some corner → (isChunk g corner ≡ true) × (slotOf g corner ≡ At s))
-      (numbersNothing g || not (below (offsets g s) (g .present)))
-      (λ t h. let z : _≡_ {A = ℕ} 0 1 = cc in absurd (omega arith))
-      (λ t h.
-      let z = neither (numbersNothing g) (not (below (offsets g s) (g .present))) t in
-      let e = Option·some-injective _ _ h in
-      subst (λ (x : List ℕ). (isChunk g x ≡ true) × (slotOf g x ≡ At s)) e (offsets-chunk s (not-false _ (z .1)), slot-offsets s r (z .0) l))
-
-  -- .. a chunk that has a slot is the chunk of that slot.
-  pub slot-chunk : (corner : List ℕ) (s : ℕ) → isChunk g corner ≡ true → slotOf g corner ≡ At s → chunkAt g s ≡ some corner
-  unfolding chunkAt
-  slot-chunk corner s a h =
-      let o = offsets-slot corner s a h in
-      rw (o .0, o .1, chunk-inv g corner a .inside) refl
-
-  -- Two chunks with one slot are one chunk.
-  pub slot-injective : (a b′ : List ℕ) (s : ℕ) → isChunk g a ≡ true → isChunk g b′ ≡ true → slotOf g a ≡ At s → slotOf g b′ ≡ At s → a ≡ b′
-  slot-injective a b′ s k l h i = sym (offsets-slot a s k h .0) ∙ offsets-slot b′ s l i .0

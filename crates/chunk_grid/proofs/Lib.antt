@@ -7,3 +7,6 @@ pub mod Extents
 pub mod Building
 pub mod Numbered
 pub mod Corners
+pub mod Shapes
+pub mod Slots
+pub mod Tried

@@ -2,11 +2,12 @@
 use Prim.Native.Nat.{ℕ, zero, suc, _<_, _≤_}
 use mathlib.Core.Path.{_≡_, refl, sym, ap, _∙_}
 use mathlib.Core.Bool.{Bool, true, false, not, cond}
-use mathlib.Core.List.{List, [], _∷_}
+use mathlib.Core.List.{List, [], _∷_, _++_}
 use native.Mathlib.Omega.{arith}
 use borrow.Author.Tests.{le-ltb}
 use lib.ListN.{length, getD, take, drop}
-use lib.Seq.{length-take-le, take-all}
+use lib.Seq.{length-take-le, take-all, take-at}
+use Rattle.fields.proofs.Tests.{then-passed}
 use Rattle.refusal.specs.declared.Refusal.{Refusal}
 use Rattle.refusal.specs.declared.Checked.{Checked}
 use Rattle.refusal.specs.declared.Checked.the-variants.{Passed, Refused}
@@ -14,8 +15,7 @@ use Rattle.refusal.specs.Refusals.{largest64, refuse, _then_}
 use Rattle.chunk_grid.specs.declared.ChunkGrid.{ChunkGrid}
 use Rattle.chunk_grid.specs.declared.GridOrder.{GridOrder}
 use Rattle.chunk_grid.specs.Grid.{Grid, pairwise, any, ceilDiv, countOf, counts, leadingIn, leading, toFront, ordered, multipliers, hasZero, numbersNothing, overflows, shapesTest, multiplierTest, productTest, gridTest}
-use Rattle.chunk_grid.specs.Values.{isUnlimitedFirst, given, gridOf, Numbers, Counted, Extents}
-use Rattle.chunk_grid.proofs.Tests.{then-inv}
+use Rattle.chunk_grid.specs.Values.{isUnlimitedFirst, given, gridOf, numberingTest, Made, Numbers, Counted, Extents}
 use Rattle.chunk_grid.proofs.Grids.{shaped}
 use Rattle.chunk_grid.proofs.Building.{rank-over, shapes-agree}
 
@@ -40,7 +40,7 @@ pub same-grid : (rank : ℕ) (chunk present maximum c p m : List ℕ) (has : Boo
     → gridOf (record { rank = rank; chunk = c; present = p; «has_maximum» = has; maximum = m; order = o }) ≡ given rank chunk present has maximum o
 unfolding gridOf given
 same-grid rank chunk present maximum c p m has o t hc hp hm =
-    let s = shaped (given rank chunk present has maximum o) (sym t) in
+    let s = shaped (given rank chunk present has maximum o) t in
     let first = whole rank chunk c (s .chunked) (s .small) hc in
     let second = whole rank present p (s .presented) (s .small) hp in
     let third : cond has (take rank m) [] ≡ cond has maximum [] = go has (s .small) (s .bounded) in
@@ -53,66 +53,95 @@ same-grid rank chunk present maximum c p m has o t hc hp hm =
     go true small h = whole rank maximum m (h refl) small hm
     go false small h = refl
 
+-- the extents that a grid's counts are taken from
+abbrev pub limitsOf : Grid → List ℕ
+limitsOf g = cond (g .hasMaximum) (g .maximum) (g .present)
+
+-- behind the tests of the shapes
+pub tests : (g : Grid) → shapesTest g ≡ Passed → gridTest g ≡ numberingTest (g .unlimitedFirst) (limitsOf g) (g .chunk)
+unfolding gridTest numberingTest ordered leading counts _then_
+tests g e = rw e refl
+
+pub zero-length : (b : Bool) (limits chunk : List ℕ) → hasZero chunk ≡ true → Refused (record { number = 6; first = 0; second = 0 }) ≡ numberingTest b limits chunk
+unfolding numberingTest refuse _then_
+zero-length b limits chunk z = rw z refl
+
+-- each number from the one before, all from the counts
+module _ (b : Bool) (limits present chunk counts bound down : List ℕ) (rotated : ℕ) (numbers : Bool) (behind product checked : Checked)
+    (z : hasZero chunk ≡ false) (c : counts ≡ pairwise countOf limits chunk) (d : bound ≡ pairwise ceilDiv present chunk) (u : rotated ≡ leadingIn b counts)
+    (t : behind ≡ multiplierTest (drop 1 (toFront rotated counts)))
+    (m : behind ≡ Passed → (numbers ≡ not (hasZero (drop 1 (toFront rotated counts)))) × (down ≡ multipliers (toFront rotated counts)))
+    (p : product ≡ productTest 1 counts) (w : checked ≡ behind then product) where
+  pub made : (checked ≡ numberingTest b limits chunk) × (checked ≡ Passed → Made b limits present chunk rotated numbers counts bound down)
+  unfolding numberingTest refuse _then_
+  made = (
+    w ∙ rw (t, p, u, c, z) refl,
+    λ e.
+        let n = m (sym (then-passed behind product (sym e ∙ w) .0)) in
+        record {
+          leads = u ∙ ap (leadingIn b) c;
+          numbering = n .0 ∙ ap (λ (l : List ℕ). not (hasZero (drop 1 (toFront rotated l)))) c;
+          counted = c;
+          bounds = d;
+          downs = n .1 ∙ ap (λ (l : List ℕ). multipliers (toFront rotated l)) c;
+        },
+  )
+
+-- what is made of a grid, in arrays
+pub numbered : (g : Grid) (chunk counted bound down : List ℕ) (rotated : ℕ) (numbers : Bool) → gridTest g ≡ Passed → take (g .rank) chunk ≡ g .chunk → overflows (g .present) ≡ false
+    → Made (g .unlimitedFirst) (limitsOf g) (g .present) (g .chunk) rotated numbers (take (g .rank) counted) (take (g .rank) bound) (take (g .rank) down)
+    → (Numbers (g .rank) rotated chunk down g) × (Counted (g .rank) counted g) × (Extents (g .rank) numbers bound g)
+unfolding counts leading ordered numbersNothing
+numbered g chunk counted bound down rotated numbers t c fit m = (
+  record { built = t; ranked = refl; leads = m .leads; chunks = c; downs = m .downs ∙ rw (m .leads) refl },
+  m .counted,
+  record { numbering = m .numbering ∙ rw (m .leads) refl; bounds = m .bounds; fits = fit },
+)
+
+-- For a value of the code: 3 where its rank is over 32, ..
 pub over-32 : (k : ChunkGrid) → 32 < k .rank → Refused (record { number = 3; first = 0; second = 0 }) ≡ gridTest (gridOf k)
-unfolding gridTest gridOf _then_
-over-32 k h = rw (← rank-over (k .rank) (take (k .rank) (k .chunk)) (take (k .rank) (k .present)) (take (k .rank) (k .maximum)) (k .order) (k .«has_maximum») h) refl
+unfolding gridOf
+over-32 k h = refused-shapes (gridOf k) _ (rank-over (k .rank) (take (k .rank) (k .chunk)) (take (k .rank) (k .present)) (take (k .rank) (k .maximum)) (k .order) (k .«has_maximum») h)
 
+-- .. else its arrays are shapes of one rank.
 module _ (k : ChunkGrid) (small : k .rank ≤ 32) (sizes : (length (k .chunk) ≡ 32) × (length (k .present) ≡ 32) × (length (k .maximum) ≡ 32)) where
-  abbrev chunk : List ℕ
-  chunk = take (k .rank) (k .chunk)
+  shapes-pass : shapesTest (gridOf k) ≡ Passed
+  unfolding gridOf
+  shapes-pass =
+      sym (shapes-agree (k .rank) (take (k .rank) (k .chunk)) (take (k .rank) (k .present)) (take (k .rank) (k .maximum)) (k .order) small
+      (length-take-le (k .rank) (k .chunk) (omega arith)) (length-take-le (k .rank) (k .present) (omega arith)) (k .«has_maximum») (λ t. length-take-le (k .rank) (k .maximum) (omega arith)))
 
-  -- the extents that the counts are taken from
-  abbrev limits : List ℕ
-  limits = take (k .rank) (cond (k .«has_maximum») (k .maximum) (k .present))
+  limits-are : limitsOf (gridOf k) ≡ take (k .rank) (cond (k .«has_maximum») (k .maximum) (k .present))
+  unfolding gridOf given
+  limits-are = cond-cond (k .«has_maximum») (k .rank) (k .maximum) (k .present)
 
-  tests : gridTest (gridOf k) ≡ refuse 6 0 0 (hasZero chunk) then multiplierTest (drop 1 (ordered (gridOf k))) then productTest 1 (counts (gridOf k))
-  unfolding gridTest gridOf given _then_
-  tests =
-      let e = shapes-agree (k .rank) chunk (take (k .rank) (k .present)) (take (k .rank) (k .maximum)) (k .order) small
-      (length-take-le (k .rank) (k .chunk) (omega arith)) (length-take-le (k .rank) (k .present) (omega arith)) (k .«has_maximum») (λ t. length-take-le (k .rank) (k .maximum) (omega arith)) in
-      rw (← e) refl
+  -- what is made, at the beginning of longer lists
+  pub numbering-is : (a b d x y z : List ℕ) (rotated : ℕ) (numbers : Bool) (checked : Checked) → length a ≡ k .rank → length b ≡ k .rank → length d ≡ k .rank
+      → overflows (take (k .rank) (k .present)) ≡ false
+      → (checked ≡ numberingTest (isUnlimitedFirst (k .order)) (take (k .rank) (cond (k .«has_maximum») (k .maximum) (k .present))) (take (k .rank) (k .chunk)))
+      → (checked ≡ Passed
+      → Made (isUnlimitedFirst (k .order)) (take (k .rank) (cond (k .«has_maximum») (k .maximum) (k .present))) (take (k .rank) (k .present)) (take (k .rank) (k .chunk)) rotated numbers a b d)
+      → (checked ≡ gridTest (gridOf k))
+      × (checked ≡ Passed
+      → (Numbers (k .rank) rotated (k .chunk) (d ++ z) (gridOf k)) × (Counted (k .rank) (a ++ x) (gridOf k)) × (Extents (k .rank) numbers (b ++ y) (gridOf k)))
+  unfolding gridOf given
+  numbering-is a b d x y z rotated numbers checked la lb ld fit c m =
+      let e : checked ≡ gridTest (gridOf k) = c ∙ rw (← limits-are) (sym (tests (gridOf k) shapes-pass)) in (
+        e,
+        λ p. numbered (gridOf k) (k .chunk) (a ++ x) (b ++ y) (d ++ z) rotated numbers (sym e ∙ p) refl fit
+            (rw (take-at a x (k .rank) la, take-at b y (k .rank) lb, take-at d z (k .rank) ld) (rw (← limits-are) at (m p))),
+      )
 
-  pub zero-length : hasZero chunk ≡ true → Refused (record { number = 6; first = 0; second = 0 }) ≡ gridTest (gridOf k)
-  unfolding refuse _then_
-  zero-length z = sym (tests ∙ rw z refl)
+-- For the shapes that are given.
+pub given-lengths : (rank : ℕ) (chunk present maximum : List ℕ) (has : Bool) (o : GridOrder) → Passed ≡ shapesTest (given rank chunk present has maximum o)
+    → (has ≡ true → length maximum ≡ length chunk) × (length present ≡ length chunk) × (length chunk ≤ 32)
+unfolding given
+given-lengths rank chunk present maximum has o e =
+    let s = shaped (given rank chunk present has maximum o) e in
+    (λ h. (rw h at (s .bounded h)) ∙ sym (s .chunked), s .presented ∙ sym (s .chunked), omega (arith, s .chunked, s .small))
 
-  counts-are : counts (gridOf k) ≡ pairwise countOf limits chunk
-  unfolding counts gridOf given
-  counts-are = ap (λ (l : List ℕ). pairwise countOf l chunk) (cond-cond (k .«has_maximum») (k .rank) (k .maximum) (k .present))
-
-  -- each number from the one before, all from the counts
-  module _ (counted down bound : List ℕ) (rotated : ℕ) (numbers : Bool) (behind product checked : Checked)
-      (z : hasZero chunk ≡ false) (fit : overflows (take (k .rank) (k .present)) ≡ false)
-      (c : take (k .rank) counted ≡ pairwise countOf limits chunk)
-      (b : take (k .rank) bound ≡ pairwise ceilDiv (take (k .rank) (k .present)) chunk)
-      (u : rotated ≡ leadingIn (isUnlimitedFirst (k .order)) (take (k .rank) counted))
-      (t : behind ≡ multiplierTest (drop 1 (toFront rotated (take (k .rank) counted))))
-      (m : behind ≡ Passed → (numbers ≡ not (hasZero (drop 1 (toFront rotated (take (k .rank) counted))))) × (take (k .rank) down ≡ multipliers (toFront rotated (take (k .rank) counted))))
-      (p : product ≡ productTest 1 (take (k .rank) counted)) (w : checked ≡ behind then product) where
-    counted-are : take (k .rank) counted ≡ counts (gridOf k)
-    counted-are = c ∙ sym counts-are
-
-    leads : rotated ≡ leading (gridOf k)
-    unfolding leading gridOf given
-    leads = u ∙ ap (leadingIn (isUnlimitedFirst (k .order))) counted-are
-
-    ordered-are : toFront rotated (take (k .rank) counted) ≡ ordered (gridOf k)
-    unfolding ordered
-    ordered-are = rw (counted-are, leads) refl
-
-    checked-is : checked ≡ gridTest (gridOf k)
-    unfolding refuse _then_
-    checked-is = w ∙ rw (t, p, ordered-are, counted-are) (sym (tests ∙ rw z refl))
-
-    pub numbering-is : (checked ≡ gridTest (gridOf k))
-        × (checked ≡ Passed → (Numbers (k .rank) rotated (k .chunk) down (gridOf k)) × (Counted (k .rank) counted (gridOf k)) × (Extents (k .rank) numbers bound (gridOf k)))
-    unfolding gridOf given numbersNothing
-    numbering-is = (
-      checked-is,
-      λ e.
-          let n = m (then-inv behind product (sym w ∙ e) .0) in (
-            record { built = sym checked-is ∙ e; ranked = refl; leads = leads; chunks = refl; downs = n .1 ∙ ap multipliers ordered-are },
-            counted-are,
-            record { numbering = n .0 ∙ ap (λ (l : List ℕ). not (hasZero (drop 1 l))) ordered-are; bounds = b; fits = fit },
-          ),
-    )
+pub tests-given : (rank : ℕ) (chunk present maximum : List ℕ) (has : Bool) (o : GridOrder) → Passed ≡ shapesTest (given rank chunk present has maximum o)
+    → numberingTest (isUnlimitedFirst o) (cond has maximum present) chunk ≡ gridTest (given rank chunk present has maximum o)
+unfolding given
+tests-given rank chunk present maximum true o e = sym (tests (given rank chunk present true maximum o) (sym e))
+tests-given rank chunk present maximum false o e = sym (tests (given rank chunk present false maximum o) (sym e))

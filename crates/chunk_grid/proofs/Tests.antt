@@ -7,9 +7,7 @@ use borrow.Author.Tests.{ltb-true, ltb-false}
 use native.Mathlib.Omega.{arith}
 use lib.Dec.{ltb}
 use Rattle.refusal.specs.declared.Refusal.{Refusal}
-use Rattle.refusal.specs.declared.Checked.{Checked}
 use Rattle.refusal.specs.declared.Checked.the-variants.{Passed, Refused}
-use Rattle.refusal.specs.Refusals.{refuse, _then_}
 
 pub by-cond {ℓ κ} : {A : Type ℓ} (P : A → Type κ) (t : Bool) {x y : A} → (t ≡ true → P x) → (t ≡ false → P y) → P (cond t x y)
 by-cond P true f g = f refl
@@ -37,14 +35,3 @@ neither false b h = (refl, h)
 
 pub refused-passed : (r : Refusal) → Refused r ≡ Passed → ⊥
 refused-passed r h = let z : _≡_ {A = ℕ} 0 1 = cc in omega arith
-
--- two tests that have passed
-pub then-inv : (t u : Checked) → t then u ≡ Passed → (t ≡ Passed) × (u ≡ Passed)
-unfolding _then_
-then-inv (Refused r) u h = absurd (refused-passed r h)
-then-inv Passed u h = (refl, h)
-
-pub refuse-inv : (n x y : ℕ) (b : Bool) → refuse n x y b ≡ Passed → b ≡ false
-unfolding refuse
-refuse-inv n x y true h = absurd (refused-passed _ h)
-refuse-inv n x y false h = refl

@@ -4,14 +4,15 @@ use mathlib.Core.Path.{_≡_}
 use mathlib.Core.Bool.{Bool, true, false, not, cond}
 use mathlib.Core.List.{List, []}
 use lib.Dec.{ltb}
-use lib.ListN.{take}
+use lib.ListN.{take, drop}
 use lib.Seq.{sets}
 use Rattle.refusal.specs.declared.Checked.{Checked}
 use Rattle.refusal.specs.declared.Checked.the-variants.{Passed, Refused}
+use Rattle.refusal.specs.Refusals.{refuse, _then_}
 use Rattle.chunk_grid.specs.declared.ChunkGrid.{ChunkGrid}
 use Rattle.chunk_grid.specs.declared.GridOrder.{GridOrder}
 use Rattle.chunk_grid.specs.declared.GridOrder.the-variants.{RowMajor, UnlimitedFirst}
-use Rattle.chunk_grid.specs.Grid.{Grid, pairwise, ceilDiv, counts, leading, ordered, multipliers, numbersNothing, offsets, overflows, gridTest}
+use Rattle.chunk_grid.specs.Grid.{Grid, pairwise, ceilDiv, countOf, counts, leadingIn, leading, toFront, ordered, multipliers, hasZero, numbersNothing, offsets, overflows, multiplierTest, productTest, gridTest}
 
 unfoldable pub isUnlimitedFirst : GridOrder → Bool
 isUnlimitedFirst RowMajor = false
@@ -42,6 +43,20 @@ whereTested (Refused r) g = given 0 [] [] false [] RowMajor
 unfoldable pub dimAt : ℕ → ℕ → ℕ
 dimAt u zero = u
 dimAt u (suc i) = cond (ltb i u) i (suc i)
+
+-- the tests behind those of the shapes, over the extents that the counts are taken from
+unfoldable pub numberingTest : Bool → List ℕ → List ℕ → Checked
+numberingTest unlimitedFirst limits chunk =
+    let cs = pairwise countOf limits chunk in
+    refuse 6 0 0 (hasZero chunk) then multiplierTest (drop 1 (toFront (leadingIn unlimitedFirst cs) cs)) then productTest 1 cs
+
+-- what is made where these have passed
+pub record Made (unlimitedFirst : Bool) (limits present chunk : List ℕ) (rotated : ℕ) (numbers : Bool) (counts bound down : List ℕ) : Type 0 where
+  pub leads : rotated ≡ leadingIn unlimitedFirst (pairwise countOf limits chunk)
+  pub numbering : numbers ≡ not (hasZero (drop 1 (toFront rotated (pairwise countOf limits chunk))))
+  pub counted : counts ≡ pairwise countOf limits chunk
+  pub bounds : bound ≡ pairwise ceilDiv present chunk
+  pub downs : down ≡ multipliers (toFront rotated (pairwise countOf limits chunk))
 
 -- What is made of a built grid g once: the leading dimension, and the multipliers in the grid's order, beside the chunk's lengths.
 pub record Numbers (rank rotated : ℕ) (chunk down : List ℕ) (g : Grid) : Type 0 where

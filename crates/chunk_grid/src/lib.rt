@@ -11,7 +11,10 @@ ghost use Rattle.refusal.specs.Refusals.{largest64, refuse, _then_};
 ghost use Rattle.chunk_grid.specs.Grid.{Grid, pairwise, ceilDiv, countOf, firstUnlimited, leadingIn, toFront};
 ghost use Rattle.chunk_grid.specs.Grid.{multipliers, hasZero, inExtent, cornerTest, slotOf};
 ghost use Rattle.chunk_grid.specs.Grid.{shapesTest, multiplierTest, productTest, gridTest};
-ghost use Rattle.chunk_grid.specs.Values.{isUnlimitedFirst, given, gridOf, whereTested, dimAt, Numbers, Counted, Extents, handed};
+ghost use Rattle.chunk_grid.specs.Values.{isUnlimitedFirst, given, gridOf, whereTested, dimAt};
+ghost use Rattle.chunk_grid.specs.Values.{numberingTest, Made, Numbers, Counted, Extents, handed};
+ghost use Rattle.chunk_grid.specs.Shapes.{shapeOf, givenBytes};
+use fields::bytes::read_u64_le;
 use fields::convert::Exact;
 use fields::convert::checked_add;
 use fields::convert::checked_mul;
@@ -40,26 +43,17 @@ pub struct Built {
     pub grid: ChunkGrid,
 }
 
-// What a grid's slots are numbered by, where its test has passed: the dimension in front; whether any slot is numbered at all; for each
-// dimension how many chunks the present extent reaches into, and its chunk count; and the multipliers, in the grid's order.
+// What a grid's slots are numbered by, beside the lists of numbers that are lent: the dimension in front, and whether any slot is
+// numbered at all.
 pub struct Numbering {
     pub checked: Checked,
     pub rotated: u64,
     pub numbers: bool,
-    pub bound: [u64; 32],
-    pub counts: [u64; 32],
-    pub down: [u64; 32],
-}
-
-struct Counts {
-    counts: [u64; 32],
-    bound: [u64; 32],
 }
 
 struct Multipliers {
     checked: Checked,
     numbers: bool,
-    down: [u64; 32],
 }
 
 // What a slot's offsets come to.
@@ -92,6 +86,14 @@ impl ChunkGrid {
         if let Checked::Refused(r) = shapes {
             return refused_grid(r);
         }
+        let checked = if has_maximum {
+            numbering_test(maximum, present, chunk, order)
+        } else {
+            numbering_test(present, present, chunk, order)
+        };
+        if let Checked::Refused(r) = checked {
+            return refused_grid(r);
+        }
         let chunk = padded(chunk);
         let present = padded(present);
         let maximum = padded(maximum);
@@ -103,46 +105,68 @@ impl ChunkGrid {
             maximum,
             order,
         };
-        let numbering = grid.numbering();
-        let checked = numbering.checked;
-        if let Checked::Refused(r) = checked {
-            return refused_grid(r);
-        }
         Built { checked, grid }
     }
 
-    // What the grid's slots are numbered by.
-    pub fn numbering(self) -> Numbering
+    // The same of shapes that are given as bytes.
+    pub fn from_bytes(
+        rank: u64,
+        chunk: &[u8],
+        present: &[u8],
+        has_maximum: bool,
+        maximum: &[u8],
+        order: GridOrder,
+    ) -> Built
+        ensures checked { λ r. ⌜ r .checked ≡ gridTest (givenBytes rank (now (chunk .entry)) (now (present .entry)) «has_maximum» (now (maximum .entry)) order) ⌝ }
+        ensures grid { λ r. ⌜ gridOf (r .grid) ≡ whereTested (r .checked) (givenBytes rank (now (chunk .entry)) (now (present .entry)) «has_maximum» (now (maximum .entry)) order) ⌝ }
+    {
+        if 32 < rank {
+            return refused_grid(Refusal {
+                number: Refusal::RANK,
+                first: 0,
+                second: 0,
+            });
+        }
+        let mut lengths = [0u64; 32];
+        let mut extents = [0u64; 32];
+        let mut limits = [0u64; 32];
+        let n = read_shape(&mut lengths, rank, chunk) as usize;
+        let p = read_shape(&mut extents, rank, present) as usize;
+        let m = read_shape(&mut limits, rank, maximum) as usize;
+        ChunkGrid::new(
+            rank,
+            &lengths[..n],
+            &extents[..p],
+            has_maximum,
+            &limits[..m],
+            order,
+        )
+    }
+
+    // What the grid's slots are numbered by: for each dimension its count, and how many chunks its present extent reaches into; and the
+    // multipliers, in the grid's order.
+    pub fn numbering(self, counts: &mut [u64], bound: &mut [u64], down: &mut [u64]) -> Numbering
+        requires { ⌜ (32 ≤ length (now counts)) × (32 ≤ length (now bound)) × (32 ≤ length (now down)) ⌝ }
         ensures checked { λ r. ⌜ r .checked ≡ gridTest (gridOf self) ⌝ }
-        ensures numbers { λ r. ⌜ (r .checked ≡ Passed → (Numbers (self .rank) (r .rotated) (self .chunk) (r .down) (gridOf self)) × (Counted (self .rank) (r .counts) (gridOf self)) × (Extents (self .rank) (r .numbers) (r .bound) (gridOf self))) ⌝ }
+        ensures numbers { λ r. ⌜ (r .checked ≡ Passed → (Numbers (self .rank) (r .rotated) (self .chunk) (now (down .exit)) (gridOf self)) × (Counted (self .rank) (now (counts .exit)) (gridOf self)) × (Extents (self .rank) (r .numbers) (now (bound .exit)) (gridOf self))) ⌝ }
     {
         if 32 < self.rank {
             return refused_numbering(Refusal::RANK);
         }
         let rank = self.rank as usize;
         let chunk = self.chunk;
-        if has_zero(&chunk[..rank]) {
-            return refused_numbering(Refusal::CHUNK_LENGTH);
-        }
         let present = self.present;
         let limits = self.limits();
-        let made = counts_of(&limits[..rank], &present[..rank], &chunk[..rank]);
-        let counts = made.counts;
-        let bound = made.bound;
         let order = self.order;
-        let rotated = leading(order, &counts[..rank]);
-        let made = multipliers_of(&counts[..rank], rotated);
-        let down = made.down;
-        let behind = made.checked;
-        let checked = and_then(behind, product_test(&counts[..rank]));
-        Numbering {
-            checked,
-            rotated: rotated as u64,
-            numbers: made.numbers,
-            bound,
-            counts,
-            down,
-        }
+        number(
+            &mut counts[..rank],
+            &mut bound[..rank],
+            &mut down[..rank],
+            &limits[..rank],
+            &present[..rank],
+            &chunk[..rank],
+            order,
+        )
     }
 
     // The extents that the counts are taken from: the maximum, else the present ones.
@@ -180,6 +204,27 @@ impl ChunkGrid {
     }
 }
 
+// Reads a shape or corner, 8 bytes a dimension, and answers its rank: another one where there aren't 8 * rank bytes.
+pub fn read_shape(shape: &mut [u64], rank: u64, bytes: &[u8]) -> u64
+    requires { ⌜ (rank ≤ 32) × (32 ≤ length (now shape)) ⌝ }
+    ensures { λ r. ⌜ (r ≡ length (shapeOf rank (now (bytes .entry)))) × (now (shape .exit) ≡ sets (now (shape .entry)) 0 (shapeOf rank (now (bytes .entry)))) ⌝ }
+{
+    let n = rank as usize;
+    if bytes.len() != 8 * n {
+        if n == 0 {
+            shape[0] = 0;
+            return 1;
+        }
+        return 0;
+    }
+    let mut i = 0;
+    while i < n {
+        shape[i] = read_u64_le(bytes, 8 * i);
+        i += 1;
+    }
+    rank
+}
+
 // Refused with this number, which names no figures.
 fn refused(number: u64) -> Checked
     ensures { λ r. ⌜ r ≡ Refused (record { number = number; first = 0; second = 0 }) ⌝ }
@@ -212,14 +257,10 @@ fn refused_grid(r: Refusal) -> Built
 fn refused_numbering(number: u64) -> Numbering
     ensures { λ r. ⌜ r .checked ≡ Refused (record { number = number; first = 0; second = 0 }) ⌝ }
 {
-    let zeros = [0u64; 32];
     Numbering {
         checked: refused(number),
         rotated: 0,
         numbers: false,
-        bound: zeros,
-        counts: zeros,
-        down: zeros,
     }
 }
 
@@ -310,12 +351,10 @@ fn count_of(extent: u64, length: u64) -> u64
 }
 
 // Every dimension's chunk count, and how many chunks its present extent reaches into.
-fn counts_of(limits: &[u64], present: &[u64], chunk: &[u64]) -> Counts
-    requires { ⌜ (length (now limits) ≡ length (now chunk)) × (length (now present) ≡ length (now chunk)) × (length (now chunk) ≤ 32) × (hasZero (now chunk) ≡ false) ⌝ }
-    ensures { λ r. ⌜ (take (length (now (chunk .entry))) (r .counts) ≡ pairwise countOf (now (limits .entry)) (now (chunk .entry))) × (take (length (now (chunk .entry))) (r .bound) ≡ pairwise ceilDiv (now (present .entry)) (now (chunk .entry))) ⌝ }
+fn counts_of(counts: &mut [u64], bound: &mut [u64], limits: &[u64], present: &[u64], chunk: &[u64])
+    requires { ⌜ (length (now counts) ≡ length (now chunk)) × (length (now bound) ≡ length (now chunk)) × (length (now limits) ≡ length (now chunk)) × (length (now present) ≡ length (now chunk)) × (hasZero (now chunk) ≡ false) ⌝ }
+    ensures { λ _. ⌜ (now (counts .exit) ≡ pairwise countOf (now (limits .entry)) (now (chunk .entry))) × (now (bound .exit) ≡ pairwise ceilDiv (now (present .entry)) (now (chunk .entry))) ⌝ }
 {
-    let mut counts = [0u64; 32];
-    let mut bound = [0u64; 32];
     let mut i = 0;
     while i < chunk.len() {
         let length = chunk[i];
@@ -323,7 +362,6 @@ fn counts_of(limits: &[u64], present: &[u64], chunk: &[u64]) -> Counts
         bound[i] = ceil_div(present[i], length);
         i += 1;
     }
-    Counts { counts, bound }
 }
 
 // The first unlimited dimension; the rank where there is none.
@@ -360,14 +398,20 @@ fn at_least_one(n: u64) -> u64
 }
 
 // The multipliers from the last dimension forward: the last is 1, each earlier one the next one times the following count.
-fn multipliers_of(counts: &[u64], rotated: usize) -> Multipliers
-    requires { ⌜ (length (now counts) ≤ 32) × (rotated ≤ length (now counts) - 1) ⌝ }
+fn multipliers_of(down: &mut [u64], counts: &[u64], rotated: usize) -> Multipliers
+    requires { ⌜ (length (now down) ≡ length (now counts)) × (rotated ≤ length (now counts) - 1) ⌝ }
     ensures checked { λ r. ⌜ r .checked ≡ multiplierTest (drop 1 (toFront rotated (now (counts .entry)))) ⌝ }
-    ensures made { λ r. ⌜ (r .checked ≡ Passed → (r .numbers ≡ not (hasZero (drop 1 (toFront rotated (now (counts .entry)))))) × (take (length (now (counts .entry))) (r .down) ≡ multipliers (toFront rotated (now (counts .entry))))) ⌝ }
+    ensures made { λ r. ⌜ (r .checked ≡ Passed → (r .numbers ≡ not (hasZero (drop 1 (toFront rotated (now (counts .entry)))))) × (now (down .exit) ≡ multipliers (toFront rotated (now (counts .entry))))) ⌝ }
 {
-    let mut down = [1u64; 32];
     let mut numbers = true;
     let mut i = counts.len();
+    if i == 0 {
+        return Multipliers {
+            checked: Checked::Passed,
+            numbers,
+        };
+    }
+    down[i - 1] = 1;
     while 1 < i {
         i -= 1;
         let count = counts[dim_at(i, rotated)];
@@ -375,14 +419,12 @@ fn multipliers_of(counts: &[u64], rotated: usize) -> Multipliers
             return Multipliers {
                 checked: refused(Refusal::UNLIMITED),
                 numbers,
-                down,
             };
         }
         let Exact::Fits(next) = checked_mul(down[i], at_least_one(count)) else {
             return Multipliers {
                 checked: refused(Refusal::TOO_MANY_CHUNKS),
                 numbers,
-                down,
             };
         };
         down[i - 1] = next;
@@ -391,7 +433,6 @@ fn multipliers_of(counts: &[u64], rotated: usize) -> Multipliers
     Multipliers {
         checked: Checked::Passed,
         numbers,
-        down,
     }
 }
 
@@ -413,6 +454,56 @@ fn product_test(counts: &[u64]) -> Checked
         i += 1;
     }
     Checked::Passed
+}
+
+// Makes every number of a grid whose shapes have one rank; where a test refuses, the lent lists hold some of them.
+fn number(
+    counts: &mut [u64],
+    bound: &mut [u64],
+    down: &mut [u64],
+    limits: &[u64],
+    present: &[u64],
+    chunk: &[u64],
+    order: GridOrder,
+) -> Numbering
+    requires { ⌜ (length (now counts) ≡ length (now chunk)) × (length (now bound) ≡ length (now chunk)) × (length (now down) ≡ length (now chunk)) × (length (now limits) ≡ length (now chunk)) × (length (now present) ≡ length (now chunk)) ⌝ }
+    ensures checked { λ r. ⌜ r .checked ≡ numberingTest (isUnlimitedFirst order) (now (limits .entry)) (now (chunk .entry)) ⌝ }
+    ensures numbers { λ r. ⌜ (r .checked ≡ Passed → Made (isUnlimitedFirst order) (now (limits .entry)) (now (present .entry)) (now (chunk .entry)) (r .rotated) (r .numbers) (now (counts .exit)) (now (bound .exit)) (now (down .exit))) ⌝ }
+{
+    if has_zero(chunk) {
+        return refused_numbering(Refusal::CHUNK_LENGTH);
+    }
+    counts_of(counts, bound, limits, present, chunk);
+    let rotated = leading(order, counts);
+    let made = multipliers_of(down, counts, rotated);
+    let behind = made.checked;
+    let checked = and_then(behind, product_test(counts));
+    Numbering {
+        checked,
+        rotated: rotated as u64,
+        numbers: made.numbers,
+    }
+}
+
+// The tests of a grid whose shapes have one rank.
+fn numbering_test(limits: &[u64], present: &[u64], chunk: &[u64], order: GridOrder) -> Checked
+    requires { ⌜ (length (now limits) ≡ length (now chunk)) × (length (now present) ≡ length (now chunk)) × (length (now chunk) ≤ 32) ⌝ }
+    ensures { λ r. ⌜ r ≡ numberingTest (isUnlimitedFirst order) (now (limits .entry)) (now (chunk .entry)) ⌝ }
+{
+    let mut counts = [0u64; 32];
+    let mut bound = [0u64; 32];
+    let mut down = [0u64; 32];
+    let n = chunk.len();
+    let numbering = number(
+        &mut counts[..n],
+        &mut bound[..n],
+        &mut down[..n],
+        limits,
+        present,
+        chunk,
+        order,
+    );
+    numbering.checked
 }
 
 // The dimension at place i of the grid's order: dimension `rotated` is in front, those before it are one place later.

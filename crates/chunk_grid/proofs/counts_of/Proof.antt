@@ -1,28 +1,26 @@
 -- `chunk_grid::counts_of` meets its contract. Assumes nothing.
+use mathlib.Core.Path.{_≡_, sym, _∙_}
+use native.Mathlib.Omega.{arith}
+use borrow.Author.Needs.{needs}
+use Prim.Native.Nat.{ℕ, _-_, _≤_}
+use lib.ListN.{length, take}
 use lib.ListN.{length-set}
 use lib.Seq.{take-all}
 use lib.Dec.{eqb}
 use native.Mathlib.Nat.{pos-of-ne-zero}
 use borrow.Author.Tests.{eqb-false}
-use Rattle.chunk_grid.specs.Grid.{hasZero}
-use Rattle.chunk_grid.proofs.Members.{getD-pairwise, any-at}
+use Rattle.chunk_grid.specs.Grid.{pairwise, ceilDiv, countOf, hasZero}
+use Rattle.chunk_grid.proofs.Members.{take-more, getD-pairwise, any-at}
 use Rattle.chunk_grid.proofs.Order.{length-pairwise}
-use mathlib.Core.Path.{_≡_, sym, ap, _∙_}
-use native.Mathlib.Omega.{arith}
-use borrow.Author.Needs.{needs}
-use Prim.Native.Nat.{ℕ, _-_, _≤_}
-use lib.ListN.{length, take}
-use Rattle.chunk_grid.specs.Grid.{pairwise, ceilDiv, countOf}
-use Rattle.chunk_grid.proofs.Members.{take-more}
 use Rattle.chunk_grid.proofs.counts_of.Statement.{statement}
 use Rattle.chunk_grid.proofs.counts_of.Tie as tie
 
 abbrev Inv-loop : tie.InvT-loop
-Inv-loop limits present chunk counts₀ bound₀ i₀ counts bound i =
-    (i ≤ length chunk) × (length counts ≡ 32) × (length bound ≡ 32) × (take i counts ≡ take i (pairwise countOf limits chunk)) × (take i bound ≡ take i (pairwise ceilDiv present chunk))
+Inv-loop counts₀ bound₀ limits present chunk i₀ counts bound i =
+    (i ≤ length chunk) × (length counts ≡ length chunk) × (length bound ≡ length chunk) × (take i counts ≡ take i (pairwise countOf limits chunk)) × (take i bound ≡ take i (pairwise ceilDiv present chunk))
 
 abbrev μ-loop : tie.MeasureT-loop
-μ-loop limits present chunk counts₀ bound₀ i₀ counts bound i =
+μ-loop counts₀ bound₀ limits present chunk i₀ counts bound i =
     length chunk - i
 
 loop-holds : tie.Need-loop-holds Inv-loop μ-loop
@@ -43,14 +41,14 @@ shared-slice-read-count-of c = search needs
 count-of-requires : tie.Need-count-of-requires Inv-loop μ-loop
 unfolding hasZero
 count-of-requires c κs =
-    let a = c .before .before .before .before .before .before .before in
-    pos-of-ne-zero (eqb-false _ 0 (any-at (λ (n : ℕ). eqb n 0) (a .args .chunk .now) _ (a .pre .3) (c .before .before .loop-test .taken)))
+    let a = c .before .before .before .before .before .before .before .before .before in
+    pos-of-ne-zero (eqb-false _ 0 (any-at (λ (n : ℕ). eqb n 0) (a .args .chunk .now) _ (a .pre .4) (c .before .before .loop-test .taken)))
 
 mul-counts : tie.Need-mul-counts Inv-loop μ-loop
 mul-counts c = search needs
 
-array-write-counts : tie.Need-array-write-counts Inv-loop μ-loop
-array-write-counts c = search needs
+slice-write-counts : tie.Need-slice-write-counts Inv-loop μ-loop
+slice-write-counts c = search needs
 
 mul-ceil-div : tie.Need-mul-ceil-div Inv-loop μ-loop
 mul-ceil-div c = search needs
@@ -64,8 +62,8 @@ ceil-div-requires c κs = count-of-requires (c .before .before) κs
 mul-bound : tie.Need-mul-bound Inv-loop μ-loop
 mul-bound c = search needs
 
-array-write-bound : tie.Need-array-write-bound Inv-loop μ-loop
-array-write-bound c = search needs
+slice-write-bound : tie.Need-slice-write-bound Inv-loop μ-loop
+slice-write-bound c = search needs
 
 add-i : tie.Need-add-i Inv-loop μ-loop
 add-i c = search needs
@@ -76,28 +74,32 @@ loop-less c = search needs
 loop-again : tie.Need-loop-again Inv-loop μ-loop
 loop-again c =
     let l = c .before .before .before .before .before .before .loop in
-    let t = c .before .before .before .before .before .loop-test .taken in
-    let s = c .before .before .before .before .before .before .before .before .before .before in
+    let s = c .before .before .before .before .before .before .before .before .before .before .before .before in
     let x = s .args .limits .now in
     let y = s .args .present .now in
     let z = s .args .chunk .now in (
       omega arith,
       length-set (l .counts) (l .i) _ ∙ l .inv .1,
       length-set (l .bound) (l .i) _ ∙ l .inv .2,
-      take-more (pairwise countOf x z) (l .counts) (l .i) _ (l .inv .3) (omega arith) (omega (arith, length-pairwise countOf x z (s .pre .0))) (c .before .before .count-of .ensures ∙ sym (getD-pairwise countOf x z (l .i) (s .pre .0) (omega arith))),
-      take-more (pairwise ceilDiv y z) (l .bound) (l .i) _ (l .inv .4) (omega arith) (omega (arith, length-pairwise ceilDiv y z (s .pre .1))) (c .ceil-div .ensures ∙ sym (getD-pairwise ceilDiv y z (l .i) (s .pre .1) (omega arith))),
+      take-more (pairwise countOf x z) (l .counts) (l .i) _ (l .inv .3) (omega arith) (omega (arith, length-pairwise countOf x z (s .pre .2))) (c .before .before .count-of .ensures ∙ sym (getD-pairwise countOf x z (l .i) (s .pre .2) (omega arith))),
+      take-more (pairwise ceilDiv y z) (l .bound) (l .i) _ (l .inv .4) (omega arith) (omega (arith, length-pairwise ceilDiv y z (s .pre .3))) (c .ceil-div .ensures ∙ sym (getD-pairwise ceilDiv y z (l .i) (s .pre .3) (omega arith))),
     )
+
+same-length : tie.Need-same-length Inv-loop μ-loop
+same-length c = search needs
+
+same-length-2 : tie.Need-same-length-2 Inv-loop μ-loop
+same-length-2 c = search needs
 
 returns : tie.Need-returns Inv-loop μ-loop
 returns c =
     let l = c .before .loop in
-    let s = c .before .before .before .before .before in
+    let s = c .before .before .before .before .before .before .before in
     let x = s .args .limits .now in
     let y = s .args .present .now in
-    let z = s .args .chunk .now in
-    let e : length z ≡ l .i = omega arith in (
-      ap (λ (n : ℕ). take n (l .counts)) e ∙ l .inv .3 ∙ take-all (l .i) (pairwise countOf x z) (omega (arith, length-pairwise countOf x z (s .pre .0))),
-      ap (λ (n : ℕ). take n (l .bound)) e ∙ l .inv .4 ∙ take-all (l .i) (pairwise ceilDiv y z) (omega (arith, length-pairwise ceilDiv y z (s .pre .1))),
+    let z = s .args .chunk .now in (
+      sym (take-all (l .i) (l .counts) (omega arith)) ∙ l .inv .3 ∙ take-all (l .i) (pairwise countOf x z) (omega (arith, length-pairwise countOf x z (s .pre .2))),
+      sym (take-all (l .i) (l .bound) (omega arith)) ∙ l .inv .4 ∙ take-all (l .i) (pairwise ceilDiv y z) (omega (arith, length-pairwise ceilDiv y z (s .pre .3))),
     )
 
 pub counts-of-spec : {M : Type 1} → statement M
@@ -113,13 +115,15 @@ counts-of-spec =
     shared-slice-read-count-of
     count-of-requires
     mul-counts
-    array-write-counts
+    slice-write-counts
     mul-ceil-div
     shared-slice-read-ceil-div
     ceil-div-requires
     mul-bound
-    array-write-bound
+    slice-write-bound
     add-i
     loop-less
     loop-again
+    same-length
+    same-length-2
     returns)

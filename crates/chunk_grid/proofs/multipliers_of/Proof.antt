@@ -1,50 +1,67 @@
 -- `chunk_grid::multipliers_of` meets its contract. Assumes nothing.
-use Prim.Native.Nat.{_<_, max}
-use lib.ListN.{getD-replicate}
-use Rattle.chunk_grid.proofs.Tests.{refused-passed}
-use Rattle.chunk_grid.proofs.Order.{length-front}
-use mathlib.Core.Path.{_≡_, refl, sym, ap, _∙_}
+use mathlib.Core.Path.{_≡_, sym, ap, _∙_}
 use native.Mathlib.Omega.{arith}
 use borrow.Author.Needs.{needs}
-use Prim.Native.Nat.{ℕ, _-_}
-use lib.ListN.{length, getD, take}
+use Prim.Native.Nat.{ℕ, _-_, _<_, max}
+use lib.ListN.{length, getD}
 use Rattle.fields.proofs.Numbers.{fits-is, overflows-is}
 use Rattle.chunk_grid.specs.Grid.{toFront}
+use Rattle.chunk_grid.proofs.Tests.{refused-passed}
+use Rattle.chunk_grid.proofs.Order.{length-front}
 use Rattle.chunk_grid.proofs.Places.{dim-lt, front-at}
-use Rattle.chunk_grid.proofs.Building.{Made, made-none, made-unlimited, made-over, made-more, made-all}
+use Rattle.chunk_grid.proofs.Building.{Behind, made-none, made-unlimited, made-over, made-more, made-all, made-empty}
 use Rattle.chunk_grid.proofs.multipliers_of.Statement.{statement}
 use Rattle.chunk_grid.proofs.multipliers_of.Tie as tie
 
 abbrev Inv-loop : tie.InvT-loop
-Inv-loop counts rotated down₀ numbers₀ i₀ down numbers i =
-    Made (toFront rotated counts) i numbers down
+Inv-loop down₀ counts rotated numbers₀ i₀ down numbers i =
+    Behind (toFront rotated counts) i numbers down
 
 abbrev μ-loop : tie.MeasureT-loop
-μ-loop counts rotated down₀ numbers₀ i₀ down numbers i =
+μ-loop down₀ counts rotated numbers₀ i₀ down numbers i =
     i
 
 -- the list in the grid's order is as long, and the count that is read is the one of place i - 1
 long : (c : tie.Start Inv-loop μ-loop) → length (toFront (c .args .rotated) (c .args .counts .now)) ≡ length (c .args .counts .now)
 long c = length-front _ _ (c .pre .1)
 
-within : (c : tie.After-dim-at Inv-loop μ-loop) → c .dim-at .result < length (c .before .before .before .before .args .counts .now)
+within : (c : tie.After-dim-at Inv-loop μ-loop) → c .dim-at .result < length (c .before .before .before .before .before .before .args .counts .now)
 within c =
-    let s = c .before .before .before .before in
+    let s = c .before .before .before .before .before .before in
     let l = c .before .before .loop in
     rw (c .dim-at .ensures) (dim-lt (s .args .rotated) (length (s .args .counts .now)) (l .i - 1) (omega (arith, l .inv .within, long s)) (omega (arith, l .inv .within, long s)))
 
 counted : (c : tie.After-dim-at Inv-loop μ-loop)
-    → getD (c .before .before .before .before .args .counts .now) (c .dim-at .result) 0
-    ≡ getD (toFront (c .before .before .before .before .args .rotated) (c .before .before .before .before .args .counts .now)) (c .before .before .loop .i - 1) 0
+    → getD (c .before .before .before .before .before .before .args .counts .now) (c .dim-at .result) 0
+    ≡ getD (toFront (c .before .before .before .before .before .before .args .rotated) (c .before .before .before .before .before .before .args .counts .now)) (c .before .before .loop .i - 1) 0
 counted c =
-    let s = c .before .before .before .before in
+    let s = c .before .before .before .before .before .before in
     let l = c .before .before .loop in
     rw (c .dim-at .ensures) (sym (front-at (s .args .rotated) (l .i - 1) (s .args .counts .now) (omega (arith, l .inv .within, long s)) (omega (arith, l .inv .within, long s))))
 
+size : (c : tie.At-loop Inv-loop μ-loop) → length (c .loop .down) ≡ length (c .before .before .before .before .args .counts .now)
+size c = c .loop .inv .size ∙ long (c .before .before .before .before)
+
+returns : tie.Need-returns Inv-loop μ-loop
+returns c =
+    let s = c .before .before .before in
+    let m = made-empty (s .args .rotated) (s .args .counts .now) (s .args .down .now) (c .if1 .taken) (s .pre .0) in
+    (m .0, λ p. (m .1, m .2))
+
+sub-down : tie.Need-sub-down Inv-loop μ-loop
+sub-down c = search needs
+
+mul-down : tie.Need-mul-down Inv-loop μ-loop
+mul-down c = search needs
+
+slice-write-down : tie.Need-slice-write-down Inv-loop μ-loop
+slice-write-down c = search needs
+
 loop-holds : tie.Need-loop-holds Inv-loop μ-loop
 loop-holds c =
-    let s = c .before in
-    rw (← long s) (made-none _ _ (omega (arith, long s)) refl (λ j h. getD-replicate 32 j 1 0 h))
+    let s = c .before .before .before in
+    let e = long s in
+    rw (← long s) (made-none (toFront (s .args .rotated) (s .args .counts .now)) (s .args .down .now) (omega arith) (omega arith))
 
 sub-i : tie.Need-sub-i Inv-loop μ-loop
 sub-i c = search needs
@@ -53,7 +70,7 @@ dim-at-requires : tie.Need-dim-at-requires Inv-loop μ-loop
 dim-at-requires c κs = search needs
 
 mul-count : tie.Need-mul-count Inv-loop μ-loop
-mul-count c = omega (arith, within c, c .before .before .before .before .pre)
+mul-count c = omega (arith, within c)
 
 shared-slice-read-count : tie.Need-shared-slice-read-count Inv-loop μ-loop
 shared-slice-read-count c = within (c .before)
@@ -61,18 +78,21 @@ shared-slice-read-count c = within (c .before)
 refused-requires : tie.Need-refused-requires Inv-loop μ-loop
 refused-requires c κs = search needs
 
-returns : tie.Need-returns Inv-loop μ-loop
-returns c =
+same-length : tie.Need-same-length Inv-loop μ-loop
+same-length c = size (c .before .before .before .before .before) ∙ sym (c .before .before .before .before .before .before .before .before .before .pre .0)
+
+returns-2 : tie.Need-returns-2 Inv-loop μ-loop
+returns-2 c =
     let d = c .before .before .before in
     let l = d .before .before .loop in
     let e = c .refused .ensures in
-    (e ∙ sym (made-unlimited _ _ _ _ (l .inv) (d .before .loop-test .taken) (sym (counted d) ∙ c .before .if1 .taken)), λ p. absurd (refused-passed _ (sym e ∙ p)))
+    (e ∙ sym (made-unlimited _ _ _ _ (l .inv) (d .before .loop-test .taken) (sym (counted d) ∙ c .before .if2 .taken)), λ p. absurd (refused-passed _ (sym e ∙ p)))
 
 mul-checked-mul : tie.Need-mul-checked-mul Inv-loop μ-loop
-mul-checked-mul c = search needs
+mul-checked-mul c = omega (arith, within (c .before .before), c .before .before .before .before .loop .inv .within, long (c .before .before .before .before .before .before .before .before))
 
-array-read-checked-mul : tie.Need-array-read-checked-mul Inv-loop μ-loop
-array-read-checked-mul c = search needs
+slice-read-checked-mul : tie.Need-slice-read-checked-mul Inv-loop μ-loop
+slice-read-checked-mul c = search needs
 
 at-least-one-requires : tie.Need-at-least-one-requires Inv-loop μ-loop
 at-least-one-requires c κs = search needs
@@ -89,40 +109,46 @@ enum-told c = search needs
 refused-requires-2 : tie.Need-refused-requires-2 Inv-loop μ-loop
 refused-requires-2 c κs = search needs
 
-returns-2 : tie.Need-returns-2 Inv-loop μ-loop
-returns-2 c =
-    let d = c .before .before .before .before .before .before .before in
+same-length-2 : tie.Need-same-length-2 Inv-loop μ-loop
+same-length-2 c = size (c .before .before .before .before .before .before .before .before .before .before) ∙ sym (c .before .before .before .before .before .before .before .before .before .before .before .before .before .before .pre .0)
+
+returns-3 : tie.Need-returns-3 Inv-loop μ-loop
+returns-3 c =
+    let d = c .before .before .before .before .before .before .before .before in
     let l = d .before .before .loop in
     let e = c .refused2 .ensures in
     let o = overflows-is _ (sym (c .before .enum-told .given .1) ∙ c .before .before .before .checked-mul .ensures) in
     let a = c .before .before .before .before .at-least-one .ensures ∙ ap (λ (n : ℕ). max n 1) (counted d) in
-    (e ∙ sym (made-over _ _ _ _ (l .inv) (d .before .loop-test .taken) (λ p. c .before .before .before .before .before .if1 .left (counted d ∙ p)) (rw (← a) o)), λ p. absurd (refused-passed _ (sym e ∙ p)))
+    (e ∙ sym (made-over _ _ _ _ (l .inv) (d .before .loop-test .taken) (λ p. c .before .before .before .before .before .before .if2 .left (counted d ∙ p)) (rw (← a) o)), λ p. absurd (refused-passed _ (sym e ∙ p)))
 
-sub-down : tie.Need-sub-down Inv-loop μ-loop
-sub-down c = search needs
+sub-down-2 : tie.Need-sub-down-2 Inv-loop μ-loop
+sub-down-2 c = search needs
 
-mul-down : tie.Need-mul-down Inv-loop μ-loop
-mul-down c = search needs
+mul-down-2 : tie.Need-mul-down-2 Inv-loop μ-loop
+mul-down-2 c = omega (arith, c .before .before .before .before .before .before .before .before .before .before .loop .inv .within, long (c .before .before .before .before .before .before .before .before .before .before .before .before .before .before))
 
-array-write-down : tie.Need-array-write-down Inv-loop μ-loop
-array-write-down c = search needs
+slice-write-down-2 : tie.Need-slice-write-down-2 Inv-loop μ-loop
+slice-write-down-2 c = search needs
 
 loop-less : tie.Need-loop-less Inv-loop μ-loop
 loop-less c = search needs
 
 loop-again : tie.Need-loop-again Inv-loop μ-loop
 loop-again c =
-    let d = c .before .before .before .before .before .before .before in
+    let d = c .before .before .before .before .before .before .before .before in
     let l = d .before .before .loop in
     let a = c .before .before .before .before .at-least-one .ensures ∙ ap (λ (n : ℕ). max n 1) (counted d) in
     let f = rw a at (fits-is _ _ (sym (c .before .next .given .1) ∙ c .before .before .before .checked-mul .ensures)) in
-    rw (f .0, counted d) (made-more _ _ _ _ (l .inv) (d .before .loop-test .taken) (λ p. c .before .before .before .before .before .if1 .left (counted d ∙ p)) (f .1))
+    rw (f .0, counted d) (made-more _ _ _ _ (l .inv) (d .before .loop-test .taken) (λ p. c .before .before .before .before .before .before .if2 .left (counted d ∙ p)) (f .1))
 
-returns-3 : tie.Need-returns-3 Inv-loop μ-loop
-returns-3 c =
+same-length-3 : tie.Need-same-length-3 Inv-loop μ-loop
+same-length-3 c = size (c .before) ∙ sym (c .before .before .before .before .before .pre .0)
+
+returns-4 : tie.Need-returns-4 Inv-loop μ-loop
+returns-4 c =
     let l = c .before .loop in
     let m = made-all _ _ _ _ (l .inv) (c .loop-test .left) in
-    (sym (m .0), λ p. (m .1, ap (λ (n : ℕ). take n (l .down)) (sym (long (c .before .before .before))) ∙ m .2))
+    (sym (m .0), λ p. (m .1, m .2))
 
 pub multipliers-of-spec : {M : Type 1} → statement M
 multipliers-of-spec =
@@ -130,24 +156,31 @@ multipliers-of-spec =
     (tie.spec
     Inv-loop
     μ-loop
+    returns
+    sub-down
+    mul-down
+    slice-write-down
     loop-holds
     sub-i
     dim-at-requires
     mul-count
     shared-slice-read-count
     refused-requires
-    returns
+    same-length
+    returns-2
     mul-checked-mul
-    array-read-checked-mul
+    slice-read-checked-mul
     at-least-one-requires
     checked-mul-requires
     enum-known-next
     enum-told
     refused-requires-2
-    returns-2
-    sub-down
-    mul-down
-    array-write-down
+    same-length-2
+    returns-3
+    sub-down-2
+    mul-down-2
+    slice-write-down-2
     loop-less
     loop-again
-    returns-3)
+    same-length-3
+    returns-4)

@@ -1,9 +1,14 @@
 -- `chunk_grid::ChunkGrid::new` meets its contract. Assumes nothing.
-use Rattle.chunk_grid.specs.Grid.{Grid}
 use mathlib.Core.Path.{_≡_, sym, ap, _∙_}
-use Rattle.chunk_grid.specs.Grid.{gridTest}
-use Rattle.chunk_grid.specs.Values.{gridOf, given, whereTested}
-use Rattle.chunk_grid.proofs.Numbered.{refused-shapes, same-grid}
+use mathlib.Core.Logic.{⊎-elim}
+use mathlib.Core.Bool.{Bool, true, cond}
+use Prim.Native.Nat.{_≤_}
+use lib.ListN.{length}
+use Rattle.refusal.specs.declared.Checked.{Checked}
+use Rattle.refusal.specs.declared.Checked.the-variants.{Passed}
+use Rattle.chunk_grid.specs.Grid.{Grid, shapesTest, gridTest}
+use Rattle.chunk_grid.specs.Values.{isUnlimitedFirst, given, whereTested, numberingTest}
+use Rattle.chunk_grid.proofs.Numbered.{refused-shapes, given-lengths, tests-given, same-grid}
 use borrow.Author.Needs.{needs}
 use Rattle.chunk_grid.proofs.ChunkGrid.new.Statement.{statement}
 use Rattle.chunk_grid.proofs.ChunkGrid.new.Tie as tie
@@ -12,22 +17,22 @@ use Rattle.chunk_grid.proofs.ChunkGrid.new.Tie as tie
 abbrev asked : tie.Start → Grid
 asked c = given (c .args .rank) (c .args .chunk .now) (c .args .present .now) (c .args .has-maximum) (c .args .maximum .now) (c .args .order)
 
--- the arrays describe it
-same : (c : tie.After-numbering)
-    → gridOf (record {
-      rank = c .before .before .before .before .before .before .before .before .before .before .args .rank;
-      chunk = c .before .before .before .padded .result;
-      present = c .before .before .padded2 .result;
-      «has_maximum» = c .before .before .before .before .before .before .before .before .before .before .args .has-maximum;
-      maximum = c .before .padded3 .result;
-      order = c .before .before .before .before .before .before .before .before .before .before .args .order;
-    }) ≡ asked (c .before .before .before .before .before .before .before .before .before .before)
-same c =
-    same-grid _ _ _ _ _ _ _ _ _ (sym (c .before .before .before .before .enum-told .given .1) ∙ c .before .before .before .before .before .before .shapes-test .ensures _)
-    (c .before .before .before .padded .ensures) (c .before .before .padded2 .ensures) (c .before .padded3 .ensures)
+passed : (c : tie.After-enum-told) → Passed ≡ shapesTest (asked (c .before .before .before .before .before .before))
+passed c = sym (c .enum-told .given .1) ∙ c .before .before .shapes-test .ensures _
 
-tested : (c : tie.After-numbering) → c .numbering .result .checked ≡ gridTest (asked (c .before .before .before .before .before .before .before .before .before .before))
-tested c = c .numbering .ensures .0 ∙ ap gridTest (same c)
+-- its shapes have one rank
+lengths : (c : tie.After-enum-told)
+    → (c .before .before .before .before .before .before .args .has-maximum ≡ true → length (c .before .before .before .before .before .before .args .maximum .now) ≡ length (c .before .before .before .before .before .before .args .chunk .now))
+    × (length (c .before .before .before .before .before .before .args .present .now) ≡ length (c .before .before .before .before .before .before .args .chunk .now))
+    × (length (c .before .before .before .before .before .before .args .chunk .now) ≤ 32)
+lengths c = given-lengths _ _ _ _ _ _ (passed c)
+
+tested : (c : tie.Joined1) → c .if1 .checked ≡ gridTest (asked (c .before .before .before .before .before .before .before))
+tested c =
+    let a = c .before .before .before .before .before .before .before .args in
+    let t = tests-given _ _ _ _ _ _ (passed (c .before)) in
+    let pick : Bool → Checked = λ h. numberingTest (isUnlimitedFirst (a .order)) (cond h (a .maximum .now) (a .present .now)) (a .chunk .now) in
+    ⊎-elim (λ w. w .2 ∙ w .1 .ensures ∙ ap pick (sym (w .0 .taken)) ∙ t) (λ w. w .2 ∙ w .1 .ensures ∙ ap pick (sym (w .0 .left)) ∙ t) (c .if1 .came)
 
 shapes-test-requires : tie.Need-shapes-test-requires
 shapes-test-requires c κs = search needs
@@ -48,17 +53,15 @@ returns c =
 enum-told : tie.Need-enum-told
 enum-told c = search needs
 
-padded-requires : tie.Need-padded-requires
-padded-requires c κs = search needs
+numbering-test-requires : tie.Need-numbering-test-requires
+numbering-test-requires c κs =
+    let l = lengths (c .before) in
+    (l .0 (c .if1 .taken), l .1, l .2)
 
-padded-requires-2 : tie.Need-padded-requires-2
-padded-requires-2 c κs = search needs
-
-padded-requires-3 : tie.Need-padded-requires-3
-padded-requires-3 c κs = search needs
-
-numbering-requires : tie.Need-numbering-requires
-numbering-requires c κs = search needs
+numbering-test-requires-2 : tie.Need-numbering-test-requires-2
+numbering-test-requires-2 c κs =
+    let l = lengths (c .before) in
+    (l .1, l .1, l .2)
 
 enum-known-checked : tie.Need-enum-known-checked
 enum-known-checked c = search needs
@@ -75,9 +78,18 @@ returns-2 c =
 enum-told-2 : tie.Need-enum-told-2
 enum-told-2 c = search needs
 
+padded-requires : tie.Need-padded-requires
+padded-requires c κs = search needs
+
+padded-requires-2 : tie.Need-padded-requires-2
+padded-requires-2 c κs = search needs
+
+padded-requires-3 : tie.Need-padded-requires-3
+padded-requires-3 c κs = search needs
+
 returns-3 : tie.Need-returns-3
 unfolding whereTested
-returns-3 c = (tested (c .before .before), rw (c .enum-told2 .given .1) (same (c .before .before)))
+returns-3 c = (tested (c .before .before .before .before .before), rw (c .before .before .before .enum-told2 .given .1) (same-grid _ _ _ _ _ _ _ _ _ (passed (c .before .before .before .before .before .before)) (c .before .before .padded .ensures) (c .before .padded2 .ensures) (c .padded3 .ensures)))
 
 pub new-spec : {M : Type 1} → statement M
 new-spec =
@@ -88,12 +100,13 @@ new-spec =
     refused-grid-requires
     returns
     enum-told
-    padded-requires
-    padded-requires-2
-    padded-requires-3
-    numbering-requires
+    numbering-test-requires
+    numbering-test-requires-2
     enum-known-checked
     refused-grid-requires-2
     returns-2
     enum-told-2
+    padded-requires
+    padded-requires-2
+    padded-requires-3
     returns-3)

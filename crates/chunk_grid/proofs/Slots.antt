@@ -1,0 +1,76 @@
+-- Slots and chunks correspond one to one. Assumes nothing.
+use Prim.Native.Nat.{ℕ, _<_, _≤_}
+use mathlib.Core.Path.{_≡_, refl, sym, _∙_}
+use mathlib.Core.Bool.{Bool, true, false, cond}
+use mathlib.Core.List.{List, [], _∷_}
+use native.Mathlib.Omega.{arith}
+use borrow.Author.Tests.{le-ltb, ltb-true, ltb-false}
+use lib.Dec.{ltb}
+use lib.Seq.{sets}
+use Rattle.refusal.specs.declared.Checked.the-variants.{Passed}
+use Rattle.refusal.specs.Refusals.{largest64, refuse, _then_}
+use Rattle.chunk_grid.specs.declared.Offsets.the-variants.{Inside}
+use Rattle.chunk_grid.specs.declared.Slot.the-variants.{At}
+use Rattle.chunk_grid.specs.Grid.{Grid, pairwise, every, any, numbersNothing, offsets, overflows, below, offsetsTest, insideOr, inExtent, isChunk, slotOf, gridTest}
+use Rattle.chunk_grid.specs.Values.{shown, handed}
+use Rattle.chunk_grid.proofs.Tests.{false-true, both, neither}
+use Rattle.chunk_grid.proofs.Grids.{accepted, chunk-inv, slot-offsets, offsets-chunk, offsets-slot}
+
+-- what lies below numbers that 64 bits hold is held by them too
+below-fits : (l m : List ℕ) → below l m ≡ true → overflows m ≡ false → overflows l ≡ false
+unfolding below every overflows any
+below-fits [] m h f = refl
+below-fits (a ∷ l) [] h f = absurd (false-true h)
+below-fits (a ∷ l) (b ∷ m) h f =
+    let t = both (ltb a b) (below l m) h in
+    let y = neither (ltb largest64 b) (overflows m) f in
+    rw (le-ltb largest64 a (omega (arith, ltb-true a b (t .0), ltb-false largest64 b (y .0)))) (below-fits l m (t .1) (y .1))
+
+-- and is handed over as it is
+below-shown : (l m : List ℕ) → below l m ≡ true → pairwise (λ (o e : ℕ). cond (ltb o e) o 0) l m ≡ l
+unfolding below every pairwise
+below-shown [] m h = refl
+below-shown (a ∷ l) [] h = absurd (false-true h)
+below-shown (a ∷ l) (b ∷ m) h =
+    let t = both (ltb a b) (below l m) h in
+    rw (t .0, below-shown l m (t .1)) refl
+
+passed-inside : (n o b : Bool) → insideOr (refuse 32 0 0 n then refuse 33 0 0 o) b ≡ Inside → (n ≡ false) × (o ≡ false) × (b ≡ true)
+unfolding insideOr refuse _then_
+passed-inside true o b h = let z : _≡_ {A = ℕ} 0 1 = cc in absurd (omega arith)
+passed-inside false true b h = let z : _≡_ {A = ℕ} 0 1 = cc in absurd (omega arith)
+passed-inside false false true h = (refl, refl, refl)
+passed-inside false false false h = let z : _≡_ {A = ℕ} 0 1 = cc in absurd (omega arith)
+
+-- A slot whose offsets lie in the present extents.
+module _ (g : Grid) (s : ℕ) where
+  pub inside-inv : inExtent g s ≡ Inside → (numbersNothing g ≡ false) × (overflows (offsets g s) ≡ false) × (below (offsets g s) (g .present) ≡ true)
+  unfolding inExtent offsetsTest
+  inside-inv = passed-inside (numbersNothing g) (overflows (offsets g s)) (below (offsets g s) (g .present))
+
+  pub inside : numbersNothing g ≡ false → overflows (offsets g s) ≡ false → below (offsets g s) (g .present) ≡ true → inExtent g s ≡ Inside
+  unfolding inExtent offsetsTest insideOr refuse _then_
+  inside n o b = rw (n, o, b) refl
+
+  pub handed-inside : inExtent g s ≡ Inside → (l : List ℕ) → handed g s l ≡ sets l 0 (offsets g s)
+  unfolding handed shown
+  handed-inside h l = let i = inside-inv h in rw (i .0, below-shown (offsets g s) (g .present) (i .2)) refl
+
+-- For a grid that was built: a chunk with a slot gets itself back from the offsets of that slot, ..
+pub slot-chunk : (g : Grid) (corner : List ℕ) (s : ℕ) → gridTest g ≡ Passed → overflows (g .present) ≡ false → isChunk g corner ≡ true → slotOf g corner ≡ At s
+    → (offsets g s ≡ corner) × (inExtent g s ≡ Inside) × (s ≤ largest64)
+slot-chunk g corner s t f k h =
+    let o = offsets-slot g (accepted g t) corner s k h in
+    let b = chunk-inv g corner k .inside in
+    (o .0, inside g s (o .1) (rw (o .0) (below-fits corner (g .present) b f)) (rw (o .0) b), o .2)
+
+-- .. and from rank 1 on a slot whose offsets lie in the present extents is the slot of that corner, which is a chunk.
+pub chunk-slot : (g : Grid) (s : ℕ) → gridTest g ≡ Passed → 0 < g .rank → s ≤ largest64 → inExtent g s ≡ Inside
+    → (isChunk g (offsets g s) ≡ true) × (slotOf g (offsets g s) ≡ At s)
+chunk-slot g s t r le h =
+    let i = inside-inv g s h in
+    (offsets-chunk g (accepted g t) s (i .2), slot-offsets g (accepted g t) s r (i .0) le)
+
+-- Two different chunks never have the same slot.
+pub slot-injective : (g : Grid) (a b : List ℕ) (s : ℕ) → gridTest g ≡ Passed → isChunk g a ≡ true → isChunk g b ≡ true → slotOf g a ≡ At s → slotOf g b ≡ At s → a ≡ b
+slot-injective g a b s t k l h i = sym (offsets-slot g (accepted g t) a s k h .0) ∙ offsets-slot g (accepted g t) b s l i .0
