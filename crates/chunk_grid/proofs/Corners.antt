@@ -18,7 +18,7 @@ use Rattle.chunk_grid.specs.declared.Slot.{Slot}
 use Rattle.chunk_grid.specs.declared.Slot.the-variants.{At, NoSlot}
 use Rattle.chunk_grid.specs.Grid.{Grid, pairwise, every, toFront, ordered, multipliers, hasZero, below, aligned, isChunk, cornerTest, total, slotFrom, slotOf, gridTest}
 use Rattle.chunk_grid.specs.Values.{given, gridOf, dimAt, Numbers, Counted}
-use Rattle.chunk_grid.proofs.Tests.{lt-or-ge}
+use Rattle.refusal.proofs.Tests.{lt-or-ge}
 use Rattle.chunk_grid.proofs.Grids.{Chunk, is-chunk, accepted}
 use Rattle.chunk_grid.proofs.Order.{length-front, length-pairwise}
 use Rattle.chunk_grid.proofs.Members.{getD-pairwise, any-at, every-end, every-step}

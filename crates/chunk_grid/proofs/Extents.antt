@@ -16,7 +16,7 @@ use Rattle.chunk_grid.specs.declared.Offsets.{Offsets}
 use Rattle.chunk_grid.specs.declared.Offsets.the-variants.{Inside, Dropped, Refused as OffsetsRefused}
 use Rattle.chunk_grid.specs.Grid.{Grid, pairwise, every, any, ceilDiv, leading, toFront, ordered, multipliers, hasZero, numbersNothing, quotients, offsets, overflows, below, offsetsTest, insideOr, inExtent}
 use Rattle.chunk_grid.specs.Values.{dimAt, Numbers, Extents, shown, handed}
-use Rattle.chunk_grid.proofs.Tests.{lt-or-ge, neither}
+use Rattle.refusal.proofs.Tests.{lt-or-ge, neither}
 use Rattle.chunk_grid.proofs.Order.{front-back, length-front, length-pairwise, pairwise-front, every-front, any-front}
 use Rattle.chunk_grid.proofs.Grids.{Accepted, accepted, lead, length-ordered, length-chunk, multiplier-pos, length-multipliers, length-quotients, quotients-chunk, length-products, length-offsets, zero-chunk}
 use Rattle.chunk_grid.proofs.Members.{getD-pairwise, any-at, multiplier-at}

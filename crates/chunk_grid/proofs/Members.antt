@@ -8,7 +8,7 @@ use native.Mathlib.Omega.{arith}
 use lib.ListN.{length, getD, take, drop, set, drop-of-length-le}
 use lib.Seq.{drop-cons, take-suc, take-suc-set}
 use Rattle.chunk_grid.specs.Grid.{pairwise, every, any, multiplier, multipliers}
-use Rattle.chunk_grid.proofs.Tests.{neither}
+use Rattle.refusal.proofs.Tests.{neither}
 
 pub getD-pairwise : (f : ℕ → ℕ → ℕ) (l m : List ℕ) (i : ℕ) → length l ≡ length m → i < length l → getD (pairwise f l m) i 0 ≡ f (getD l i 0) (getD m i 0)
 unfolding pairwise

@@ -11,7 +11,7 @@ use lib.ListN.{length, getD, take, drop, set, length-set, List·getD-append}
 use lib.Seq.{getD-take, getD-drop, getD-append-add, getD-set-same, getD-set-other, length-take-le, ext-getD, sets, length-sets}
 use Rattle.chunk_grid.specs.Grid.{toFront, fromFront}
 use Rattle.chunk_grid.specs.Values.{dimAt}
-use Rattle.chunk_grid.proofs.Tests.{lt-or-ge}
+use Rattle.refusal.proofs.Tests.{lt-or-ge}
 use Rattle.chunk_grid.proofs.Order.{front-is, front-back, length-front, length-back}
 
 -- dimensions before the leading one are one place later, the others stand where they were

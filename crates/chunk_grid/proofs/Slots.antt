@@ -13,7 +13,7 @@ use Rattle.chunk_grid.specs.declared.Offsets.the-variants.{Inside}
 use Rattle.chunk_grid.specs.declared.Slot.the-variants.{At}
 use Rattle.chunk_grid.specs.Grid.{Grid, pairwise, every, any, numbersNothing, offsets, overflows, below, offsetsTest, insideOr, inExtent, isChunk, slotOf, gridTest}
 use Rattle.chunk_grid.specs.Values.{shown, handed}
-use Rattle.chunk_grid.proofs.Tests.{false-true, both, neither}
+use Rattle.refusal.proofs.Tests.{false-true, both, neither}
 use Rattle.chunk_grid.proofs.Grids.{accepted, chunk-inv, slot-offsets, offsets-chunk, offsets-slot}
 
 -- what lies below numbers that 64 bits hold is held by them too

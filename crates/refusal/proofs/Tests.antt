@@ -1,7 +1,7 @@
 -- Taking tests apart: a Boolean, a comparison, one refusal, two in their order. Assumes nothing.
 use Prim.Native.Nat.{ℕ, _<_, _≤_}
 use mathlib.Core.Logic.{_⊎_, inl, inr}
-use mathlib.Core.Path.{_≡_, refl, ap}
+use mathlib.Core.Path.{_≡_, refl, sym, ap}
 use mathlib.Core.Bool.{Bool, true, false, cond, _&&_, _||_, and-eq-true-iff}
 use native.Mathlib.Omega.{arith}
 use borrow.Author.Tests.{ltb-true, ltb-false}
@@ -28,6 +28,9 @@ false-true h = let z : _≡_ {A = ℕ} 0 1 = cc in omega arith
 
 pub both : (a b : Bool) → a && b ≡ true → (a ≡ true) × (b ≡ true)
 both a b h = and-eq-true-iff a b .0 h
+
+pub not-both : (a b : Bool) → a && b ≡ false → a ≡ true → b ≡ false
+not-both a b h e = rw e at h
 
 pub neither : (a b : Bool) → a || b ≡ false → (a ≡ false) × (b ≡ false)
 neither false b h = (refl, h)
@@ -65,3 +68,10 @@ pub then-inv : (a b : Checked) → a then b ≡ Passed → (a ≡ Passed) × (b 
 unfolding _then_
 then-inv Passed b h = (refl, h)
 then-inv (Refused r) b h = absurd (refused-passed r h)
+
+-- the same, said the other way round
+pub then-passed : (a b : Checked) → Passed ≡ a then b → (Passed ≡ a) × (Passed ≡ b)
+then-passed a b h = let i = then-inv a b (sym h) in (sym (i .0), sym (i .1))
+
+pub refuse-passed : (number first second : ℕ) (b : Bool) → Passed ≡ refuse number first second b → b ≡ false
+refuse-passed number first second b h = refuse-inv number first second b (sym h)

@@ -6,7 +6,7 @@ use Prim.Native.Nat.{ℕ, _-_, _<_, max}
 use lib.ListN.{length, getD}
 use Rattle.fields.proofs.Numbers.{fits-is, overflows-is}
 use Rattle.chunk_grid.specs.Grid.{toFront}
-use Rattle.chunk_grid.proofs.Tests.{refused-passed}
+use Rattle.refusal.proofs.Tests.{refused-passed}
 use Rattle.chunk_grid.proofs.Order.{length-front}
 use Rattle.chunk_grid.proofs.Places.{dim-lt, front-at}
 use Rattle.chunk_grid.proofs.Building.{Behind, made-none, made-unlimited, made-over, made-more, made-all, made-empty}

@@ -1,6 +1,6 @@
 -- `chunk_grid::number` meets its contract. Assumes nothing.
 use mathlib.Core.Path.{sym, ap, _∙_}
-use Rattle.chunk_grid.proofs.Tests.{refused-passed}
+use Rattle.refusal.proofs.Tests.{refused-passed}
 use Rattle.chunk_grid.proofs.Order.{length-pairwise}
 use Rattle.chunk_grid.proofs.Grids.{leading-le}
 use Rattle.chunk_grid.proofs.Numbered.{zero-length, made}

@@ -6,7 +6,7 @@ use native.Mathlib.Nat.{div-lt-iff-lt-mul, le-div-iff-mul-le}
 use borrow.Author.Needs.{needs}
 use borrow.Author.Tests.{lt-ltb, le-ltb}
 use Rattle.refusal.specs.Refusals.{largest64}
-use Rattle.chunk_grid.proofs.Tests.{lt-or-ge}
+use Rattle.refusal.proofs.Tests.{lt-or-ge}
 use Rattle.chunk_grid.proofs.offset_overflows.Statement.{statement}
 use Rattle.chunk_grid.proofs.offset_overflows.Tie as tie
 

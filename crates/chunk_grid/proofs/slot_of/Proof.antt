@@ -1,7 +1,7 @@
 -- `chunk_grid::slot_of` meets its contract. Assumes nothing.
 use lib.Dec.{ltb}
 use borrow.Author.Tests.{lt-ltb, ltb-true, leb-true, leb-false}
-use Rattle.chunk_grid.proofs.Tests.{both, not-both}
+use Rattle.refusal.proofs.Tests.{both, not-both}
 use borrow.Author.Needs.{needs}
 use Prim.Native.Nat.{_-_, _/_, _<_, _≤_}
 use mathlib.Core.Path.{_≡_, sym, _∙_}

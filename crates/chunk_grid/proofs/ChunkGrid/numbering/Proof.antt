@@ -8,7 +8,7 @@ use mir.Val.{Fits}
 use lib.ListN.{length, getD, take}
 use lib.Seq.{length-take-le}
 use Rattle.refusal.specs.Refusals.{largest64}
-use Rattle.chunk_grid.proofs.Tests.{refused-passed}
+use Rattle.refusal.proofs.Tests.{refused-passed}
 use Rattle.chunk_grid.proofs.Numbered.{none-over, over-32, numbering-is}
 use borrow.Author.Needs.{needs}
 use Rattle.chunk_grid.proofs.ChunkGrid.numbering.Statement.{statement}
