@@ -14,6 +14,7 @@ use refusal::Refusal;
 
 pub mod structures;
 pub mod count;
+pub mod enter;
 pub mod read;
 
 // The kinds of structures that an index is made of, behind its header.
