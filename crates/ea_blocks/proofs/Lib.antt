@@ -7,3 +7,4 @@ pub mod Paths
 pub mod Passed
 pub mod StructureTests
 pub mod Pointers
+pub mod Entering

@@ -5,3 +5,4 @@ pub mod Places
 pub mod Runs
 pub mod Records
 pub mod Values
+pub mod Entered

@@ -1,0 +1,31 @@
+-- What the code's values stand for: stepping into a structure.
+use Prim.Native.Nat.{ℕ}
+use mathlib.Core.Path.{_≡_}
+use mathlib.Core.Bool.{true, false}
+use mathlib.Core.Logic.{_⊎_}
+use Rattle.refusal.specs.declared.Checked.the-variants.{Passed, Refused}
+use Rattle.ea_blocks.specs.declared.enter.Entered.{Entered}
+use Rattle.ea_blocks.specs.declared.enter.Entered.the-variants.{Absent, At, Refused as EnteredRefused}
+use Rattle.ea_blocks.specs.Call.{Call}
+use Rattle.ea_blocks.specs.Structures.{superBlock, dataBlock, dataPage, testOf, isDirect, superAt, blockAt, dataPageAt, superUndefined, blockUndefined, pageSet}
+
+-- Super block u: its pointer is undefined, it has passed its test (or the index block names its data blocks, and nothing is said of the
+-- position), or its test refuses it.
+abbrev pub EnteredSuper : Call → ℕ → Entered → Type 0
+EnteredSuper c u Absent = (isDirect c u ≡ false) × (superUndefined c u ≡ true)
+EnteredSuper c u (At at) =
+    (isDirect c u ≡ true)
+    ⊎ ((isDirect c u ≡ false) × (superUndefined c u ≡ false) × (testOf c (superBlock u) ≡ Passed) × (at ≡ superAt c u))
+EnteredSuper c u (EnteredRefused r) = (isDirect c u ≡ false) × (superUndefined c u ≡ false) × (testOf c (superBlock u) ≡ Refused r)
+
+-- Data block k of super block u: its pointer is undefined, it has passed its test, or its test refuses it.
+abbrev pub EnteredBlock : Call → ℕ → ℕ → Entered → Type 0
+EnteredBlock c u k Absent = blockUndefined c u k ≡ true
+EnteredBlock c u k (At at) = (blockUndefined c u k ≡ false) × (testOf c (dataBlock u k) ≡ Passed) × (at ≡ blockAt c u k)
+EnteredBlock c u k (EnteredRefused r) = (blockUndefined c u k ≡ false) × (testOf c (dataBlock u k) ≡ Refused r)
+
+-- Page p of it: its bit is clear, it has passed its test, or its test refuses it.
+abbrev pub EnteredPage : Call → ℕ → ℕ → ℕ → Entered → Type 0
+EnteredPage c u k p Absent = pageSet c u k p ≡ false
+EnteredPage c u k p (At at) = (pageSet c u k p ≡ true) × (testOf c (dataPage u k p) ≡ Passed) × (at ≡ dataPageAt c u k p)
+EnteredPage c u k p (EnteredRefused r) = (pageSet c u k p ≡ true) × (testOf c (dataPage u k p) ≡ Refused r)
