@@ -9,3 +9,4 @@ pub mod Corners
 pub mod Shapes
 pub mod Slots
 pub mod Tried
+pub mod Chunks

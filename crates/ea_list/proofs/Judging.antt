@@ -12,7 +12,8 @@ use Rattle.refusal.specs.Outcome.{accepted}
 use Rattle.refusal.proofs.Outcomes.{yields-inv}
 use Rattle.chunk_grid.specs.Grid.{chunkAt, slotOf}
 use Rattle.chunk_grid.specs.declared.Slot.the-variants.{At}
-use Rattle.chunk_grid.proofs.Grids.{Accepted, accepted as grid-accepted, chunk-slot, slot-chunk}
+use Rattle.chunk_grid.proofs.Grids.{Accepted, accepted as grid-accepted}
+use Rattle.chunk_grid.proofs.Chunks.{chunk-at-slot, slot-chunk-at}
 use Rattle.ea_blocks.specs.declared.Entry.{Entry}
 use Rattle.ea_blocks.specs.Call.{Call, Rec}
 use Rattle.ea_blocks.specs.Places.{held, recordOf, recordAt, with, records}
@@ -86,12 +87,12 @@ module _ (c : Call) (b : Accepted (c .grid)) (ranked : 0 < c .grid .rank) (fits 
   stored : (t : ℕ) (r : Rec) → t < count → recordAt c t ≡ some r → Stored c (r .corner) t (r .entry)
   stored t r lt h =
       let i = record-at c t r h in
-      let k = chunk-slot (c .grid) b t (r .corner) ranked (omega arith) (i .1) in
+      let k = chunk-at-slot (c .grid) b t (r .corner) ranked (omega arith) (i .1) in
       record { chunk = k .0; slot = k .1; published = lt; holds = i .0 }
 
   recorded : (corner : List ℕ) (s : ℕ) (e : Entry) → Stored c corner s e → recordAt c s ≡ some (record { entry = e; corner = corner })
   unfolding recordAt recordOf
-  recorded corner s e h = rw (h .holds, slot-chunk (c .grid) b corner s (h .chunk) (h .slot)) refl
+  recorded corner s e h = rw (h .holds, slot-chunk-at (c .grid) b corner s (h .chunk) (h .slot)) refl
 
   slot-is : (t s : ℕ) (r : Rec) → t < count → recordAt c t ≡ some r → slotOf (c .grid) (r .corner) ≡ At s → s ≡ t
   slot-is t s r lt h e = at-is s t (sym e ∙ stored t r lt h .slot)

@@ -18,7 +18,8 @@ use Rattle.refusal.proofs.Outcomes.{yields-inv, yields-passed}
 use Rattle.chunk_grid.specs.Grid.{Grid, gridTest, cornerTest, isChunk, slotOf, chunkAt}
 use Rattle.chunk_grid.specs.declared.Slot.{Slot}
 use Rattle.chunk_grid.specs.declared.Slot.the-variants.{At, NoSlot}
-use Rattle.chunk_grid.proofs.Grids.{Accepted, accepted as grid-accepted, slot-chunk}
+use Rattle.chunk_grid.proofs.Grids.{Accepted, accepted as grid-accepted}
+use Rattle.chunk_grid.proofs.Chunks.{slot-chunk-at}
 use Rattle.ea_header.specs.Served.{servedTest}
 use Rattle.ea_blocks.specs.declared.Entry.{Entry}
 use Rattle.ea_blocks.specs.Call.{Call, Rec}
@@ -57,7 +58,7 @@ slot-accepts c (At s) p = go (ltb s (c .header .«num_elements»)) refl
 
 module _ (c : Call) (corner : List ℕ) (b : Accepted (c .grid)) (k : isChunk (c .grid) corner ≡ true) where
   own : (s : ℕ) → slotOf (c .grid) corner ≡ At s → chunkAt (c .grid) s ≡ some corner
-  own s e = slot-chunk (c .grid) b corner s k e
+  own s e = slot-chunk-at (c .grid) b corner s k e
 
   -- a stored chunk's record is that of its slot
   stored-record : (s : ℕ) (d : Entry) → Stored c corner s d → slotRecord c (slotOf (c .grid) corner) ≡ some (record { entry = d; corner = corner })
