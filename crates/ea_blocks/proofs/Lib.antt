@@ -3,4 +3,7 @@ pub mod Sized
 pub mod Runs
 pub mod Turns
 pub mod Counting
+pub mod Records
+pub mod Corners
+pub mod Writing
 pub mod Paths

@@ -14,6 +14,7 @@ use refusal::Refusal;
 
 pub mod count;
 pub mod read;
+pub mod write;
 
 // The kinds of structures that an index is made of, behind its header.
 pub enum Kind {
