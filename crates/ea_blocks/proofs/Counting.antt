@@ -19,38 +19,37 @@ use Rattle.ea_blocks.specs.Values.{Reads}
 use Rattle.ea_blocks.proofs.Turns.{strideOf, same-stride}
 use Rattle.ea_blocks.proofs.Runs.{plus, plus-zero, plus-none, plus-also, run-more, run-done}
 
-module _ (file : List ℕ) (r : Reading) (chunk bound down : List ℕ) (pos n slot : ℕ) where
-  -- i elements of n are passed and `count` records of them counted
-  pub record Counting (at i count : ℕ) : Type 0 where
-    pub few : count ≤ i
-    pub whole : (c : Call) → Reads c file r chunk bound down
-        → plus count (elements c at (n - i) (slot + i) (accepted [])) ≡ countedOf (elements c pos n slot (accepted []))
+-- i of n elements from pos on are passed, and `count` records of them counted; the next is at `at`
+pub record Counting (file : List ℕ) (r : Reading) (chunk bound down : List ℕ) (pos n slot at i count : ℕ) : Type 0 where
+  pub few : count ≤ i
+  pub whole : (c : Call) → Reads c file r chunk bound down
+      → plus count (elements c at (n - i) (slot + i) (accepted [])) ≡ countedOf (elements c pos n slot (accepted []))
 
-  pub counting-first : Counting pos 0 0
-  counting-first = record { few = omega arith; whole = λ c reads. rw (sub-zero, add-zero) (plus-zero _) }
+pub counting-first : (file : List ℕ) (r : Reading) (chunk bound down : List ℕ) (pos n slot : ℕ) → Counting file r chunk bound down pos n slot pos 0 0
+counting-first file r chunk bound down pos n slot = record { few = omega arith; whole = λ c reads. rw (sub-zero, add-zero) (plus-zero _) }
 
-  module _ (at i count : ℕ) (k : Counting at i count) where
-    pub counting-done : n ≤ i → (c : Call) → Reads c file r chunk bound down → Count count ≡ countedOf (elements c pos n slot (accepted []))
-    counting-done h c reads = sym (ap (plus count) (run-done c n i at slot _ h) ∙ plus-none count) ∙ k .whole c reads
+module _ {file : List ℕ} {r : Reading} {chunk bound down : List ℕ} {pos n slot at i count : ℕ} (k : Counting file r chunk bound down pos n slot at i count) where
+  pub counting-done : n ≤ i → (c : Call) → Reads c file r chunk bound down → Count count ≡ countedOf (elements c pos n slot (accepted []))
+  counting-done h c reads = sym (ap (plus count) (run-done c n i at slot _ h) ∙ plus-none count) ∙ k .whole c reads
 
-    module _ (h : i < n) (l : slot + i < r .geometry .header .«num_elements») (e : Element)
-        (is : (c : Call) → Reads c file r chunk bound down → e ≡ element c at (slot + i)) where
-      turned : (c : Call) (reads : Reads c file r chunk bound down)
-          → plus count (alsoElement e (offsets (c .grid) (slot + i)) (elements c (at + strideOf r) (n - (i + 1)) (slot + (i + 1)) (accepted [])))
-          ≡ countedOf (elements c pos n slot (accepted []))
-      turned c reads =
-          let m = run-more c n i at slot (accepted []) h (rw (reads .header) l) in
-          rw (is c reads, same-stride c file r chunk bound down reads) (sym (ap (plus count) m) ∙ k .whole c reads)
+  module _ (h : i < n) (l : slot + i < r .geometry .header .«num_elements») {e : Element}
+      (is : (c : Call) → Reads c file r chunk bound down → e ≡ element c at (slot + i)) where
+    turned : (c : Call) (reads : Reads c file r chunk bound down)
+        → plus count (alsoElement e (offsets (c .grid) (slot + i)) (elements c (at + strideOf r) (n - (i + 1)) (slot + (i + 1)) (accepted [])))
+        ≡ countedOf (elements c pos n slot (accepted []))
+    turned c reads =
+        let m = run-more c n i at slot (accepted []) h (rw (reads .header) l) in
+        rw (is c reads, same-stride reads) (sym (ap (plus count) m) ∙ k .whole c reads)
 
-      pub counting-refused : (x : Refusal) → e ≡ ElementRefused x → (c : Call) → Reads c file r chunk bound down
-          → CountedRefused x ≡ countedOf (elements c pos n slot (accepted []))
-      unfolding plus alsoElement
-      counting-refused x f c reads = rw f at (turned c reads)
+    pub counting-refused : (x : Refusal) → e ≡ ElementRefused x → (c : Call) → Reads c file r chunk bound down
+        → CountedRefused x ≡ countedOf (elements c pos n slot (accepted []))
+    unfolding plus alsoElement
+    counting-refused x f c reads = rw f at (turned c reads)
 
-      pub counting-absent : e ≡ Absent → Counting (at + strideOf r) (i + 1) count
-      unfolding alsoElement
-      counting-absent f = record { few = omega (arith, k .few); whole = λ c reads. rw f at (turned c reads) }
+    pub counting-absent : e ≡ Absent → Counting file r chunk bound down pos n slot (at + strideOf r) (i + 1) count
+    unfolding alsoElement
+    counting-absent f = record { few = omega (arith, k .few); whole = λ c reads. rw f at (turned c reads) }
 
-      pub counting-chunk : (x : Entry) → e ≡ Chunk x → Counting (at + strideOf r) (i + 1) (count + 1)
-      unfolding alsoElement
-      counting-chunk x f = record { few = omega (arith, k .few); whole = λ c reads. sym (plus-also count _ _) ∙ (rw f at (turned c reads)) }
+    pub counting-chunk : (x : Entry) → e ≡ Chunk x → Counting file r chunk bound down pos n slot (at + strideOf r) (i + 1) (count + 1)
+    unfolding alsoElement
+    counting-chunk x f = record { few = omega (arith, k .few); whole = λ c reads. sym (plus-also count _ _) ∙ (rw f at (turned c reads)) }

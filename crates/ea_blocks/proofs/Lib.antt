@@ -3,6 +3,9 @@ pub mod Sized
 pub mod Runs
 pub mod Turns
 pub mod Counting
+pub mod Records
+pub mod Corners
+pub mod Writing
 pub mod Paths
 pub mod Passed
 pub mod StructureTests

@@ -71,12 +71,12 @@ cond-behind : (t : Bool) (x y a b rest : Listing) → x ≡ behind a rest → y 
 cond-behind true x y a b rest e f = e
 cond-behind false x y a b rest e f = f
 
-pub elements-behind : (c : Call) (j pos s : ℕ) (rest : Listing) → elements c pos j s rest ≡ behind (elements c pos j s (accepted [])) rest
+pub elements-behind : (c : Call) (pos j s : ℕ) (rest : Listing) → elements c pos j s rest ≡ behind (elements c pos j s (accepted [])) rest
 unfolding elements behind prepend
-elements-behind c zero pos s rest = refl
-elements-behind c (suc j) pos s rest =
+elements-behind c pos zero s rest = refl
+elements-behind c pos (suc j) s rest =
     cond-behind (leb (c .header .«num_elements») s) _ _ _ _ rest refl
-    (ap (alsoElement (element c pos s) (offsets (c .grid) s)) (elements-behind c j _ (s + 1) rest) ∙ element-behind (element c pos s) (offsets (c .grid) s) _ rest)
+    (ap (alsoElement (element c pos s) (offsets (c .grid) s)) (elements-behind c _ j (s + 1) rest) ∙ element-behind (element c pos s) (offsets (c .grid) s) _ rest)
 
 prepend-count : (l : List Rec) (n : ℕ) (b : Listing) → plus n (prepend l b) ≡ plus (n + length l) b
 unfolding prepend
@@ -110,17 +110,17 @@ behind-inv (accepted l₁) b l h = let i = prepend-inv l₁ b l h in (l₁, i .0
 -- A run in front of what is left. Where its own listing counts m records, they are counted; ..
 pub run-count : (c : Call) (pos j s m : ℕ) → countedOf (elements c pos j s (accepted [])) ≡ Count m
     → (n : ℕ) (rest : Listing) → plus n (elements c pos j s rest) ≡ plus (n + m) rest
-run-count c pos j s m h n rest = ap (plus n) (elements-behind c j pos s rest) ∙ behind-count _ m h n rest
+run-count c pos j s m h n rest = ap (plus n) (elements-behind c pos j s rest) ∙ behind-count _ m h n rest
 
 -- .. where it is refused, so is the whole; ..
 pub run-refused : (c : Call) (pos j s : ℕ) (r : Refusal) → countedOf (elements c pos j s (accepted [])) ≡ CountedRefused r
     → (n : ℕ) (rest : Listing) → plus n (elements c pos j s rest) ≡ CountedRefused r
-run-refused c pos j s r h n rest = ap (plus n) (elements-behind c j pos s rest) ∙ behind-refused _ r h n rest
+run-refused c pos j s r h n rest = ap (plus n) (elements-behind c pos j s rest) ∙ behind-refused _ r h n rest
 
 -- .. and an accepted listing is the run's own, and what is left behind it.
 pub run-split : (c : Call) (pos j s : ℕ) (rest : Listing) (l : List Rec) → elements c pos j s rest ≡ accepted l
     → (l₁ : List Rec) × (l₂ : List Rec) × (elements c pos j s (accepted []) ≡ accepted l₁) × (rest ≡ accepted l₂) × (l ≡ l₁ ++ l₂)
-run-split c pos j s rest l h = behind-inv _ rest l (sym (elements-behind c j pos s rest) ∙ h)
+run-split c pos j s rest l h = behind-inv _ rest l (sym (elements-behind c pos j s rest) ∙ h)
 
 -- A run has no more records than elements.
 element-length : (e : Element) (corner : List ℕ) (a : Listing) (l : List Rec) → alsoElement e corner a ≡ accepted l
@@ -130,38 +130,38 @@ element-length Absent corner a l h = (l, h, omega arith)
 element-length (Chunk e) corner a l h = let i = also-inv _ a l h in (i .0, i .1, omega (arith, ap length (i .2)))
 element-length (ElementRefused r) corner a l h = absurd (never r l h)
 
-pub run-length : (c : Call) (j pos s : ℕ) (l : List Rec) → elements c pos j s (accepted []) ≡ accepted l → length l ≤ j
+pub run-length : (c : Call) (pos j s : ℕ) (l : List Rec) → elements c pos j s (accepted []) ≡ accepted l → length l ≤ j
 unfolding elements
-run-length c zero pos s l h = let e : l ≡ [] = cc in rw e (omega arith)
-run-length c (suc j) pos s l h =
+run-length c pos zero s l h = let e : l ≡ [] = cc in rw e (omega arith)
+run-length c pos (suc j) s l h =
     by-cond (λ (a : Listing). a ≡ accepted l → length l ≤ suc j) (leb (c .header .«num_elements») s)
     (λ t k. let e : l ≡ [] = cc in let z : length l ≡ 0 = ap length e in omega arith)
     (λ t k.
     let i = element-length (element c pos s) _ _ l k in
-    let m = run-length c j _ (s + 1) (i .0) (i .1) in
+    let m = run-length c _ j (s + 1) (i .0) (i .1) in
     omega arith)
     h
 
 -- elements at or past the published count are none
-pub run-clamp : (c : Call) (n pos s : ℕ) (rest : Listing) → elements c pos n s rest ≡ elements c pos (min n (c .header .«num_elements» - s)) s rest
+pub run-clamp : (c : Call) (pos n s : ℕ) (rest : Listing) → elements c pos n s rest ≡ elements c pos (min n (c .header .«num_elements» - s)) s rest
 unfolding elements
-run-clamp c zero pos s rest = let e : min 0 (c .header .«num_elements» - s) ≡ 0 = omega arith in rw e refl
-run-clamp c (suc n) pos s rest =
+run-clamp c pos zero s rest = let e : min 0 (c .header .«num_elements» - s) ≡ 0 = omega arith in rw e refl
+run-clamp c pos (suc n) s rest =
     ⊎-elim
     (λ (h : s < c .header .«num_elements»).
     let e : min (suc n) (c .header .«num_elements» - s) ≡ suc (min n (c .header .«num_elements» - (s + 1))) = omega arith in
-    rw (e, lt-leb (c .header .«num_elements») s h) (ap (alsoElement (element c pos s) (offsets (c .grid) s)) (run-clamp c n _ (s + 1) rest)))
+    rw (e, lt-leb (c .header .«num_elements») s h) (ap (alsoElement (element c pos s) (offsets (c .grid) s)) (run-clamp c _ n (s + 1) rest)))
     (λ (h : c .header .«num_elements» ≤ s).
     let e : min (suc n) (c .header .«num_elements» - s) ≡ 0 = omega arith in
     rw (e, le-leb (c .header .«num_elements») s h) refl)
     (lt-or-ge s (c .header .«num_elements»))
 
 -- the first of n elements, whose slot lies below the count, and the others
-pub run-first : (c : Call) (n pos s : ℕ) (rest : Listing) → 0 < n → s < c .header .«num_elements»
+pub run-first : (c : Call) (pos n s : ℕ) (rest : Listing) → 0 < n → s < c .header .«num_elements»
     → elements c pos n s rest
     ≡ alsoElement (element c pos s) (offsets (c .grid) s) (elements c (pos + elementStride (c .header) (c .offsetSize)) (n - 1) (s + 1) rest)
 unfolding elements
-run-first c n pos s rest h l =
+run-first c pos n s rest h l =
     let e : n ≡ suc (n - 1) = omega arith in
     ap (λ (j : ℕ). elements c pos j s rest) e ∙ rw (lt-leb (c .header .«num_elements») s l) refl
 
@@ -173,7 +173,7 @@ module _ (c : Call) (n i at s : ℕ) (rest : Listing) where
   run-more h l =
       let e : n - (i + 1) ≡ n - i - 1 = omega arith in
       let f : s + (i + 1) ≡ s + i + 1 = omega arith in
-      rw (e, f) (run-first c (n - i) at (s + i) rest (omega arith) l)
+      rw (e, f) (run-first c at (n - i) (s + i) rest (omega arith) l)
 
   pub run-done : n ≤ i → elements c at (n - i) (s + i) rest ≡ rest
   unfolding elements

@@ -146,15 +146,15 @@ module _ (c : Call) (pos address : ℕ) where
       unfolding entryTest sizeAt maskAt refuse _then_
       entry-filtered l n m e f = rw (header, offset, bytes, with-filter h p, ← width, le-ltb 8 w l, e, f) refl
 
-pub same-test : (c : Call) (file : List ℕ) (r : Reading) (chunk bound down : List ℕ) → Reads c file r chunk bound down
+pub same-test : {c : Call} {file : List ℕ} {r : Reading} {chunk bound down : List ℕ} → Reads c file r chunk bound down
     → elementSizeTest (c .header) (c .offsetSize) ≡ elementSizeTest (r .geometry .header) (r .geometry .«offset_size»)
-same-test c file r chunk bound down reads = rw (reads .header, reads .offset) refl
+same-test reads = rw (reads .header, reads .offset) refl
 
 -- the element of slot s at pos, whose size has passed its test; l is the lent array
-module _ (c : Call) (file : List ℕ) (r : Reading) (chunk bound down : List ℕ) (reads : Reads c file r chunk bound down)
+module _ {c : Call} {file : List ℕ} {r : Reading} {chunk bound down : List ℕ} (reads : Reads c file r chunk bound down)
     (t : elementSizeTest (r .geometry .header) (r .geometry .«offset_size») ≡ Passed) (pos s : ℕ) (l : List ℕ) where
   sized : elementSizeTest (c .header) (c .offsetSize) ≡ Passed
-  sized = same-test c file r chunk bound down reads ∙ t
+  sized = same-test reads ∙ t
 
   module _ (a : ℕ) (e : a ≡ addressAt file pos (r .geometry .«offset_size»)) where
     same-address : addressAt (c .file) pos (c .offsetSize) ≡ a
@@ -179,15 +179,15 @@ module _ (c : Call) (file : List ℕ) (r : Reading) (chunk bound down : List ℕ
     )
 
 -- the element of slot s at pos, by the test of its size
-module _ (c : Call) (file : List ℕ) (r : Reading) (chunk bound down : List ℕ) (reads : Reads c file r chunk bound down) (pos s : ℕ) (l : List ℕ) where
+module _ {c : Call} {file : List ℕ} {r : Reading} {chunk bound down : List ℕ} (reads : Reads c file r chunk bound down) (pos s : ℕ) (l : List ℕ) where
   pub after-passed : elementSizeTest (r .geometry .header) (r .geometry .«offset_size») ≡ Passed → (l′ : List ℕ) → l′ ≡ offsetsLeft c pos s l
       → l′ ≡ offsetsAfter c pos s l
   unfolding offsetsAfter leftWhere
-  after-passed t l′ e = e ∙ sym (ap (λ (x : Checked). leftWhere x (offsetsLeft c pos s l) l) (same-test c file r chunk bound down reads ∙ t))
+  after-passed t l′ e = e ∙ sym (ap (λ (x : Checked). leftWhere x (offsetsLeft c pos s l) l) (same-test reads ∙ t))
 
   pub element-refused : (x : Refusal) → elementSizeTest (r .geometry .header) (r .geometry .«offset_size») ≡ Refused x
       → (ElementRefused x ≡ element c pos s) × (l ≡ offsetsAfter c pos s l)
   unfolding element offsetsAfter leftWhere
   element-refused x t =
-      let e = same-test c file r chunk bound down reads ∙ t in
+      let e = same-test reads ∙ t in
       (sym (gives-refused _ _ x e), sym (ap (λ (y : Checked). leftWhere y (offsetsLeft c pos s l) l) e))

@@ -21,39 +21,38 @@ use Rattle.ea_blocks.proofs.Runs.{run-clamp, run-first}
 abbrev pub strideOf : Reading → ℕ
 strideOf r = elementStride (r .geometry .header) (r .geometry .«offset_size»)
 
-pub same-stride : (c : Call) (file : List ℕ) (r : Reading) (chunk bound down : List ℕ) → Reads c file r chunk bound down
+pub same-stride : {c : Call} {file : List ℕ} {r : Reading} {chunk bound down : List ℕ} → Reads c file r chunk bound down
     → strideOf r ≡ elementStride (c .header) (c .offsetSize)
-same-stride c file r chunk bound down reads = rw (reads .header, reads .offset) refl
+same-stride reads = rw (reads .header, reads .offset) refl
 
 -- n - i elements from `at` on lie in the file
 pub record Within (file : List ℕ) (stride n i at : ℕ) : Type 0 where
   pub passed : i ≤ n
   pub left : at + (n - i) * stride ≤ length file
 
-module _ (file : List ℕ) (stride n : ℕ) where
-  pub within-first : (pos : ℕ) → pos + n * stride ≤ length file → Within file stride n 0 pos
-  within-first pos h = record { passed = omega arith; left = rw sub-zero h }
+pub within-first : (file : List ℕ) (stride n pos : ℕ) → pos + n * stride ≤ length file → Within file stride n 0 pos
+within-first file stride n pos h = record { passed = omega arith; left = rw sub-zero h }
 
-  module _ (i at : ℕ) (w : Within file stride n i at) (h : i < n) where
-    -- element i does, and behind it the others
-    turn : (n - i) * stride ≡ stride + (n - (i + 1)) * stride
-    turn = let e : n - i ≡ (n - (i + 1)) + 1 = omega arith in rw e (omega arith)
+-- element i does, and behind it the others
+module _ {file : List ℕ} {stride n i at : ℕ} (w : Within file stride n i at) (h : i < n) where
+  turn : (n - i) * stride ≡ stride + (n - (i + 1)) * stride
+  turn = let e : n - i ≡ (n - (i + 1)) + 1 = omega arith in rw e (omega arith)
 
-    pub within-here : at + stride ≤ length file
-    within-here = omega (arith, w .left, turn)
+  pub within-here : at + stride ≤ length file
+  within-here = omega (arith, w .left, turn)
 
-    pub within-more : Within file stride n (i + 1) (at + stride)
-    within-more = record { passed = omega arith; left = omega (arith, w .left, turn) }
+  pub within-more : Within file stride n (i + 1) (at + stride)
+  within-more = record { passed = omega arith; left = omega (arith, w .left, turn) }
 
 -- where fewer lie in the file, too
 pub fewer-lie : (stride pos n left m : ℕ) → left ≤ n → pos + n * stride ≤ m → pos + left * stride ≤ m
 fewer-lie stride pos n left m h l = omega (arith, mul-le-mul-right stride h)
 
 -- `left` of n slots from `slot` on lie below the count
-module _ (c : Call) (file : List ℕ) (r : Reading) (chunk bound down : List ℕ) (reads : Reads c file r chunk bound down) (pos n slot left : ℕ) (rest : Listing)
+module _ {c : Call} {file : List ℕ} {r : Reading} {chunk bound down : List ℕ} (reads : Reads c file r chunk bound down) (pos n slot left : ℕ) (rest : Listing)
     (e : left ≡ min n (r .geometry .header .«num_elements» - slot)) where
   pub left-run : elements c pos n slot rest ≡ elements c pos left slot rest
-  left-run = run-clamp c n pos slot rest ∙ rw (reads .header, e) refl
+  left-run = run-clamp c pos n slot rest ∙ rw (reads .header, e) refl
 
   pub left-none : left ≡ 0 → elements c pos n slot rest ≡ rest
   unfolding elements
@@ -62,6 +61,6 @@ module _ (c : Call) (file : List ℕ) (r : Reading) (chunk bound down : List ℕ
   pub left-refused : 0 < left → (x : Refusal) → elementSizeTest (r .geometry .header) (r .geometry .«offset_size») ≡ Refused x → elements c pos n slot rest ≡ refused x
   unfolding element alsoElement
   left-refused h x t =
-      let n : elements c pos n slot rest ≡ _ = run-first c n pos slot rest (omega arith) (rw (reads .header) (omega arith)) in
-      let m : element c pos slot ≡ ElementRefused x = gives-refused _ _ x (same-test c file r chunk bound down reads ∙ t) in
+      let n : elements c pos n slot rest ≡ _ = run-first c pos n slot rest (omega arith) (rw (reads .header) (omega arith)) in
+      let m : element c pos slot ≡ ElementRefused x = gives-refused _ _ x (same-test reads ∙ t) in
       n ∙ rw m refl

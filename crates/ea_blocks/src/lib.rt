@@ -16,6 +16,7 @@ pub mod count;
 pub mod enter;
 pub mod read;
 pub mod structures;
+pub mod write;
 
 // The kinds of structures that an index is made of, behind its header.
 pub enum Kind {

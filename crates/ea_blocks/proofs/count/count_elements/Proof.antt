@@ -13,7 +13,7 @@ below-count-requires c κs = search needs
 
 returns : tie.Need-returns
 unfolding countedOf
-returns c = λ k q. sym (ap countedOf (left-none k _ _ _ _ _ q _ _ _ _ _ (c .before .below-count .ensures) (c .if1 .taken)))
+returns c = λ k q. sym (ap countedOf (left-none q _ _ _ _ _ (c .before .below-count .ensures) (c .if1 .taken)))
 
 test-element-size-requires : tie.Need-test-element-size-requires
 test-element-size-requires c κs = search needs
@@ -33,14 +33,14 @@ enum-known-r : tie.Need-enum-known-r
 enum-known-r c = search needs
 
 returns-2 : tie.Need-returns-2
-returns-2 c = λ k q. c .count-sized-elements .ensures k q ∙ sym (ap countedOf (left-run k _ _ _ _ _ q _ _ _ _ _ (c .before .before .before .before .before .below-count .ensures)))
+returns-2 c = λ k q. c .count-sized-elements .ensures k q ∙ sym (ap countedOf (left-run q _ _ _ _ _ (c .before .before .before .before .before .below-count .ensures)))
 
 returns-3 : tie.Need-returns-3
 unfolding countedOf
 returns-3 c =
     let t = c .before .before .before in
     let n = t .before .if1 .left in
-    λ k q. sym (ap countedOf (left-refused k _ _ _ _ _ q _ _ _ _ _ (t .before .before .below-count .ensures) (pos-of-ne-zero n) _ (sym (t .test-element-size .ensures) ∙ c .before .r .given .1)))
+    λ k q. sym (ap countedOf (left-refused q _ _ _ _ _ (t .before .before .below-count .ensures) (pos-of-ne-zero n) _ (sym (t .test-element-size .ensures) ∙ c .before .r .given .1)))
 
 pub count-elements-spec : {M : Type 1} → statement M
 count-elements-spec =

@@ -29,7 +29,7 @@ read-sized-element-requires : tie.Need-read-sized-element-requires Inv-loop μ-l
 read-sized-element-requires c κs =
     let l = c .before .before in
     let p = l .before .before .before .pre in
-    (p .0, p .1, within-here _ _ _ _ _ (l .loop .inv .0) (c .before .loop-test .taken))
+    (p .0, p .1, within-here (l .loop .inv .0) (c .before .loop-test .taken))
 
 enum-told : tie.Need-enum-told Inv-loop μ-loop
 enum-told c = search needs
@@ -47,13 +47,13 @@ returns : tie.Need-returns Inv-loop μ-loop
 returns c =
     let t = c .before .before .before in
     let l = t .before .before .before in
-    counting-refused _ _ _ _ _ _ _ _ _ _ _ (l .loop .inv .1) (t .before .before .loop-test .taken) (omega (arith, l .before .before .before .pre .2)) _
+    counting-refused (l .loop .inv .1) (t .before .before .loop-test .taken) (omega (arith, l .before .before .before .pre .2))
     (λ k q. t .read-sized-element .ensures k q .0) _ (c .before .r .given .1)
 
 add-at : tie.Need-add-at Inv-loop μ-loop
 add-at c =
     let l = c .before .before .before .before in
-    omega (arith, l .before .element-stride .ensures, within-here _ _ _ _ _ (l .loop .inv .0) (c .before .before .before .loop-test .taken))
+    omega (arith, l .before .element-stride .ensures, within-here (l .loop .inv .0) (c .before .before .before .loop-test .taken))
 
 add-i : tie.Need-add-i Inv-loop μ-loop
 add-i c = search needs
@@ -67,15 +67,15 @@ loop-again c =
     let t = c .before .before .before .loop-test .taken in
     let b = l .before .before .before .pre .2 in
     rw (l .before .element-stride .ensures) (
-      within-more _ _ _ _ _ (l .loop .inv .0) t,
+      within-more (l .loop .inv .0) t,
       ⊎-elim
-          (λ w. rw (w .2) (counting-absent _ _ _ _ _ _ _ _ _ _ _ (l .loop .inv .1) t (omega arith) _ (λ k q. c .before .read-sized-element .ensures k q .0) (w .1 .given .1)))
-          (λ w. rw (w .2) (counting-chunk _ _ _ _ _ _ _ _ _ _ _ (l .loop .inv .1) t (omega arith) _ (λ k q. c .before .read-sized-element .ensures k q .0) _ (w .1 .given .1)))
+          (λ w. rw (w .2) (counting-absent (l .loop .inv .1) t (omega arith) (λ k q. c .before .read-sized-element .ensures k q .0) (w .1 .given .1)))
+          (λ w. rw (w .2) (counting-chunk (l .loop .inv .1) t (omega arith) (λ k q. c .before .read-sized-element .ensures k q .0) _ (w .1 .given .1)))
           (c .match .came),
     )
 
 returns-2 : tie.Need-returns-2 Inv-loop μ-loop
-returns-2 c = counting-done _ _ _ _ _ _ _ _ _ _ _ (c .before .loop .inv .1) (c .loop-test .left)
+returns-2 c = counting-done (c .before .loop .inv .1) (c .loop-test .left)
 
 pub count-sized-elements-spec : {M : Type 1} → statement M
 count-sized-elements-spec =

@@ -22,11 +22,11 @@ returns : tie.Need-returns
 returns c = λ k reads.
     let d = c .before .before in
     let x = c .read-sized-element .ensures k reads in
-    (x .0, after-passed k _ _ _ _ _ reads _ _ _ (sym (d .before .before .test-element-size .ensures) ∙ d .enum-told .given .1) _ (x .1))
+    (x .0, after-passed reads _ _ _ (sym (d .before .before .test-element-size .ensures) ∙ d .enum-told .given .1) _ (x .1))
 
 returns-2 : tie.Need-returns-2
 returns-2 c = λ k reads.
-    element-refused k _ _ _ _ _ reads _ _ _ _ (sym (c .before .before .before .test-element-size .ensures) ∙ c .before .r .given .1)
+    element-refused reads _ _ _ _ (sym (c .before .before .before .test-element-size .ensures) ∙ c .before .r .given .1)
 
 pub read-element-spec : {M : Type 1} → statement M
 read-element-spec =

@@ -35,12 +35,13 @@ unfolding sizeBytes
 returns-2 c = λ k f h o n. entry-wide k _ _ _ _ _ f h o (c .before .before .before .if1 .left) _ (omega arith) (c .if2 .taken)
 
 -- a filtered element holds address, size and mask
+abbrev start : tie.Else2 → tie.Start
+start c = c .before .before .before .before .before .before
+
 room : (c : tie.Else2)
-    → (c .before .before .before .before .before .before .args .geometry .«offset_size» + 4 ≤ c .before .before .before .before .before .before .args .geometry .header .«element_size»)
-    × (c .before .before .before .before .before .before .args .pos + c .before .before .before .before .before .before .args .geometry .header .«element_size» ≤ length (c .before .before .before .before .before .before .args .file .now))
-room c =
-    let p = c .before .before .before .before .before .before .pre in
-    filtered-room _ _ (p .0) (c .before .before .before .if1 .left) _ _ (p .1)
+    → (start c .args .geometry .«offset_size» + 4 ≤ start c .args .geometry .header .«element_size»)
+    × (start c .args .pos + start c .args .geometry .header .«element_size» ≤ length (start c .args .file .now))
+room c = filtered-room _ _ (start c .pre .0) (c .before .before .before .if1 .left) _ _ (start c .pre .1)
 
 add-at : tie.Need-add-at
 add-at c = omega (arith, room c)

@@ -19,7 +19,7 @@ is-undefined-addr-requires : tie.Need-is-undefined-addr-requires
 is-undefined-addr-requires c κs = search needs
 
 returns : tie.Need-returns
-returns c = λ k q. element-undefined k _ _ _ _ _ q (c .before .before .before .before .pre .1) _ _ _ _ (c .before .before .read-address .ensures) (sym (c .before .is-undefined-addr .ensures) ∙ c .if1 .taken)
+returns c = λ k q. element-undefined q (c .before .before .before .before .pre .1) _ _ _ _ (c .before .before .read-address .ensures) (sym (c .before .is-undefined-addr .ensures) ∙ c .if1 .taken)
 
 offsets-in-extent-requires : tie.Need-offsets-in-extent-requires
 offsets-in-extent-requires c κs = search needs
@@ -37,15 +37,17 @@ enum-known-r : tie.Need-enum-known-r
 enum-known-r c = search needs
 
 -- behind the offsets
+abbrev start : tie.After-offsets-in-extent → tie.Start
+start c = c .before .before .before .before .before .before
+
 defined : (c : tie.After-offsets-in-extent) (k : Call)
-    → Reads k (c .before .before .before .before .before .before .args .file .now) (c .before .before .before .before .before .before .args .reading) (c .before .before .before .before .before .before .args .chunk .now) (c .before .before .before .before .before .before .args .bound .now) (c .before .before .before .before .before .before .args .down .now)
+    → Reads k (start c .args .file .now) (start c .args .reading) (start c .args .chunk .now) (start c .args .bound .now) (start c .args .down .now)
     → (o : Offsets) → c .offsets-in-extent .result ≡ o
-    → (insideOnly o (entry k (c .before .before .before .before .before .before .args .pos) (c .before .before .before .before .read-address .result .value)) ≡ element k (c .before .before .before .before .before .before .args .pos) (c .before .before .before .before .before .before .args .slot))
-    × (c .offsets-in-extent .last .0 ≡ offsetsLeft k (c .before .before .before .before .before .before .args .pos) (c .before .before .before .before .before .before .args .slot) (c .before .before .before .before .before .before .args .offsets .now))
+    → (insideOnly o (entry k (start c .args .pos) (c .before .before .before .before .read-address .result .value)) ≡ element k (start c .args .pos) (start c .args .slot))
+    × (c .offsets-in-extent .last .0 ≡ offsetsLeft k (start c .args .pos) (start c .args .slot) (start c .args .offsets .now))
 defined c k q o e =
-    let g = c .before .before .before .before .before .before in
     let x = c .offsets-in-extent .ensures (k .grid) (q .numbered) (q .extended) in
-    element-defined k _ _ _ _ _ q (g .pre .1) _ _ _ _ (c .before .before .before .before .read-address .ensures)
+    element-defined q (start c .pre .1) _ _ _ _ (c .before .before .before .before .read-address .ensures)
     (sym (c .before .before .before .is-undefined-addr .ensures) ∙ c .before .before .if1 .left) o _ (sym e ∙ x .0, x .1)
 
 returns-2 : tie.Need-returns-2
