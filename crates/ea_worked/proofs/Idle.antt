@@ -56,13 +56,13 @@ pages-judged l h = list-judged P.call l (omega arith) (omega arith) h
 
 -- the record of slot 10, which lies behind a clear page of a data block that a super block names
 abbrev ten : Rec
-ten = P.recordOf 10 (10 ∷ 15 ∷ [])
+ten = P.recordOf 10 (20 ∷ 10 ∷ [])
 
 ten-listed : List·Memᴰ ten P.chunks
 unfolding P.chunks
 ten-listed = List·Memᴰ·tail (List·Memᴰ·tail (List·Memᴰ·tail (List·Memᴰ·head refl)))
 
-ten-found : lookup P.call (10 ∷ 15 ∷ []) ≡ accepted (some ten)
+ten-found : lookup P.call (20 ∷ 10 ∷ []) ≡ accepted (some ten)
 unfolding lookupAt P.call
 ten-found = yields-inv _ _ _ Pages.found .1
 
@@ -73,7 +73,7 @@ without-ten l h = (λ e. wrong (length l) (pages-judged l e), wrong)
     wrong : (n : ℕ) → Judged P.call l n → ⊥
     wrong n j =
         let s = pages-judged P.chunks pages-list .listed ten ten-listed in
-        not-listed ten l h (j .whole (10 ∷ 15 ∷ []) (s .0) (ten .entry) (s .1))
+        not-listed ten l h (j .whole (20 ∷ 10 ∷ []) (s .0) (ten .entry) (s .1))
 
 -- Super blocks treated as unset.
 supers-are : supersUnset P.call ≡ accepted (P.recordOf 0 (0 ∷ 0 ∷ []) ∷ P.recordOf 1 (10 ∷ 0 ∷ []) ∷ [])
@@ -113,11 +113,11 @@ nine-unwalked needed h = let z : _≡_ {A = ℕ} 26 9 = ap number (sym Pages.wal
     number (accepted l) = 0
 
 -- Absent first thing: not the lookup, and no answer.
-pub always-absent : lookup P.call (10 ∷ 15 ∷ []) ≡ alwaysAbsent → ⊥
+pub always-absent : lookup P.call (20 ∷ 10 ∷ []) ≡ alwaysAbsent → ⊥
 always-absent h = none-some ten (some-is none (some ten) (sym h ∙ ten-found))
 
-pub never-absent : Answers P.call (10 ∷ 15 ∷ []) none → ⊥
-never-absent n = let a = lookup-answers P.call (10 ∷ 15 ∷ []) (some ten) ten-found in n (a .0 .0) (ten .entry) (a .0 .1)
+pub never-absent : Answers P.call (20 ∷ 10 ∷ []) none → ⊥
+never-absent n = let a = lookup-answers P.call (20 ∷ 10 ∷ []) (some ten) ten-found in n (a .0 .0) (ten .entry) (a .0 .1)
 
 -- A right count over an unwritten list: the second byte is another.
 pub unwritten-list : listContent (listInto W.call 48) (replicate 48 0) ≡ unwritten (replicate 48 0) → ⊥

@@ -29,9 +29,9 @@ unfoldable pub endedAtClear : List Rec
 endedAtClear =
     recordOf 0 (0 ∷ 0 ∷ [])
     ∷ recordOf 1 (10 ∷ 0 ∷ [])
-    ∷ recordOf 6 (0 ∷ 10 ∷ [])
-    ∷ recordOf 13 (10 ∷ 20 ∷ [])
-    ∷ recordOf 16 (10 ∷ 25 ∷ [])
+    ∷ recordOf 6 (20 ∷ 5 ∷ [])
+    ∷ recordOf 13 (10 ∷ 15 ∷ [])
+    ∷ recordOf 16 (0 ∷ 20 ∷ [])
     ∷ []
 
 -- says 9 first thing, with any count

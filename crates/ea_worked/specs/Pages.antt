@@ -59,14 +59,14 @@ file =
     -- 353: the index block; super block 1 is undefined
     ++ indexPrefix ++ stored 0 ++ leBytes 2 30 ++ undefinedBytes 2 ++ leBytes 2 80 ++ leBytes 2 203 ++ leBytes 2 328 ++ leBytes 4 1544
 
--- order U, chunk 10 by 5, present 20 by 31, maximum 30 by unlimited: slot s is corner (10 × (s mod 3), 5 × (s / 3)), dropped at 20
+-- order U, chunk 10 by 5, present 30 by 26, maximum 40 by unlimited: slot s is corner (10 × (s mod 4), 5 × (s / 4)), dropped at 30
 unfoldable pub grid : Grid
 grid = record {
   rank = 2;
   chunk = 10 ∷ 5 ∷ [];
-  present = 20 ∷ 31 ∷ [];
+  present = 30 ∷ 26 ∷ [];
   hasMaximum = true;
-  maximum = 30 ∷ largest64 ∷ [];
+  maximum = 40 ∷ largest64 ∷ [];
   unlimitedFirst = true;
 }
 
@@ -77,15 +77,15 @@ call = callAt file 0 2 2 grid 4
 abbrev pub recordOf : ℕ → List ℕ → Rec
 recordOf s corner = record { entry = record { address = 200 + s; size = 300 + s; mask = 70_000 + s }; corner = corner }
 
--- Slot 11 holds an address too, but its corner is (20, 15); slot 17 is past the count.
+-- Slots 11 and 17 hold addresses too: 11 is dropped, 17 is past the count.
 unfoldable pub chunks : List Rec
 chunks =
     recordOf 0 (0 ∷ 0 ∷ [])
     ∷ recordOf 1 (10 ∷ 0 ∷ [])
-    ∷ recordOf 6 (0 ∷ 10 ∷ [])
-    ∷ recordOf 10 (10 ∷ 15 ∷ [])
-    ∷ recordOf 13 (10 ∷ 20 ∷ [])
-    ∷ recordOf 16 (10 ∷ 25 ∷ [])
+    ∷ recordOf 6 (20 ∷ 5 ∷ [])
+    ∷ recordOf 10 (20 ∷ 10 ∷ [])
+    ∷ recordOf 13 (10 ∷ 15 ∷ [])
+    ∷ recordOf 16 (0 ∷ 20 ∷ [])
     ∷ []
 
 -- the call where the byte at pos is another
@@ -102,29 +102,37 @@ abbrev pub spoiling : ℕ → ℕ → ℕ → ℕ → ℕ → Spoiling
 spoiling pos byte number stored computed =
     record { pos = pos; byte = byte; refusal = record { number = number; first = stored; second = computed } }
 
--- 26 for each kind of structure, with the stored sum and the computed one; and 23, 24, 25 for another signature, though the sum is wrong too
-unfoldable pub spoilings : List Spoiling
-spoilings =
+-- In structures that lead to slot 10: 26 with the stored sum and the computed one; and 23, 24, 25 for another signature, though the sum is
+-- wrong then too.
+unfoldable pub onPath : List Spoiling
+onPath =
     -- the index block
     spoiling 379 9 26 1545 1544
     ∷ spoiling 353 0 23 0 0
     -- super block 3
     ∷ spoiling 218 0x73 26 627 626
     ∷ spoiling 203 0 25 0 0
-    -- a data block that the index block names, and one that a super block names
-    ∷ spoiling 47 0x87 26 647 646
+    -- the head of its data block 0
+    ∷ spoiling 106 0x0d 26 269 268
+    ∷ spoiling 97 0 24 0 0
+    -- page 1: its sum, and a byte of it
+    ∷ spoiling 146 0x2e 26 814 813
+    ∷ spoiling 130 0 26 813 603
+    ∷ []
+
+-- And in others.
+unfoldable pub besidePath : List Spoiling
+besidePath =
+    -- a data block that the index block names, and an unpaged one that a super block names
+    spoiling 47 0x87 26 647 646
     ∷ spoiling 30 0 24 0 0
     ∷ spoiling 76 0xca 26 1226 1225
     ∷ spoiling 51 0 24 0 0
-    -- the head of a paged data block
-    ∷ spoiling 106 0x0d 26 269 268
-    ∷ spoiling 97 0 24 0 0
-    -- a page: its sum, and a byte of it
-    ∷ spoiling 146 0x2e 26 814 813
-    ∷ spoiling 130 0 26 813 603
     -- past the count: the head of a data block of a super block that is reached, and its first set page
     ∷ spoiling 284 0x0d 26 269 268
     ∷ spoiling 324 0x8e 26 910 909
+    -- the count 18: a page that ends at the count doesn't end its data block, and the unwritten page behind it is tested
+    ∷ spoiling 20 18 26 0x0909_0909 144
     ∷ []
 
 -- bytes of pages that are not looked at: a clear one, and one behind the page that runs past the count
