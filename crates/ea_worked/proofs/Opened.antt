@@ -19,8 +19,8 @@ use Rattle.ea_blocks.specs.Places.{blockReached, reached, positionOf, leading a
 use Rattle.ea_list.specs.Walk.{also, alsoElement, elements, pagesFrom, block, blocksFrom, supers, behindInline, walk}
 use Rattle.ea_list.specs.Listing.{list, recordLength, offsetBytes, recordBytes, listBytes, inRoom, listInto, listContent}
 use Rattle.ea_lookup.specs.Lookup.{slotPath, lookup}
-use Rattle.ea_worked.specs.Files.{undefinedBytes, callAt, listAt, lookupAt}
+use Rattle.ea_worked.specs.Files.{undefinedBytes, callOn, callAt, listAt, lookupAt}
 
 unfoldable pub opened : Unit {0}
-unfolding figure refuse _then_ _yields_ leValue leAt leBytes sizeTest isWidth widthTest inFile undefined addressAt undefinedAt trailingTest pairwise every any ceilDiv countOf counts firstUnlimited leadingIn leading toFront fromFront ordered multiplier multipliers hasZero numbersNothing quotients offsets overflows below offsetsTest insideOr inExtent aligned isChunk cornerTest total slotFrom slotOf shapesTest multiplierTest productTest gridTest log2In statistic headerAt formTest sizesTest headerTest served servedTest superBlocks blocks blockElements directSuperBlocks blocksBefore directPointers superPointers elementsBefore pageElements overPage pages bitBytes bitmapBytes elementStride elementAt pointerAt indexPrefix inlineElementAt directPointersAt superPointersAt indexExtent directPointerAt superPointerAt blockPrefix pageBitsAt blockPointerAt superExtent blockElementAt dataExtent pagedHeadExtent pageExtent pageAt pagedElementAt bitNumber bitByte bitMask pageBit superOf inPages placeIn inSuperBlock place signatureTest structureTest indexAt isDirect superNamedAt superAt blockNamedAt blockAt dataPageAt superUndefined blockUndefined bitSet pageSet testOf filtered product chunkBytes sizeBytes sizeAt maskAt entryAt elementSizeTest entryTest _gives_ insideOnly element blockReached reached positionOf leadingStructures structures pointerTest answerOf tested pathAt path also alsoElement elements pagesFrom block blocksFrom supers behindInline walk list recordLength offsetBytes recordBytes listBytes inRoom listInto listContent slotPath lookup undefinedBytes callAt listAt lookupAt
+unfolding figure refuse _then_ _yields_ leValue leAt leBytes sizeTest isWidth widthTest inFile undefined addressAt undefinedAt trailingTest pairwise every any ceilDiv countOf counts firstUnlimited leadingIn leading toFront fromFront ordered multiplier multipliers hasZero numbersNothing quotients offsets overflows below offsetsTest insideOr inExtent aligned isChunk cornerTest total slotFrom slotOf shapesTest multiplierTest productTest gridTest log2In statistic headerAt formTest sizesTest headerTest served servedTest superBlocks blocks blockElements directSuperBlocks blocksBefore directPointers superPointers elementsBefore pageElements overPage pages bitBytes bitmapBytes elementStride elementAt pointerAt indexPrefix inlineElementAt directPointersAt superPointersAt indexExtent directPointerAt superPointerAt blockPrefix pageBitsAt blockPointerAt superExtent blockElementAt dataExtent pagedHeadExtent pageExtent pageAt pagedElementAt bitNumber bitByte bitMask pageBit superOf inPages placeIn inSuperBlock place signatureTest structureTest indexAt isDirect superNamedAt superAt blockNamedAt blockAt dataPageAt superUndefined blockUndefined bitSet pageSet testOf filtered product chunkBytes sizeBytes sizeAt maskAt entryAt elementSizeTest entryTest _gives_ insideOnly element blockReached reached positionOf leadingStructures structures pointerTest answerOf tested pathAt path also alsoElement elements pagesFrom block blocksFrom supers behindInline walk list recordLength offsetBytes recordBytes listBytes inRoom listInto listContent slotPath lookup undefinedBytes callOn callAt listAt lookupAt
 opened = tt

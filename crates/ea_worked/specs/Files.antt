@@ -5,6 +5,7 @@ use mathlib.Core.Option.{Option}
 use lib.ListN.{replicate}
 use Rattle.refusal.specs.Outcome.{Outcome, _yields_}
 use Rattle.chunk_grid.specs.Grid.{Grid, total}
+use Rattle.ea_header.specs.declared.ExtensibleArrayHeader.{ExtensibleArrayHeader}
 use Rattle.ea_header.specs.Header.{headerAt, headerTest}
 use Rattle.ea_blocks.specs.Call.{Call, Rec}
 use Rattle.ea_list.specs.Walk.{Listing}
@@ -18,9 +19,13 @@ byteSum s = total s
 unfoldable pub undefinedBytes : ℕ → List ℕ
 undefinedBytes n = replicate n 0xff
 
--- the call on a file whose header stands at pos, with offset size o, length size l and elements of n bytes in the dataset
+-- the call on a file with this header, with offset size o and elements of n bytes in the dataset
+unfoldable pub callOn : List ℕ → ExtensibleArrayHeader → ℕ → Grid → ℕ → Call
+callOn f h o g n = record { file = f; sum = byteSum; header = h; offsetSize = o; grid = g; elementBytes = n }
+
+-- where the header stands at pos and was read with offset size o and length size l
 unfoldable pub callAt : List ℕ → ℕ → ℕ → ℕ → Grid → ℕ → Call
-callAt f pos o l g n = record { file = f; sum = byteSum; header = headerAt f pos o l; offsetSize = o; grid = g; elementBytes = n }
+callAt f pos o l g n = callOn f (headerAt f pos o l) o g n
 
 -- its list and its lookup, the header's test first
 unfoldable pub listAt : List ℕ → ℕ → ℕ → ℕ → Grid → ℕ → Listing
