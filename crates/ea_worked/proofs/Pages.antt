@@ -1,14 +1,18 @@
 -- The file with pages: its list and lookups in it, and what is refused where one of its bytes is another, all computed.
 use Prim.Native.Nat.{ℕ}
 use mathlib.Core.Path.{_≡_, refl}
+use mathlib.Core.Bool.{false}
 use mathlib.Core.List.{[], _∷_, _++_, map}
 use mathlib.Core.Option.{none, some}
-use lib.ListN.{length, take, replicate}
+use lib.ListN.{length, take, set, replicate}
 use Rattle.refusal.specs.Outcome.{refused, accepted}
+use Rattle.ea_header.specs.Header.{headerAt}
+use Rattle.ea_blocks.specs.Places.{path}
+use Rattle.ea_list.specs.Walk.{behindInline}
 use Rattle.ea_list.specs.Listing.{list, listInto}
 use Rattle.ea_lookup.specs.Lookup.{lookup}
-use Rattle.ea_worked.specs.Files.{callAt, listAt, lookupAt}
-use Rattle.ea_worked.specs.Pages.{file, grid, call, recordOf, chunks, spoiled, Spoiling, onPath, besidePath, unread}
+use Rattle.ea_worked.specs.Files.{callOn, callAt, listAt, lookupAt}
+use Rattle.ea_worked.specs.Pages.{file, gridIn, grid, call, recordOf, chunks, spoiled, Spoiling, onPath, besidePath, unread}
 use Rattle.ea_worked.proofs.Opened.{opened}
 
 pub long : length file ≡ 383
@@ -64,3 +68,28 @@ pub untested : map (λ (x : Spoiling). lookup (spoiled (x .pos) (x .byte)) (20 �
     ≡ map (λ (x : Spoiling). accepted (some (recordOf 10 (20 ∷ 10 ∷ [])))) besidePath
 unfolding opened file grid spoiled besidePath
 untested = refl
+
+-- The super block that begins at the count is not reached, nor a data block that the index block names.
+pub unreached : list (callAt (set (set file 20 16) 328 0) 0 2 2 grid 4) ∷ list (callAt (set (set file 20 1) 30 0) 0 2 2 grid 4) ∷ []
+    ≡ accepted (take 5 chunks) ∷ accepted (take 1 chunks) ∷ []
+unfolding opened file grid chunks
+unreached = refl
+
+-- The grid's refusals come first, then a corner's, then 27.
+pub grid-first : list (callAt (set file 9 3) 0 2 2 (gridIn false) 4) ≡ refused (record { number = 7; first = 0; second = 0 })
+unfolding opened file
+grid-first = refl
+
+pub corner-second : lookup (callAt file 0 2 2 (gridIn false) 4) (5 ∷ []) ∷ lookup (spoiled 9 3) (5 ∷ 10 ∷ []) ∷ []
+    ≡ refused (record { number = 7; first = 0; second = 0 }) ∷ refused (record { number = 10; first = 0; second = 0 }) ∷ []
+unfolding opened file grid spoiled
+corner-second = refl
+
+-- A pointer with offset size 3 is 1.
+pub pointer-width : behindInline (callOn file (headerAt file 0 2 2) 3 grid 4) ≡ refused (record { number = 1; first = 3; second = 0 })
+unfolding opened file grid
+pointer-width = refl
+
+pub pointer-width-on-path : path (callOn file (headerAt file 0 2 2) 3 grid 4) 10 ≡ refused (record { number = 1; first = 3; second = 0 })
+unfolding opened file grid
+pointer-width-on-path = refl

@@ -17,7 +17,7 @@ use Rattle.ea_geometry.proofs.Tried.{Row, digits, truth, rows}
 use Rattle.ea_blocks.specs.declared.Element.{Element}
 use Rattle.ea_blocks.specs.declared.Element.the-variants.{Absent, Chunk, Refused as ElementRefused}
 use Rattle.ea_blocks.specs.Elements.{element}
-use Rattle.ea_worked.specs.Files.{byteSum, undefinedBytes}
+use Rattle.ea_worked.specs.Files.{undefinedBytes, callOn}
 use Rattle.ea_worked.specs.Worked.{grid}
 use Rattle.ea_worked.proofs.Opened.{opened}
 
@@ -33,7 +33,10 @@ read Absent = 0
 read (Chunk e) = digits (e .address ∷ e .size ∷ e .mask ∷ 1 ∷ [])
 read (ElementRefused r) = digits (refusal r)
 
--- the refusal with this number and these figures; 0 is none
+abbrev pub chunk : ℕ → ℕ → ℕ → ℕ
+chunk address size mask = read (Chunk (record { address = address; size = size; mask = mask }))
+
+-- the refusal with this number and these figures; number 0 is none
 abbrev pub refused : ℕ → ℕ → ℕ → ℕ
 refused number first second = digits (number ∷ first ∷ second ∷ [])
 
@@ -69,47 +72,53 @@ gridRows =
     ∷ (test (gridTest (counting (replicate 33 1))), refused 3 0 0)
     ∷ []
 
--- the element of these bytes, filtered, with offset size o and element size n
-abbrev pub filteredElement : List ℕ → ℕ → ℕ → Element
-filteredElement bytes o n =
-    element (record {
-      file = bytes;
-      sum = byteSum;
-      header = record {
-        «client_id» = 1;
-        «element_size» = n;
-        «max_nelmts_bits» = 32;
-        «idx_blk_elmts» = 2;
-        «min_dblk_nelmts» = 16;
-        «super_blk_min_nelmts» = 4;
-        «max_dblk_nelmts_bits» = 10;
-        «num_elements» = 1;
-        «index_block_address» = 0;
-      };
-      offsetSize = o;
-      grid = grid;
-      elementBytes = 4;
-    }) 0 0
+-- the element of slot s with these bytes, filtered, with offset size o and element size n
+abbrev pub elementIn : Grid → ℕ → List ℕ → ℕ → ℕ → Element
+elementIn g s bytes o n = element (callOn bytes (record {
+  «client_id» = 1;
+  «element_size» = n;
+  «max_nelmts_bits» = 32;
+  «idx_blk_elmts» = 2;
+  «min_dblk_nelmts» = 16;
+  «super_blk_min_nelmts» = 4;
+  «max_dblk_nelmts_bits» = 10;
+  «num_elements» = 3;
+  «index_block_address» = 0;
+}) o g 4) 0 s
+
+-- of slot 0, chunk 10 with 25 elements present
+abbrev pub elementOf : List ℕ → ℕ → ℕ → Element
+elementOf bytes o n = elementIn grid 0 bytes o n
 
 -- an address 1, a size, and a mask 3
 abbrev pub sized : ℕ → List ℕ
 sized n = leBytes 8 1 ++ leBytes 8 n ++ leBytes 4 3
 
+-- chunk 2^63 by 1, unlimited by this count
+abbrev pub tall : ℕ → Grid
+tall count =
+    record { rank = 2; chunk = 2 ^ 63 ∷ 1 ∷ []; present = 1 ∷ 1 ∷ []; hasMaximum = true; maximum = largest64 ∷ count ∷ []; unlimitedFirst = true }
+
 abbrev pub elementRows : List Row
 elementRows =
     -- O = 8: element size 11 is 28, 12 reads size 0 (and the mask behind it)
-    (read (filteredElement (sized 2) 8 11), refused 28 0 0)
-    ∷ (read (filteredElement (sized 2) 8 12), digits (1 ∷ 0 ∷ 2 ∷ 1 ∷ []))
+    (read (elementOf (sized 2) 8 11), refused 28 0 0)
+    ∷ (read (elementOf (sized 2) 8 12), chunk 1 0 2)
     -- 20 reads 8 bytes, 21 is 29
-    ∷ (read (filteredElement (sized 2) 8 20), digits (1 ∷ 2 ∷ 3 ∷ 1 ∷ []))
-    ∷ (read (filteredElement (sized (2 ^ 56)) 8 20), refused 30 (2 ^ 56) 0)
-    ∷ (read (filteredElement (sized 2) 8 21), refused 29 0 0)
+    ∷ (read (elementOf (sized 2) 8 20), chunk 1 2 3)
+    ∷ (read (elementOf (sized (2 ^ 56)) 8 20), refused 30 (2 ^ 56) 0)
+    ∷ (read (elementOf (sized 2) 8 21), refused 29 0 0)
     -- a size of 2^32 − 1 is read, one more is 30
-    ∷ (read (filteredElement (sized (2 ^ 32 - 1)) 8 20), digits (1 ∷ (2 ^ 32 - 1) ∷ 3 ∷ 1 ∷ []))
-    ∷ (read (filteredElement (sized (2 ^ 32)) 8 20), refused 30 (2 ^ 32) 0)
-    -- 28 before 1
-    ∷ (read (filteredElement (sized 2) 3 6), refused 28 0 0)
-    ∷ (read (filteredElement (sized 2) 3 7), refused 1 3 0)
+    ∷ (read (elementOf (sized (2 ^ 32 - 1)) 8 20), chunk 1 (2 ^ 32 - 1) 3)
+    ∷ (read (elementOf (sized (2 ^ 32)) 8 20), refused 30 (2 ^ 32) 0)
+    -- 28 before 1 before undefined before 32 before 33; dropped before 29 before 30
+    ∷ (read (elementOf (sized 2) 3 6), refused 28 0 0)
+    ∷ (read (elementOf (undefinedBytes 20) 3 7), refused 1 3 0)
+    ∷ (read (elementIn (tall 0) 2 (undefinedBytes 20) 8 20), read Absent)
+    ∷ (read (elementIn (tall 0) 2 (sized 2) 8 20), refused 32 0 0)
+    ∷ (read (elementIn (tall 1) 2 (sized 2) 8 20), refused 33 0 0)
+    ∷ (read (elementIn grid 3 (sized 2) 8 21), read Absent)
+    ∷ (read (elementOf (sized (2 ^ 56)) 8 21), refused 29 0 0)
     ∷ []
 
 abbrev pub fieldRows : List Row

@@ -2,7 +2,7 @@
 -- elements 1, super block minimum 1, page exponent 1, count 17. So super block 0 is slot 1, super block 1 slots 2 and 3, super block 2
 -- two blocks of 2 from slot 4 on, super block 3 two blocks of two pages from slot 8 on, super block 4 four such blocks from slot 16 on.
 use Prim.Native.Nat.{ℕ, _+_}
-use mathlib.Core.Bool.{true}
+use mathlib.Core.Bool.{Bool, true}
 use mathlib.Core.List.{List, [], _∷_, _++_}
 use lib.ListN.{replicate, set}
 use Rattle.refusal.specs.declared.Refusal.{Refusal}
@@ -59,16 +59,20 @@ file =
     -- 353: the index block; super block 1 is undefined
     ++ indexPrefix ++ stored 0 ++ leBytes 2 30 ++ undefinedBytes 2 ++ leBytes 2 80 ++ leBytes 2 203 ++ leBytes 2 328 ++ leBytes 4 1544
 
--- order U, chunk 10 by 5, present 30 by 26, maximum 40 by unlimited: slot s is corner (10 × (s mod 4), 5 × (s / 4)), dropped at 30
-unfoldable pub grid : Grid
-grid = record {
+-- chunk 10 by 5, present 30 by 26, maximum 40 by unlimited; true for order U, false for order R
+abbrev pub gridIn : Bool → Grid
+gridIn unlimitedFirst = record {
   rank = 2;
   chunk = 10 ∷ 5 ∷ [];
   present = 30 ∷ 26 ∷ [];
   hasMaximum = true;
   maximum = 40 ∷ largest64 ∷ [];
-  unlimitedFirst = true;
+  unlimitedFirst = unlimitedFirst;
 }
+
+-- order U: slot s is corner (10 × (s mod 4), 5 × (s / 4)), dropped at 30
+unfoldable pub grid : Grid
+grid = gridIn true
 
 unfoldable pub call : Call
 call = callAt file 0 2 2 grid 4
@@ -102,12 +106,14 @@ abbrev pub spoiling : ℕ → ℕ → ℕ → ℕ → ℕ → Spoiling
 spoiling pos byte number stored computed =
     record { pos = pos; byte = byte; refusal = record { number = number; first = stored; second = computed } }
 
--- In structures that lead to slot 10: 26 with the stored sum and the computed one; and 23, 24, 25 for another signature, though the sum is
--- wrong then too.
+-- In the header, 27; in structures that lead to slot 10, 26 with the stored sum and the computed one, and 23, 24, 25 for another
+-- signature, though the sum is wrong then too.
 unfoldable pub onPath : List Spoiling
 onPath =
+    -- 3 for the least block elements
+    spoiling 9 3 27 0 0
     -- the index block
-    spoiling 379 9 26 1545 1544
+    ∷ spoiling 379 9 26 1545 1544
     ∷ spoiling 353 0 23 0 0
     -- super block 3
     ∷ spoiling 218 0x73 26 627 626
