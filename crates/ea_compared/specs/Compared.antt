@@ -1,0 +1,21 @@
+-- What is compared: a header that is read, and the list of its array, the sum of the bytes in the place of the checksum.
+use Prim.Native.Nat.{ℕ}
+use mathlib.Core.List.{List}
+use Rattle.refusal.specs.Outcome.{refused, _yields_}
+use Rattle.chunk_grid.specs.Grid.{Grid}
+use Rattle.ea_header.specs.Header.{headerAt, headerTest}
+use Rattle.ea_blocks.specs.Call.{Rec}
+use Rattle.ea_list.specs.Walk.{Listing}
+use Rattle.ea_list.specs.Listing.{list}
+use Rattle.ea_worked.specs.Files.{byteSum, callOn}
+
+-- the header at pos with offset size o and length size l, then the list with offset size p
+unfoldable pub answer : List ℕ → ℕ → ℕ → ℕ → ℕ → Grid → ℕ → Listing
+answer f pos o l p g n = headerTest byteSum f pos o l yields list (callOn f (headerAt f pos o l) p g n)
+
+-- answers
+abbrev pub chunk : ℕ → ℕ → ℕ → List ℕ → Rec
+chunk address size mask corner = record { entry = record { address = address; size = size; mask = mask }; corner = corner }
+
+abbrev pub refusal : ℕ → ℕ → ℕ → Listing
+refusal number first second = refused (record { number = number; first = first; second = second })

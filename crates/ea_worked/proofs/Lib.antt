@@ -1,0 +1,5 @@
+pub mod Opened
+pub mod Worked
+pub mod Pages
+pub mod Tried
+pub mod Idle

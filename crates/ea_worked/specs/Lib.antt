@@ -1,0 +1,4 @@
+pub mod Files
+pub mod Worked
+pub mod Pages
+pub mod Idle

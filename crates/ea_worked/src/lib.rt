@@ -1,0 +1,1 @@
+// Small files that the definitions are computed on; no code.
