@@ -17,7 +17,7 @@ use Rattle.chunk_grid.specs.Grid.{Grid, gridTest, pairwise, every, below, offse
 use Rattle.chunk_grid.specs.Values.{shown, handed}
 use Rattle.chunk_grid.specs.declared.Offsets.{Offsets}
 use Rattle.chunk_grid.specs.declared.Offsets.the-variants.{Inside, Dropped, Refused as OffsetsRefused}
-use Rattle.chunk_grid.proofs.Grids.{built, length-offsets}
+use Rattle.chunk_grid.proofs.Grids.{accepted as grid-accepted, length-offsets}
 use Rattle.ea_blocks.specs.declared.Entry.{Entry}
 use Rattle.ea_blocks.specs.declared.Element.{Element}
 use Rattle.ea_blocks.specs.declared.Element.the-variants.{Chunk}
@@ -48,7 +48,7 @@ module _ (g : Grid) (s : ℕ) where
   unfolding inExtent handed shown
   handed-inside t h l fits =
       let i = inside-or (offsetsTest g s) refl (below (offsets g s) (g .present)) refl h in
-      let n = length-offsets g (built g t) s in
+      let n = length-offsets g (grid-accepted g t) s in
       let e : sets l 0 (offsets g s) ≡ offsets g s ++ drop (0 + length (offsets g s)) l = sets-eq (offsets g s) l 0 (omega arith) in
       rw (i .0, shown-below (offsets g s) (g .present) (i .1), e) (take-at (offsets g s) _ (g .rank) n)
 
@@ -71,7 +71,7 @@ gives-listed (Refused r) e corner a l h = absurd (never r l h)
 
 -- the rank of a grid that elements are read by
 pub reads-rank : {c : Call} {file : List ℕ} {r : Reading} {chunk bound down : List ℕ} → Reads c file r chunk bound down → r .rank ≤ 32
-reads-rank {c} q = rw (q .numbered .ranked) (built (c .grid) (q .numbered .built) .small)
+reads-rank {c} q = rw (q .numbered .ranked) (grid-accepted (c .grid) (q .numbered .built) .small)
 
 module _ (c : Call) (pos s : ℕ) where
   pub element-sized : (corner : List ℕ) (a : Listing) (l : List Rec) → alsoElement (element c pos s) corner a ≡ accepted l
@@ -106,4 +106,4 @@ module _ (c : Call) (pos s : ℕ) where
         rw (e, i .0, q .numbered .ranked) (handed-inside (c .grid) s (q .numbered .built) (i .1) l (rw (q .numbered .ranked) at fits))
 
     pub corner-rank : length (offsets (c .grid) s) ≡ r .rank
-    corner-rank = length-offsets (c .grid) (built (c .grid) (q .numbered .built)) s ∙ sym (q .numbered .ranked)
+    corner-rank = length-offsets (c .grid) (grid-accepted (c .grid) (q .numbered .built)) s ∙ sym (q .numbered .ranked)

@@ -14,7 +14,7 @@ use Rattle.refusal.specs.Outcome.{accepted}
 use Rattle.refusal.proofs.Tests.{by-cond}
 use Rattle.refusal.proofs.Outcomes.{never}
 use Rattle.chunk_grid.specs.Grid.{gridTest}
-use Rattle.chunk_grid.proofs.Grids.{built, length-offsets}
+use Rattle.chunk_grid.proofs.Grids.{accepted as grid-accepted, length-offsets}
 use Rattle.ea_blocks.specs.declared.Element.{Element}
 use Rattle.ea_blocks.specs.declared.Element.the-variants.{Absent, Chunk, Refused as ElementRefused}
 use Rattle.ea_blocks.specs.Call.{Call, Rec}
@@ -111,7 +111,7 @@ run-ranked c t pos zero s rest k l h = k l h
 run-ranked c t pos (suc j) s rest k l h =
     by-cond (λ (a : Listing). a ≡ accepted l → Ranked (c .grid .rank) l) (leb (c .header .«num_elements») s)
     (λ b g. k l g)
-    (λ b g. element-ranked (c .grid .rank) (element c pos s) _ _ l (length-offsets (c .grid) (built (c .grid) t) s) g (λ m f. run-ranked c t _ j (s + 1) rest k m f))
+    (λ b g. element-ranked (c .grid .rank) (element c pos s) _ _ l (length-offsets (c .grid) (grid-accepted (c .grid) t) s) g (λ m f. run-ranked c t _ j (s + 1) rest k m f))
     h
 
 -- so the bytes of a run's records are their number times a record's

@@ -5,7 +5,7 @@ use Rattle.refusal.specs.Outcome.{refused, _yields_}
 use Rattle.chunk_grid.specs.Grid.{Grid}
 use Rattle.ea_header.specs.Header.{headerAt, headerTest}
 use Rattle.ea_blocks.specs.Call.{Rec}
-use Rattle.ea_list.specs.Walk.{Listing}
+use Rattle.ea_blocks.specs.Runs.{Listing}
 use Rattle.ea_list.specs.Listing.{list}
 use Rattle.ea_worked.specs.Files.{byteSum, callOn}
 

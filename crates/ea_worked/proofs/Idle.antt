@@ -16,7 +16,7 @@ use Rattle.refusal.proofs.Outcomes.{never, yields-inv}
 use Rattle.chunk_grid.specs.Grid.{any}
 use Rattle.ea_blocks.specs.Call.{Rec}
 use Rattle.ea_blocks.proofs.Elements.{some-is}
-use Rattle.ea_list.specs.Walk.{Listing}
+use Rattle.ea_blocks.specs.Runs.{Listing}
 use Rattle.ea_list.specs.Listing.{list, listInto, listContent}
 use Rattle.ea_list.specs.Judged.{Judged}
 use Rattle.ea_list.proofs.Judging.{none-some, list-judged}

@@ -8,7 +8,7 @@ use Rattle.chunk_grid.specs.Grid.{Grid, total}
 use Rattle.ea_header.specs.declared.ExtensibleArrayHeader.{ExtensibleArrayHeader}
 use Rattle.ea_header.specs.Header.{headerAt, headerTest}
 use Rattle.ea_blocks.specs.Call.{Call, Rec}
-use Rattle.ea_list.specs.Walk.{Listing}
+use Rattle.ea_blocks.specs.Runs.{Listing}
 use Rattle.ea_list.specs.Listing.{list}
 use Rattle.ea_lookup.specs.Lookup.{lookup}
 
