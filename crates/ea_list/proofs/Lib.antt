@@ -5,3 +5,4 @@ pub mod Writing
 pub mod PlaceRuns
 pub mod ChunkBytes
 pub mod SeenRuns
+pub mod WalkStates
