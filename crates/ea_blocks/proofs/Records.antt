@@ -66,20 +66,36 @@ length-list rank [] h = omega arith
 length-list rank (r ∷ l) h = rw (length-append, length-record r, h .0, length-list rank l (h .1)) (omega arith)
 
 -- offset i of `rank` stored: the others go behind it
-module _ (rank : ℕ) (offsets : List ℕ) (fits : rank ≤ length offsets) (out : List ℕ) (at i : ℕ) where
-  pub offset-stored : i < rank
+module _ (rank : ℕ) (offsets : List ℕ) (fits : rank ≤ length offsets) (at : ℕ) where
+  offset-stored : (out : List ℕ) (i : ℕ) → i < rank
       → sets (sets out (at + 8 * i) (leBytes 8 (getD offsets i 0))) (at + 8 * (i + 1)) (offsetBytes (drop (i + 1) (take rank offsets)))
       ≡ sets out (at + 8 * i) (offsetBytes (drop i (take rank offsets)))
   unfolding offsetBytes
-  offset-stored h =
+  offset-stored out i h =
       let inside : i < length (take rank offsets) = rw length-take (omega arith) in
-      let d : drop i (take rank offsets) ≡ getD offsets i 0 ∷ drop (i + 1) (take rank offsets) = rw (drop-cons (take rank offsets) i 0 inside, getD-take rank offsets i 0 h, add-one) refl in
+      let d : drop i (take rank offsets) ≡ getD offsets i 0 ∷ drop (i + 1) (take rank offsets) =
+      rw (drop-cons (take rank offsets) i 0 inside, getD-take rank offsets i 0 h, add-one) refl in
       let e : at + 8 * (i + 1) ≡ at + 8 * i + 8 = omega arith in
       rw (d, e) (sym (sets-bytes out (at + 8 * i) 8 (getD offsets i 0) _))
 
-  pub offsets-stored : rank ≤ i → out ≡ sets out (at + 8 * i) (offsetBytes (drop i (take rank offsets)))
+  -- and the next with it
+  pub pair-stored : (out : List ℕ) (i : ℕ) → i + 1 < rank
+      → sets (sets (sets out (at + 8 * i) (leBytes 8 (getD offsets i 0))) (at + 8 * i + 8) (leBytes 8 (getD offsets (i + 1) 0))) (at + 8 * (i + 2)) (offsetBytes (drop (i + 2) (take rank offsets)))
+      ≡ sets out (at + 8 * i) (offsetBytes (drop i (take rank offsets)))
+  pair-stored out i h =
+      let e : at + 8 * i + 8 ≡ at + 8 * (i + 1) = omega arith in
+      let f : i + 2 ≡ i + 1 + 1 = omega arith in
+      rw (e, f) (offset-stored (sets out (at + 8 * i) (leBytes 8 (getD offsets i 0))) (i + 1) h ∙ offset-stored out i (omega arith))
+
+  -- none is left
+  pub offsets-stored : (out : List ℕ) (i : ℕ) → rank ≤ i → out ≡ sets out (at + 8 * i) (offsetBytes (drop i (take rank offsets)))
   unfolding offsetBytes
-  offsets-stored h = rw (drop-of-length-le (take rank offsets) {i = i} (rw length-take (omega arith))) refl
+  offsets-stored out i h = rw (drop-of-length-le (take rank offsets) {i = i} (rw length-take (omega arith))) refl
+
+  -- the last is stored
+  pub last-stored : (out : List ℕ) (i : ℕ) → i < rank → rank ≤ i + 1
+      → sets out (at + 8 * i) (leBytes 8 (getD offsets i 0)) ≡ sets out (at + 8 * i) (offsetBytes (drop i (take rank offsets)))
+  last-stored out i h k = offsets-stored (sets out (at + 8 * i) (leBytes 8 (getD offsets i 0))) (i + 1) k ∙ offset-stored out i h
 
 -- a record, field by field
 pub record-stored : (out : List ℕ) (at : ℕ) (r : Rec)
