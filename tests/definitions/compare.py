@@ -168,7 +168,8 @@ def main():
     if proved.returncode == 0:
         print("all agree")
         return 0
-    print("\n".join(line[:400] for line in (proved.stdout + proved.stderr).splitlines() if "error" in line))
+    said = (proved.stdout + proved.stderr).splitlines()
+    print("\n".join(line[:400] for line in [line for line in said if "error" in line] or said[-10:]))
     print("NOT all agree")
     return 1
 
