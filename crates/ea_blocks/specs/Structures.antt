@@ -33,10 +33,11 @@ structureTest sum kind f pos len = inFile f pos len then signatureTest kind f po
 unfoldable pub indexAt : Call → ℕ
 indexAt c = c .header .«index_block_address»
 
--- Super block u is named in the index block, where its data blocks are not.
+-- Super block u's data blocks are named in the index block, ..
 unfoldable pub isDirect : Call → ℕ → Bool
 isDirect c u = ltb u (directSuperBlocks (c .header))
 
+-- .. or super block u itself is.
 unfoldable pub superNamedAt : Call → ℕ → ℕ
 superNamedAt c u = indexAt c + superPointerAt (c .header) (c .offsetSize) u
 
