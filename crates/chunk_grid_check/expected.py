@@ -85,10 +85,10 @@ class Grid:
             inside = [o < p for o, p in zip(offsets, self.present)]
             answer = " refused 33 0 0" if any(o > TOP for o in offsets) else "" if all(inside) else " dropped"
             handed = [o if i else 0 for o, i in zip(offsets, inside)]
-        return f"  slot {slot}:{answer}{text(handed)}{self.corner(handed)}"
+        return f"  slot {slot}:{answer}{text(handed)}"
 
     def corner(self, corner):
-        return f" corner{text(corner)}:" + self.slot_of(corner)
+        return f"  corner{text(corner)}:" + self.slot_of(corner)
 
     def slot_of(self, corner):
         if len(corner) != self.rank or any(o % c for o, c in zip(corner, self.chunk)) or any(o >= p for o, p in zip(corner, self.present)):
@@ -100,18 +100,19 @@ class Grid:
         return " none" if slot > TOP else f" {slot}"
 
 
-def grid(rank, chunk, present, maximum, start, end):
-    case(0, rank, chunk, present, int(maximum is not None), maximum or [], start, end)
-    show(f"grid {rank} chunk{text(chunk)} present{text(present)}" + ("" if maximum is None else f" maximum{text(maximum)}"))
+def grid(rank, chunk, present, maximum, start, end, corner=None):
+    corner = [0] * rank if corner is None and rank <= 32 else corner or []
+    case(0, rank, chunk, present, int(maximum is not None), maximum or [], start, end, corner)
     for name, unlimited_first in (("R", False), ("U", True)):
         try:
             g = Grid(rank, chunk, present, maximum, unlimited_first)
         except Refused as r:
-            show(f" {name} refused {r} 0 0")
+            show(f"{name} refused {r} 0 0")
             continue
-        show(f" {name}" + g.numbers())
+        show(name + g.numbers())
         for slot in range(start, end):
             show(g.slot_line(slot))
+        show(g.corner(corner))
 
 
 def counts():
@@ -170,22 +171,17 @@ def overflows():
     grid(2, [1, 1], [10, half], [TOP, half], TOP - 1, TOP)
 
 
-def corner(rank, chunk, present, maximum, at):
-    case(1, rank, chunk, present, maximum, at)
-    show(Grid(rank, chunk, present, maximum, True).corner(at))
-
-
 def corners():
     half = 2**63
     for at in ([], [10], [10, 10, 0], [5, 10], [10, 7], [30, 10], [0, 30], [20, 0], [10, 10], [0, 25]):
-        corner(2, [10, 5], [25, 30], [20, TOP], at)
+        grid(2, [10, 5], [25, 30], [20, TOP], 0, 0, at)
     for at in ([6, 2], [0, 4]):
-        corner(2, [2, 2], [7, 9], [4, 4], at)
+        grid(2, [2, 2], [7, 9], [4, 4], 0, 0, at)
     for at in ([1, half - 1], [2, 0], [9, half - 1]):
-        corner(2, [1, 1], [10, half], [TOP, half], at)
-    corner(2, [2, 2], [4, 4], [4, 0], [0, 0])
-    corner(0, [], [], [], [])
-    corner(0, [], [], [], [0])
+        grid(2, [1, 1], [10, half], [TOP, half], 0, 0, at)
+    grid(2, [2, 2], [4, 4], [4, 0], 0, 0, [0, 0])
+    grid(0, [], [], [], 0, 0, [])
+    grid(0, [], [], [], 0, 0, [0])
 
 
 def shape(rank, data):
@@ -194,8 +190,8 @@ def shape(rank, data):
 
 
 def from_bytes(rank, chunk, present, has_maximum, maximum, corner):
-    case(2, rank, chunk, present, int(has_maximum), maximum, corner)
-    head = f"bytes {rank} {len(chunk)} {len(present)} {len(maximum)} {len(corner)}"
+    case(1, rank, chunk, present, int(has_maximum), maximum, corner)
+    head = "bytes"
     c, p, m = (shape(rank, s) for s in (chunk, present, maximum))
     number = 3 if rank > 32 or c is None else 4 if p is None else 5 if has_maximum and m is None else 0
     try:
@@ -237,7 +233,7 @@ def all_bytes():
     from_bytes(0, b"", b"", False, b"", b"\1")
     from_bytes(0, b"", b"", True, b"\1", b"")
     from_bytes(0, b"\1", b"", False, b"", b"")
-    from_bytes(33, b"\1" * 264, b"", False, b"", b"")
+    from_bytes(33, one, one, False, b"", b"")
     from_bytes(TOP, b"", b"", False, b"", b"")
 
 
@@ -248,14 +244,16 @@ def many(count):
         chunk = [pick.randint(1, 5) for _ in range(rank)]
         present = [pick.randrange(13) for _ in range(rank)]
         maximum = [pick.choice([*range(14), TOP, TOP]) for _ in range(rank)]
-        grid(rank, chunk, present, maximum if pick.randrange(3) else None, 0, 12)
-    for _ in range(count):
+        corner = [c * pick.randrange(3) + (pick.randrange(8) == 0) for c in chunk]
+        grid(rank, chunk, present, maximum if pick.randrange(3) else None, 0, 12, corner)
+    for _ in range(2 * count):
         rank = pick.randint(1, 4)
         chunk = [pick.randrange(1, 2**pick.randint(1, 63)) for _ in range(rank)]
         present = [pick.randrange(2**pick.randint(1, 64)) for _ in range(rank)]
         maximum = [pick.choice([pick.randrange(2**pick.randint(1, 64)), TOP]) for _ in range(rank)]
         start = pick.choice([0, pick.randrange(2**64 - 3)])
-        grid(rank, chunk, present, maximum, start, start + 3)
+        corner = [c * pick.randrange(-(-p // c) or 1) for c, p in zip(chunk, present)]
+        grid(rank, chunk, present, maximum, start, start + 3, corner)
 
 
 counts()

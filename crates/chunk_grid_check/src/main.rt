@@ -1,6 +1,6 @@
-// Prints what the grids of its input answer, in both orders: refusals, the numbers of a grid, the offsets of slots, and the slots of
-// corners. The input is numbers in decimal. A case begins with 0 for shapes of numbers and a range of slots, 1 for a corner, 2 for
-// shapes and a corner of bytes; a list is its length and its members.
+// Prints what the grids of its input answer: refusals, the numbers of a grid, the offsets of slots, and the slot of a corner. The
+// input is numbers in decimal: how many cases, and each case. It begins with 0 where its shapes are numbers, else they are bytes; a
+// list is its length and its members.
 ghost use Prim.Native.Nat.{_≤_};
 ghost use lib.ListN.{length};
 use chunk_grid::Built;
@@ -53,7 +53,7 @@ fn print_refusal(r: Refusal) {
 
 // A corner's refusal, its slot, or none.
 fn print_corner(grid: ChunkGrid, corner: &[u64]) {
-    print_text(b" corner");
+    print_text(b"  corner");
     print_numbers(corner);
     print_text(b":");
     let mut counts = [0u64; 32];
@@ -81,7 +81,7 @@ fn print_corner(grid: ChunkGrid, corner: &[u64]) {
     }
 }
 
-// What a slot's offsets come to; those in the extents with the slot of their corner.
+// What a slot's offsets come to, and the offsets.
 fn print_slot(grid: ChunkGrid, slot: u64) {
     print_text(b"  slot");
     print_number(slot);
@@ -116,7 +116,6 @@ fn print_slot(grid: ChunkGrid, slot: u64) {
         Offsets::Refused(r) => print_refusal(r),
     }
     print_first(&offsets, grid.rank);
-    print_corner(grid, &offsets[..rank]);
     print_text(b"\n");
 }
 
@@ -163,8 +162,13 @@ fn print_built(built: Built) {
     print_text(b"\n");
 }
 
-// A grid's numbers, and what some slots come to.
-fn print_order(built: Built, from: u64, to: u64) {
+fn print_corner_line(grid: ChunkGrid, corner: &[u64]) {
+    print_corner(grid, corner);
+    print_text(b"\n");
+}
+
+// A grid's numbers, what some slots come to, and a corner.
+fn print_order(built: Built, from: u64, to: u64, corner: &[u64]) {
     print_built(built);
     let checked = built.checked;
     if let Checked::Refused(_) = checked {
@@ -172,9 +176,10 @@ fn print_order(built: Built, from: u64, to: u64) {
     }
     let grid = built.grid;
     print_slots(grid, from, to);
+    print_corner_line(grid, corner);
 }
 
-// The grid of these shapes in both orders, and its slots.
+// The grid of these shapes in both orders.
 fn print_grid(
     rank: u64,
     chunk: &[u64],
@@ -183,18 +188,9 @@ fn print_grid(
     maximum: &[u64],
     from: u64,
     to: u64,
+    corner: &[u64],
 ) {
-    print_text(b"grid");
-    print_number(rank);
-    print_text(b" chunk");
-    print_numbers(chunk);
-    print_text(b" present");
-    print_numbers(present);
-    if has_maximum {
-        print_text(b" maximum");
-        print_numbers(maximum);
-    }
-    print_text(b"\n R");
+    print_text(b"R");
     let rows = ChunkGrid::new(
         rank,
         chunk,
@@ -203,8 +199,8 @@ fn print_grid(
         maximum,
         GridOrder::RowMajor,
     );
-    print_order(rows, from, to);
-    print_text(b" U");
+    print_order(rows, from, to, corner);
+    print_text(b"U");
     let first = ChunkGrid::new(
         rank,
         chunk,
@@ -213,12 +209,7 @@ fn print_grid(
         maximum,
         GridOrder::UnlimitedFirst,
     );
-    print_order(first, from, to);
-}
-
-fn print_corner_line(grid: ChunkGrid, corner: &[u64]) {
-    print_corner(grid, corner);
-    print_text(b"\n");
+    print_order(first, from, to, corner);
 }
 
 // A grid of shapes that are given as bytes, and the test of a corner.
@@ -231,11 +222,6 @@ fn print_bytes(
     corner: &[u8],
 ) {
     print_text(b"bytes");
-    print_number(rank);
-    print_number(chunk.len() as u64);
-    print_number(present.len() as u64);
-    print_number(maximum.len() as u64);
-    print_number(corner.len() as u64);
     let built = ChunkGrid::from_bytes(
         rank,
         chunk,
@@ -322,18 +308,21 @@ fn list(out: &mut [u64], s: &[u8], from: usize) -> Item
         at = item.at;
         i += 1;
     }
-    Item { value: i as u64, at }
+    Item {
+        value: i as u64,
+        at,
+    }
 }
 
 // The same of bytes.
 fn byte_list(out: &mut [u8], s: &[u8], from: usize) -> Item
-    ensures { λ r. ⌜ r .value ≤ 300 ⌝ }
+    ensures { λ r. ⌜ r .value ≤ 24 ⌝ }
 {
-    let mut numbers = [0u64; 300];
+    let mut numbers = [0u64; 24];
     let item = list(&mut numbers, s, from);
     let mut i = 0;
     while i < out.len() {
-        if 300 <= i {
+        if 24 <= i {
             break;
         }
         out[i] = (numbers[i] % 256) as u8;
@@ -342,21 +331,24 @@ fn byte_list(out: &mut [u8], s: &[u8], from: usize) -> Item
     item
 }
 
-// Shapes of numbers, and a range of slots.
+// Shapes of numbers, a range of slots, and a corner.
 fn run_grid(s: &[u8], from: usize) -> usize {
     let rank = number(s, from);
-    let mut chunk = [0u64; 40];
-    let mut present = [0u64; 40];
-    let mut maximum = [0u64; 40];
+    let mut chunk = [0u64; 34];
+    let mut present = [0u64; 34];
+    let mut maximum = [0u64; 34];
+    let mut corner = [0u64; 34];
     let c = list(&mut chunk, s, rank.at);
     let p = list(&mut present, s, c.at);
     let has = number(s, p.at);
     let m = list(&mut maximum, s, has.at);
     let start = number(s, m.at);
     let end = number(s, start.at);
+    let k = list(&mut corner, s, end.at);
     let x = c.value as usize;
     let y = p.value as usize;
     let z = m.value as usize;
+    let w = k.value as usize;
     print_grid(
         rank.value,
         &chunk[..x],
@@ -365,45 +357,18 @@ fn run_grid(s: &[u8], from: usize) -> usize {
         &maximum[..z],
         start.value,
         end.value,
+        &corner[..w],
     );
-    end.at
-}
-
-// Shapes of numbers with a maximum, in order U, and a corner.
-fn run_corner(s: &[u8], from: usize) -> usize {
-    let rank = number(s, from);
-    let mut chunk = [0u64; 40];
-    let mut present = [0u64; 40];
-    let mut maximum = [0u64; 40];
-    let mut corner = [0u64; 40];
-    let c = list(&mut chunk, s, rank.at);
-    let p = list(&mut present, s, c.at);
-    let m = list(&mut maximum, s, p.at);
-    let k = list(&mut corner, s, m.at);
-    let x = c.value as usize;
-    let y = p.value as usize;
-    let z = m.value as usize;
-    let w = k.value as usize;
-    let built = ChunkGrid::new(
-        rank.value,
-        &chunk[..x],
-        &present[..y],
-        true,
-        &maximum[..z],
-        GridOrder::UnlimitedFirst,
-    );
-    let grid = built.grid;
-    print_corner_line(grid, &corner[..w]);
     k.at
 }
 
 // Shapes and a corner of bytes.
 fn run_bytes(s: &[u8], from: usize) -> usize {
     let rank = number(s, from);
-    let mut chunk = [0u8; 300];
-    let mut present = [0u8; 300];
-    let mut maximum = [0u8; 300];
-    let mut corner = [0u8; 300];
+    let mut chunk = [0u8; 24];
+    let mut present = [0u8; 24];
+    let mut maximum = [0u8; 24];
+    let mut corner = [0u8; 24];
     let c = byte_list(&mut chunk, s, rank.at);
     let p = byte_list(&mut present, s, c.at);
     let has = number(s, p.at);
@@ -426,11 +391,10 @@ fn run_bytes(s: &[u8], from: usize) -> usize {
 
 fn run_case(s: &[u8], from: usize) -> usize {
     let kind = number(s, from);
-    let value = kind.value;
-    match value {
-        0 => run_grid(s, kind.at),
-        1 => run_corner(s, kind.at),
-        _ => run_bytes(s, kind.at),
+    if kind.value == 0 {
+        run_grid(s, kind.at)
+    } else {
+        run_bytes(s, kind.at)
     }
 }
 

@@ -1,12 +1,10 @@
+-- `chunk_grid_check::byte_list` is safe and ends. Assumes nothing.
 use borrow.Author.Needs.{needs}
-use Prim.Native.Nat.{_-_, _≤_, _<_, _^_}
+use Prim.Native.Nat.{_-_, _≤_}
 use mathlib.Core.Path.{_≡_}
 use lib.ListN.{length}
 use Rattle.chunk_grid_check.proofs.byte_list.Statement.{statement}
 use Rattle.chunk_grid_check.proofs.byte_list.Tie as tie
-use Rattle.chunk_grid_check.proofs.byte_list.Reads as reads
-use Rattle.chunk_grid_check.proofs.byte_list.Lts as lts
-use Rattle.chunk_grid_check.proofs.list.Reads as list-reads
 
 abbrev Inv-loop : tie.InvT-loop
 Inv-loop out₀ s from numbers item i₀ out i = (i ≤ length out₀) × (length out ≡ length out₀)
@@ -14,59 +12,45 @@ Inv-loop out₀ s from numbers item i₀ out i = (i ≤ length out₀) × (lengt
 abbrev μ-loop : tie.MeasureT-loop
 μ-loop out₀ s from numbers item i₀ out i = length out₀ - i
 
--- src/main.rt:333:21
 slice-aggregate-list : tie.Need-slice-aggregate-list Inv-loop μ-loop
 slice-aggregate-list c = search needs
 
--- src/main.rt:333:9
 list-requires : tie.Need-list-requires Inv-loop μ-loop
 list-requires c κs = search needs
 
--- src/main.rt:335:5
 loop-holds : tie.Need-loop-holds Inv-loop μ-loop
 loop-holds c = search needs
 
--- src/main.rt:339:19
 mul-out : tie.Need-mul-out Inv-loop μ-loop
 mul-out c = search needs
 
--- src/main.rt:339:19
 array-read-out : tie.Need-array-read-out Inv-loop μ-loop
 array-read-out c = search needs
 
--- src/main.rt:339:18
 cast-out : tie.Need-cast-out Inv-loop μ-loop
 cast-out c = search needs
 
--- src/main.rt:339:9
 slice-write-out : tie.Need-slice-write-out Inv-loop μ-loop
 slice-write-out c = search needs
 
--- src/main.rt:340:9
 add-i : tie.Need-add-i Inv-loop μ-loop
 add-i c = search needs
 
--- src/main.rt:335:5
 loop-less : tie.Need-loop-less Inv-loop μ-loop
 loop-less c = search needs
 
--- src/main.rt:335:5
 loop-again : tie.Need-loop-again Inv-loop μ-loop
 loop-again c = search needs
 
--- src/main.rt:329:1
 same-length : tie.Need-same-length Inv-loop μ-loop
 same-length c = search needs
 
--- src/main.rt:329:1
 returns : tie.Need-returns Inv-loop μ-loop
 returns c = search needs
 
--- src/main.rt:329:1
 same-length-2 : tie.Need-same-length-2 Inv-loop μ-loop
 same-length-2 c = search needs
 
--- src/main.rt:329:1
 returns-2 : tie.Need-returns-2 Inv-loop μ-loop
 returns-2 c = search needs
 

@@ -1,12 +1,9 @@
+-- `chunk_grid_check::number` is safe and ends. Assumes nothing.
 use borrow.Author.Needs.{needs}
 use Prim.Native.Nat.{_-_, _≤_, _<_, _^_}
 use lib.ListN.{length}
 use Rattle.chunk_grid_check.proofs.number.Statement.{statement}
 use Rattle.chunk_grid_check.proofs.number.Tie as tie
-use Rattle.chunk_grid_check.proofs.number.Reads as reads
-use Rattle.chunk_grid_check.proofs.number.Lts as lts
-use Rattle.chunk_grid_check.proofs.digit.Reads as digit-reads
-use Rattle.chunk_grid_check.proofs.is_digit.Reads as is-digit-reads
 
 abbrev Inv-loop : tie.InvT-loop
 Inv-loop s from at₀ at = from ≤ at
@@ -20,84 +17,64 @@ Inv-loop2 s from at₀ value₀ at value = value < 2 ^ 64
 abbrev μ-loop2 : tie.MeasureT-loop2
 μ-loop2 s from at₀ value₀ at value = length s - at
 
--- src/main.rt:288:5
 loop-holds : tie.Need-loop-holds Inv-loop μ-loop Inv-loop2 μ-loop2
 loop-holds c = search needs
 
--- src/main.rt:289:21
 shared-slice-read-is-digit : tie.Need-shared-slice-read-is-digit Inv-loop μ-loop Inv-loop2 μ-loop2
 shared-slice-read-is-digit c = search needs
 
--- src/main.rt:289:12
 is-digit-requires : tie.Need-is-digit-requires Inv-loop μ-loop Inv-loop2 μ-loop2
 is-digit-requires c κs = search needs
 
--- src/main.rt:292:9
 add-at : tie.Need-add-at Inv-loop μ-loop Inv-loop2 μ-loop2
 add-at c = search needs
 
--- src/main.rt:288:5
 loop-less : tie.Need-loop-less Inv-loop μ-loop Inv-loop2 μ-loop2
 loop-less c = search needs
 
--- src/main.rt:288:5
 loop-again : tie.Need-loop-again Inv-loop μ-loop Inv-loop2 μ-loop2
 loop-again c = search needs
 
--- src/main.rt:295:5
 loop2-holds : tie.Need-loop2-holds Inv-loop μ-loop Inv-loop2 μ-loop2
 loop2-holds c = search needs
 
--- src/main.rt:296:22
 shared-slice-read-is-digit-2 :
     tie.Need-shared-slice-read-is-digit-2 Inv-loop μ-loop Inv-loop2 μ-loop2
 shared-slice-read-is-digit-2 c = search needs
 
--- src/main.rt:296:13
 is-digit-requires-2 : tie.Need-is-digit-requires-2 Inv-loop μ-loop Inv-loop2 μ-loop2
 is-digit-requires-2 c κs = search needs
 
--- src/main.rt:299:23
 shared-slice-read-digit : tie.Need-shared-slice-read-digit Inv-loop μ-loop Inv-loop2 μ-loop2
 shared-slice-read-digit c = search needs
 
--- src/main.rt:299:13
 digit-requires : tie.Need-digit-requires Inv-loop μ-loop Inv-loop2 μ-loop2
 digit-requires c κs = search needs
 
--- src/main.rt:300:21
 sub-if3 : tie.Need-sub-if3 Inv-loop μ-loop Inv-loop2 μ-loop2
 sub-if3 c = search needs
 
--- src/main.rt:301:13
 returns : tie.Need-returns Inv-loop μ-loop Inv-loop2 μ-loop2
 returns c = search needs
 
--- src/main.rt:303:17
 mul-value : tie.Need-mul-value Inv-loop μ-loop Inv-loop2 μ-loop2
 mul-value c = search needs
 
--- src/main.rt:303:17
 add-value : tie.Need-add-value Inv-loop μ-loop Inv-loop2 μ-loop2
 add-value c = search needs
 
--- src/main.rt:304:9
 add-at-2 : tie.Need-add-at-2 Inv-loop μ-loop Inv-loop2 μ-loop2
 add-at-2 c = search needs
 
--- src/main.rt:295:5
 loop2-less : tie.Need-loop2-less Inv-loop μ-loop Inv-loop2 μ-loop2
 loop2-less c = search needs
 
--- src/main.rt:295:5
 loop2-again : tie.Need-loop2-again Inv-loop μ-loop Inv-loop2 μ-loop2
 loop2-again c = search needs
 
--- src/main.rt:286:1
 returns-2 : tie.Need-returns-2 Inv-loop μ-loop Inv-loop2 μ-loop2
 returns-2 c = search needs
 
--- src/main.rt:286:1
 returns-3 : tie.Need-returns-3 Inv-loop μ-loop Inv-loop2 μ-loop2
 returns-3 c = search needs
 

@@ -1,11 +1,8 @@
+-- `chunk_grid_check::print_first` is safe and ends. Assumes nothing.
 use borrow.Author.Needs.{needs}
 use Prim.Native.Nat.{_-_, _≤_}
-use lib.ListN.{length}
 use Rattle.chunk_grid_check.proofs.print_first.Statement.{statement}
 use Rattle.chunk_grid_check.proofs.print_first.Tie as tie
-use Rattle.chunk_grid_check.proofs.print_first.Reads as reads
-use Rattle.chunk_grid_check.proofs.print_first.Lts as lts
-use Rattle.chunk_grid_check.proofs.print_number.Reads as print-number-reads
 
 abbrev Inv-loop : tie.InvT-loop
 Inv-loop s n i₀ i = i ≤ 32
@@ -13,39 +10,30 @@ Inv-loop s n i₀ i = i ≤ 32
 abbrev μ-loop : tie.MeasureT-loop
 μ-loop s n i₀ i = 32 - i
 
--- src/main.rt:36:5
 loop-holds : tie.Need-loop-holds Inv-loop μ-loop
 loop-holds c = search needs
 
--- src/main.rt:38:13
 returns : tie.Need-returns Inv-loop μ-loop
 returns c = search needs
 
--- src/main.rt:40:22
 mul-print-number : tie.Need-mul-print-number Inv-loop μ-loop
 mul-print-number c = search needs
 
--- src/main.rt:40:22
 element-copy-out-print-number : tie.Need-element-copy-out-print-number Inv-loop μ-loop
 element-copy-out-print-number c = search needs
 
--- src/main.rt:40:9
 print-number-requires : tie.Need-print-number-requires Inv-loop μ-loop
 print-number-requires c κs = search needs
 
--- src/main.rt:41:9
 add-i : tie.Need-add-i Inv-loop μ-loop
 add-i c = search needs
 
--- src/main.rt:36:5
 loop-less : tie.Need-loop-less Inv-loop μ-loop
 loop-less c = search needs
 
--- src/main.rt:36:5
 loop-again : tie.Need-loop-again Inv-loop μ-loop
 loop-again c = search needs
 
--- src/main.rt:34:1
 returns-2 : tie.Need-returns-2 Inv-loop μ-loop
 returns-2 c = search needs
 

@@ -1,4 +1,4 @@
--- `chunk_grid::print_shape` meets its contract. Assumes nothing.
+-- `chunk_grid_check::print_shape` is safe and ends. Assumes nothing.
 use mathlib.Core.Path.{_≡_, sym}
 use native.Mathlib.Omega.{arith}
 use lib.ListN.{length}
@@ -6,29 +6,21 @@ use lib.Seq.{length-take-le}
 use borrow.Author.Needs.{needs}
 use Rattle.chunk_grid_check.proofs.print_shape.Statement.{statement}
 use Rattle.chunk_grid_check.proofs.print_shape.Tie as tie
-use Rattle.chunk_grid_check.proofs.print_shape.Reads as reads
-use Rattle.chunk_grid_check.proofs.print_shape.Lts as lts
-use Rattle.chunk_grid_check.proofs.print_corner_line.Reads as print-corner-line-reads
 
--- src/main.rt:363:33
 array-share-prefix-shape : tie.Need-array-share-prefix-shape
 array-share-prefix-shape c = search needs
 
--- src/main.rt:363:33
 slice-aggregate-print-corner-line : tie.Need-slice-aggregate-print-corner-line
 slice-aggregate-print-corner-line c =
     let e : length (c .before .before .args .t2) ≡ 32 = search needs in
     sym (length-take-le _ _ (omega arith))
 
--- src/main.rt:363:9
 print-corner-line-requires : tie.Need-print-corner-line-requires
 print-corner-line-requires c κs = search needs
 
--- src/main.rt:360:1
 returns : tie.Need-returns
 returns c = search needs
 
--- src/main.rt:360:1
 returns-2 : tie.Need-returns-2
 returns-2 c = search needs
 

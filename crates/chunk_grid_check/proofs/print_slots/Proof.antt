@@ -1,10 +1,8 @@
+-- `chunk_grid_check::print_slots` is safe and ends. Assumes nothing.
 use borrow.Author.Needs.{needs}
 use Prim.Native.Nat.{_-_, _≤_}
 use Rattle.chunk_grid_check.proofs.print_slots.Statement.{statement}
 use Rattle.chunk_grid_check.proofs.print_slots.Tie as tie
-use Rattle.chunk_grid_check.proofs.print_slots.Reads as reads
-use Rattle.chunk_grid_check.proofs.print_slots.Lts as lts
-use Rattle.chunk_grid_check.proofs.print_slot.Reads as print-slot-reads
 
 abbrev Inv-loop : tie.InvT-loop
 Inv-loop grid from to s₀ s = from ≤ s
@@ -12,27 +10,21 @@ Inv-loop grid from to s₀ s = from ≤ s
 abbrev μ-loop : tie.MeasureT-loop
 μ-loop grid from to s₀ s = to - s
 
--- src/main.rt:123:5
 loop-holds : tie.Need-loop-holds Inv-loop μ-loop
 loop-holds c = search needs
 
--- src/main.rt:124:9
 print-slot-requires : tie.Need-print-slot-requires Inv-loop μ-loop
 print-slot-requires c κs = search needs
 
--- src/main.rt:125:9
 add-s : tie.Need-add-s Inv-loop μ-loop
 add-s c = search needs
 
--- src/main.rt:123:5
 loop-less : tie.Need-loop-less Inv-loop μ-loop
 loop-less c = search needs
 
--- src/main.rt:123:5
 loop-again : tie.Need-loop-again Inv-loop μ-loop
 loop-again c = search needs
 
--- src/main.rt:121:1
 returns : tie.Need-returns Inv-loop μ-loop
 returns c = search needs
 

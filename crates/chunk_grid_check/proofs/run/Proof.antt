@@ -1,10 +1,8 @@
+-- `chunk_grid_check::run` is safe and ends. Assumes nothing.
 use borrow.Author.Needs.{needs}
-use Prim.Native.Nat.{_-_, _≤_, _<_, _^_}
+use Prim.Native.Nat.{_-_, _≤_}
 use Rattle.chunk_grid_check.proofs.run.Statement.{statement}
 use Rattle.chunk_grid_check.proofs.run.Tie as tie
-use Rattle.chunk_grid_check.proofs.run.Reads as reads
-use Rattle.chunk_grid_check.proofs.run.Lts as lts
-use Rattle.chunk_grid_check.proofs.run_case.Reads as run-case-reads
 
 abbrev Inv-loop : tie.InvT-loop
 Inv-loop s count from at₀ i₀ at i = i ≤ count
@@ -12,27 +10,21 @@ Inv-loop s count from at₀ i₀ at i = i ≤ count
 abbrev μ-loop : tie.MeasureT-loop
 μ-loop s count from at₀ i₀ at i = count - i
 
--- src/main.rt:438:5
 loop-holds : tie.Need-loop-holds Inv-loop μ-loop
 loop-holds c = search needs
 
--- src/main.rt:439:9
 run-case-requires : tie.Need-run-case-requires Inv-loop μ-loop
 run-case-requires c κs = search needs
 
--- src/main.rt:440:9
 add-i : tie.Need-add-i Inv-loop μ-loop
 add-i c = search needs
 
--- src/main.rt:438:5
 loop-less : tie.Need-loop-less Inv-loop μ-loop
 loop-less c = search needs
 
--- src/main.rt:438:5
 loop-again : tie.Need-loop-again Inv-loop μ-loop
 loop-again c = search needs
 
--- src/main.rt:435:1
 returns : tie.Need-returns Inv-loop μ-loop
 returns c = search needs
 

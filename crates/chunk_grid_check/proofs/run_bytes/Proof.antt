@@ -1,91 +1,67 @@
-use mathlib.Core.Path.{_≡_, sym}
+-- `chunk_grid_check::run_bytes` is safe and ends. Assumes nothing.
+use mathlib.Core.Path.{sym}
 use lib.Seq.{length-take-le}
 use borrow.Author.Needs.{needs}
 use Rattle.chunk_grid_check.proofs.run_bytes.Statement.{statement}
 use Rattle.chunk_grid_check.proofs.run_bytes.Tie as tie
-use Rattle.chunk_grid_check.proofs.run_bytes.Reads as reads
-use Rattle.chunk_grid_check.proofs.run_bytes.Lts as lts
-use Rattle.chunk_grid_check.proofs.byte_list.Reads as byte-list-reads
-use Rattle.chunk_grid_check.proofs.number.Reads as number-reads
-use Rattle.chunk_grid_check.proofs.print_bytes.Reads as print-bytes-reads
 
--- src/main.rt:402:9
 number-requires : tie.Need-number-requires
 number-requires c κs = search needs
 
--- src/main.rt:407:23
 slice-aggregate-byte-list : tie.Need-slice-aggregate-byte-list
 slice-aggregate-byte-list c = search needs
 
--- src/main.rt:407:9
 byte-list-requires : tie.Need-byte-list-requires
 byte-list-requires c κs = search needs
 
--- src/main.rt:408:23
 slice-aggregate-byte-list-2 : tie.Need-slice-aggregate-byte-list-2
 slice-aggregate-byte-list-2 c = search needs
 
--- src/main.rt:408:9
 byte-list-requires-2 : tie.Need-byte-list-requires-2
 byte-list-requires-2 c κs = search needs
 
--- src/main.rt:409:9
 number-requires-2 : tie.Need-number-requires-2
 number-requires-2 c κs = search needs
 
--- src/main.rt:410:23
 slice-aggregate-byte-list-3 : tie.Need-slice-aggregate-byte-list-3
 slice-aggregate-byte-list-3 c = search needs
 
--- src/main.rt:410:9
 byte-list-requires-3 : tie.Need-byte-list-requires-3
 byte-list-requires-3 c κs = search needs
 
--- src/main.rt:411:23
 slice-aggregate-byte-list-4 : tie.Need-slice-aggregate-byte-list-4
 slice-aggregate-byte-list-4 c = search needs
 
--- src/main.rt:411:9
 byte-list-requires-4 : tie.Need-byte-list-requires-4
 byte-list-requires-4 c κs = search needs
 
--- src/main.rt:418:9
 array-share-prefix-chunk : tie.Need-array-share-prefix-chunk
 array-share-prefix-chunk c = search needs
 
--- src/main.rt:418:9
 slice-aggregate-print-bytes : tie.Need-slice-aggregate-print-bytes
 slice-aggregate-print-bytes c = sym (length-take-le _ _ (search needs))
 
--- src/main.rt:419:9
 array-share-prefix-present : tie.Need-array-share-prefix-present
 array-share-prefix-present c = search needs
 
--- src/main.rt:419:9
 slice-aggregate-print-bytes-2 : tie.Need-slice-aggregate-print-bytes-2
 slice-aggregate-print-bytes-2 c = sym (length-take-le _ _ (search needs))
 
--- src/main.rt:421:9
 array-share-prefix-maximum : tie.Need-array-share-prefix-maximum
 array-share-prefix-maximum c = search needs
 
--- src/main.rt:421:9
 slice-aggregate-print-bytes-3 : tie.Need-slice-aggregate-print-bytes-3
 slice-aggregate-print-bytes-3 c = sym (length-take-le _ _ (search needs))
 
--- src/main.rt:422:9
 array-share-prefix-corner : tie.Need-array-share-prefix-corner
 array-share-prefix-corner c = search needs
 
--- src/main.rt:422:9
 slice-aggregate-print-bytes-4 : tie.Need-slice-aggregate-print-bytes-4
 slice-aggregate-print-bytes-4 c = sym (length-take-le _ _ (search needs))
 
--- src/main.rt:416:5
 print-bytes-requires : tie.Need-print-bytes-requires
 print-bytes-requires c κs = search needs
 
--- src/main.rt:401:1
 returns : tie.Need-returns
 returns c = search needs
 
