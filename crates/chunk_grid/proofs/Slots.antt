@@ -6,14 +6,15 @@ use mathlib.Core.List.{List, [], _∷_}
 use native.Mathlib.Omega.{arith}
 use borrow.Author.Tests.{le-ltb, ltb-true, ltb-false}
 use lib.Dec.{ltb}
-use lib.Seq.{sets}
+use lib.ListN.{length}
+use lib.Seq.{sets, length-sets}
 use Rattle.refusal.specs.declared.Checked.the-variants.{Passed}
 use Rattle.refusal.specs.Refusals.{largest64, refuse, _then_}
 use Rattle.chunk_grid.specs.declared.Offsets.the-variants.{Inside}
 use Rattle.chunk_grid.specs.declared.Slot.the-variants.{At}
 use Rattle.chunk_grid.specs.Grid.{Grid, pairwise, every, any, numbersNothing, offsets, overflows, below, offsetsTest, insideOr, inExtent, isChunk, slotOf, gridTest}
 use Rattle.chunk_grid.specs.Values.{shown, handed}
-use Rattle.refusal.proofs.Tests.{false-true, both, neither}
+use Rattle.refusal.proofs.Tests.{by-cond, false-true, both, neither}
 use Rattle.chunk_grid.proofs.Grids.{accepted, chunk-inv, slot-offsets, offsets-chunk, offsets-slot}
 
 -- what lies below numbers that 64 bits hold is held by them too
@@ -55,6 +56,11 @@ module _ (g : Grid) (s : ℕ) where
   pub handed-inside : inExtent g s ≡ Inside → (l : List ℕ) → handed g s l ≡ sets l 0 (offsets g s)
   unfolding handed shown
   handed-inside h l = let i = inside-inv h in rw (i .0, below-shown (offsets g s) (g .present) (i .2)) refl
+
+-- The lent array keeps its length.
+pub length-handed : (g : Grid) (s : ℕ) (l : List ℕ) → length (handed g s l) ≡ length l
+unfolding handed
+length-handed g s l = by-cond (λ (m : List ℕ). length m ≡ length l) (numbersNothing g) (λ t. refl) (λ t. length-sets l 0 (shown g s))
 
 -- For a grid that was built: a chunk with a slot gets itself back from the offsets of that slot, ..
 pub slot-chunk : (g : Grid) (corner : List ℕ) (s : ℕ) → gridTest g ≡ Passed → overflows (g .present) ≡ false → isChunk g corner ≡ true → slotOf g corner ≡ At s

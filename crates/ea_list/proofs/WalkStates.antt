@@ -1,12 +1,13 @@
 -- What the counting walk has come to, and each step from there. Assumes nothing.
-use Prim.Native.Nat.{ℕ, _+_, _-_, _*_, _<_, _≤_}
+use Prim.Native.Nat.{ℕ, _+_, _-_, _*_, _^_, _<_, _≤_}
 use mathlib.Core.Path.{_≡_, refl, sym, ap, subst, _∙_}
 use mathlib.Core.Bool.{Bool, true, false, cond, _&&_}
 use mathlib.Core.List.{List, []}
 use mathlib.Core.Logic.{_⊎_, inl, inr, ⊎-elim}
 use native.Mathlib.Omega.{arith}
 use native.Mathlib.Nat.{mul-le-mul-right}
-use Rattle.refusal.proofs.Tests.{lt-or-ge}
+use borrow.Author.Tests.{leb-true}
+use Rattle.refusal.proofs.Tests.{lt-or-ge, false-true, both}
 use lib.Dec.{leb}
 use lib.ListN.{length}
 use Rattle.refusal.specs.declared.Refusal.{Refusal}
@@ -14,26 +15,29 @@ use Rattle.refusal.specs.declared.Checked.{Checked}
 use Rattle.refusal.specs.declared.Checked.the-variants.{Passed, Refused}
 use Rattle.refusal.specs.Outcome.{Outcome, refused, accepted}
 use Rattle.ea_header.specs.declared.ExtensibleArrayHeader.{ExtensibleArrayHeader}
-use Rattle.ea_geometry.specs.Sizes.{superBlocks, blocks, blockElements, directSuperBlocks, pageElements, pages}
+use Rattle.ea_geometry.specs.Sizes.{superBlocks, blocks, blockElements, directSuperBlocks, overPage, pageElements, pages}
 use Rattle.fields.specs.Fields.{isWidth}
 use Rattle.ea_geometry.specs.Bounded.{Bounded}
-use Rattle.ea_geometry.specs.Extents.{indexExtent, blockElementAt}
+use Rattle.ea_geometry.specs.Extents.{elementStride, elementAt, indexExtent, blockElementAt}
 use Rattle.ea_geometry.specs.Place.{inPages}
 use Rattle.ea_geometry.specs.Slots.{firstSlot}
+use Rattle.ea_header.specs.Served.{Served}
+use Rattle.ea_geometry.proofs.Counts.{elements-before-few, pages-exact}
 use Rattle.ea_geometry.proofs.Places.{next-slot, first-slot-zero}
 use Rattle.ea_blocks.specs.declared.Reading.{Reading}
 use Rattle.ea_blocks.specs.declared.Counted.{Counted}
 use Rattle.ea_blocks.specs.declared.Counted.the-variants.{Count, Refused as CountedRefused}
 use Rattle.ea_blocks.specs.declared.enter.Entered.the-variants.{Absent, At, Refused as EnteredRefused}
-use Rattle.ea_blocks.specs.Call.{Call}
-use Rattle.ea_blocks.specs.Structures.{isDirect, blockAt, dataPageAt}
+use Rattle.ea_blocks.specs.Call.{Call, Rec}
+use Rattle.ea_blocks.specs.Structures.{isDirect, superAt, blockAt, dataPageAt}
 use Rattle.ea_blocks.specs.Runs.{Listing, elements, countedOf}
 use Rattle.ea_blocks.specs.Values.{Sees}
 use Rattle.ea_blocks.specs.Entered.{EnteredSuper, EnteredBlock, EnteredPage}
-use Rattle.ea_blocks.proofs.Runs.{plus, plus-none, run-count, run-refused}
+use Rattle.ea_blocks.proofs.Runs.{plus, plus-none, run-count, run-refused, run-length}
 use Rattle.ea_blocks.proofs.StructureTests.{is-direct, not-direct}
 use Rattle.ea_list.specs.Walk.{pagesFrom, blocksFrom, supers}
 use Rattle.ea_list.specs.Values.{Walks}
+use Rattle.ea_list.proofs.Walks.{in-pages-over}
 use Rattle.ea_list.proofs.Turns as turns
 
 -- the answer that a refusal and a count stand for
@@ -354,6 +358,57 @@ pub record Fixed (f : List ℕ) (r : Reading) (chunk bound down : List ℕ) (cou
   pub direct-ones : directs ≡ directSuperBlocks (r .geometry .header)
   pub page-size : page ≡ pageElements (r .geometry .header)
   pub bounded : Bounded (r .geometry)
+  pub inline-few : r .geometry .header .«idx_blk_elmts» ≤ 255
   pub wide : isWidth (r .geometry .«offset_size») ≡ true
   pub index : r .geometry .header .«index_block_address» + indexExtent (r .geometry .header) (r .geometry .«offset_size») ≤ length f
   pub some : (c : Call) × Walks c f r chunk bound down
+
+-- slots fit 64 bits
+pub slot-few : (h : ExtensibleArrayHeader) → Served h → h .«idx_blk_elmts» ≤ 255 → (u : ℕ) → u ≤ superBlocks h → firstSlot h u ≤ 2 ^ 63 + 255
+unfolding firstSlot
+slot-few h v small u le = let a = elements-before-few h v u le in omega arith
+
+-- and those of data block k of super block u
+pub block-few : (h : ExtensibleArrayHeader) → Served h → h .«idx_blk_elmts» ≤ 255 → (u k : ℕ) → u < superBlocks h → k < blocks u
+    → firstSlot h u + k * blockElements h u + blockElements h u ≤ 2 ^ 63 + 255
+block-few h v small u k lt hk =
+    let a = slot-few h v small (u + 1) (omega arith) in
+    let e = next-slot h u in
+    let m = mul-le-mul-right {m = k + 1} {n = blocks u} (blockElements h u) (omega arith) in
+    omega arith
+
+pub entered-at : (c : Call) (u super : ℕ) → EnteredSuper c u (At super) → isDirect c u ≡ false → super ≡ superAt c u
+entered-at c u super e d = ⊎-elim (λ (t : isDirect c u ≡ true). absurd (false-true (sym d ∙ t))) (λ t. t .3) e
+
+refused-counted : (x : Refusal) → countedOf (refused x) ≡ CountedRefused x
+unfolding countedOf
+refused-counted x = refl
+
+count-is : (m : ℕ) (l : List Rec) → Count m ≡ countedOf (accepted l) → m ≡ length l
+unfolding countedOf
+count-is m l e = cc
+
+-- a run counts no more records than it has elements
+pub count-few : (c : Call) (pos j s m : ℕ) → Count m ≡ countedOf (elements c pos j s (accepted [])) → m ≤ j
+count-few c pos j s m e = go (elements c pos j s (accepted [])) refl e
+  where
+    go : (a : Listing) → elements c pos j s (accepted []) ≡ a → Count m ≡ countedOf (elements c pos j s (accepted [])) → m ≤ j
+    go (refused x) q e = let z : Count m ≡ CountedRefused x = e ∙ ap countedOf q ∙ refused-counted x in absurd (let y : _≡_ {A = ℕ} 0 1 = cc in omega arith)
+    go (accepted l) q e = let z : m ≡ length l = count-is m l (e ∙ ap countedOf q) in let y = run-length c pos j s l q in omega arith
+
+-- a page of a paged block ends in the block
+pub page-ends : (h : ExtensibleArrayHeader) (v : Served h) (u p slot from : ℕ) → u < superBlocks h → inPages h u ≡ true → p < pages h u → from ≡ slot + p * pageElements h
+    → from + pageElements h ≤ slot + blockElements h u
+page-ends h v u p slot from lt q hp e =
+    let x = pages-exact h v u lt (in-pages-over h u q) in
+    let m = mul-le-mul-right {m = p + 1} {n = pages h u} (pageElements h) (omega arith) in
+    omega arith
+
+pub paged-behind : (h : ExtensibleArrayHeader) (u : ℕ) → inPages h u ≡ true → directSuperBlocks h ≤ u
+unfolding inPages
+paged-behind h u q = leb-true _ _ (both (leb (directSuperBlocks h) u) (overPage h u) q .0)
+
+-- the elements of an unpaged block, from the first on
+pub unpaged-room : (h : ExtensibleArrayHeader) (o at n m : ℕ) → at + blockElementAt h o n ≤ m → at + blockElementAt h o 0 + n * elementStride h o ≤ m
+unfolding blockElementAt elementAt
+unpaged-room h o at n m le = omega arith

@@ -7,6 +7,7 @@ ghost use Rattle.ea_blocks.specs.Elements.{product};
 use fields::convert::saturating_mul;
 
 pub mod runs;
+mod walk;
 
 // The bytes of a chunk, the product of its lengths and the element's bytes, or 2^64 - 1 where they are more.
 fn chunk_bytes(chunk: &[u64; 32], rank: usize, element_bytes: u64) -> u64

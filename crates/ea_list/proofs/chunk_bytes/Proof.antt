@@ -3,7 +3,7 @@ use borrow.Author.Needs.{needs}
 use Prim.Native.Nat.{_-_, _*_, _≤_}
 use mathlib.Core.Path.{_≡_, sym, _∙_}
 use native.Mathlib.Omega.{arith}
-use lib.ListN.{length, take, drop}
+use lib.ListN.{take, drop}
 use lib.Seq.{getD-take}
 use Rattle.refusal.specs.Refusals.{figure, largest64}
 use Rattle.fields.proofs.Numbers.{figure-le}
@@ -11,9 +11,6 @@ use Rattle.ea_blocks.specs.Elements.{product}
 use Rattle.ea_list.proofs.ChunkBytes.{product-more, product-done}
 use Rattle.ea_list.proofs.chunk_bytes.Statement.{statement}
 use Rattle.ea_list.proofs.chunk_bytes.Tie as tie
-use Rattle.ea_list.proofs.chunk_bytes.Reads as reads
-use Rattle.ea_list.proofs.chunk_bytes.Lts as lts
-use Rattle.fields.proofs.convert.saturating_mul.Reads as saturating-mul-reads
 
 abbrev Inv-loop : tie.InvT-loop
 Inv-loop chunk rank element-bytes bytes₀ d₀ bytes d = (d ≤ rank) × (bytes ≤ largest64) × (figure (product (drop d (take rank chunk)) * bytes) ≡ figure (product (take rank chunk) * element-bytes))
@@ -21,31 +18,24 @@ Inv-loop chunk rank element-bytes bytes₀ d₀ bytes d = (d ≤ rank) × (bytes
 abbrev μ-loop : tie.MeasureT-loop
 μ-loop chunk rank element-bytes bytes₀ d₀ bytes d = rank - d
 
--- src/lib.rt:22:5
 loop-holds : tie.Need-loop-holds Inv-loop μ-loop
 loop-holds c = search needs
 
--- src/lib.rt:23:39
 mul-saturating-mul : tie.Need-mul-saturating-mul Inv-loop μ-loop
 mul-saturating-mul c = search needs
 
--- src/lib.rt:23:39
 element-copy-out-saturating-mul : tie.Need-element-copy-out-saturating-mul Inv-loop μ-loop
 element-copy-out-saturating-mul c = search needs
 
--- src/lib.rt:23:9
 saturating-mul-requires : tie.Need-saturating-mul-requires Inv-loop μ-loop
 saturating-mul-requires c κs = search needs
 
--- src/lib.rt:24:9
 add-d : tie.Need-add-d Inv-loop μ-loop
 add-d c = search needs
 
--- src/lib.rt:22:5
 loop-less : tie.Need-loop-less Inv-loop μ-loop
 loop-less c = search needs
 
--- src/lib.rt:22:5
 loop-again : tie.Need-loop-again Inv-loop μ-loop
 loop-again c =
     let a = c .before .before .before .before in
@@ -53,7 +43,6 @@ loop-again c =
     let n = a .pre in
     (omega arith, rw (c .saturating-mul .ensures) (figure-le _), rw (c .saturating-mul .ensures, sym (getD-take (a .args .rank) (a .args .chunk .now) (l .d) 0 (omega arith))) (product-more (take (a .args .rank) (a .args .chunk .now)) (l .d) (l .bytes) (omega arith)) ∙ l .inv .2)
 
--- src/lib.rt:16:1
 returns : tie.Need-returns Inv-loop μ-loop
 returns c =
     let a = c .before .before in

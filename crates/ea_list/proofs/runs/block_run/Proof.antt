@@ -1,26 +1,15 @@
 -- `ea_list::runs::block_run` meets its contract. Assumes nothing.
-use Prim.Native.Nat.{_+_, _*_, _^_, _≤_, _<_}
-use mathlib.Core.Path.{_≡_, refl, sym, ap, subst, _∙_}
+use mathlib.Core.Path.{refl, ap, subst}
 use native.Mathlib.Omega.{arith}
 use lib.ListN.{length}
-use Rattle.ea_geometry.specs.Extents.{blockElementAt, elementStride}
-use Rattle.ea_geometry.specs.Slots.{firstSlot}
 use Rattle.ea_geometry.proofs.Counts.{supers-few, elements-few}
 use Rattle.ea_geometry.proofs.Places.{in-super-block}
-use Rattle.ea_blocks.specs.Call.{Call}
-use Rattle.ea_list.specs.Runs.{ReachedBy, Leads}
+use Rattle.ea_list.specs.Runs.{ReachedBy}
 use Rattle.ea_list.proofs.SeenRuns.{block-led, run-no-super, run-no-block, run-block}
 use borrow.Author.Needs.{needs}
 use Rattle.ea_list.proofs.runs.block_run.Statement.{statement}
 use Rattle.ea_list.proofs.runs.block_run.Tie as tie
-use Rattle.ea_list.proofs.runs.block_run.Reads as reads
-use Rattle.ea_list.proofs.runs.block_run.Lts as lts
-use Rattle.ea_geometry.proofs.EaGeometry.block_element_at.Reads as block-element-at-reads
-use Rattle.ea_geometry.proofs.EaGeometry.block_elements.Reads as block-elements-reads
-use Rattle.ea_geometry.proofs.EaGeometry.first_slot.Reads as first-slot-reads
-use Rattle.ea_list.proofs.runs.reach_block.Reads as reach-block-reads
 
--- src/runs.rt:91:11
 reach-block-requires : tie.Need-reach-block-requires
 reach-block-requires c κs =
     let a = c .before in
@@ -28,50 +17,40 @@ reach-block-requires c κs =
     let w = block-led (p .0) _ _ _ (p .1) (a .pre .2 .served) _ _ _ (a .pre .0) (a .pre .1) in
     (a .pre .0 .super, a .pre .0 .block, a .pre .2, a .pre .3, (p .0, p .1 .sees, p .1 .index, w .super))
 
--- src/runs.rt:92:56
 enum-told : tie.Need-enum-told
 enum-told c = search needs
 
--- src/runs.rt:92:56
 add-first-slot : tie.Need-add-first-slot
 add-first-slot c =
     let a = c .before .before .before .before in
     omega (arith, supers-few _ (a .pre .2 .served), a .pre .0 .super)
 
--- src/runs.rt:92:36
 first-slot-requires : tie.Need-first-slot-requires
 first-slot-requires c κs = search needs
 
--- src/runs.rt:92:36
 sub-t12 : tie.Need-sub-t12
 sub-t12 c =
     let a = c .before .before .before .before .before in
     let x = in-super-block _ (a .pre .2 .served) _ _ _ _ (a .pre .0) in
     rw (c .first-slot .ensures) (omega arith)
 
--- src/runs.rt:93:36
 enum-told-2 : tie.Need-enum-told-2
 enum-told-2 c = search needs
 
--- src/runs.rt:93:36
 block-elements-requires : tie.Need-block-elements-requires
 block-elements-requires c κs = search needs
 
--- src/runs.rt:93:36
 sub-t14 : tie.Need-sub-t14
 sub-t14 c = search needs
 
--- src/runs.rt:94:37
 enum-known-at : tie.Need-enum-known-at
 enum-known-at c = search needs
 
--- src/runs.rt:95:23
 block-element-at-requires : tie.Need-block-element-at-requires
 block-element-at-requires c κs =
     let a = c .before .before .before .before .before in
     (omega (arith, elements-few _ (a .pre .2 .served) _ (a .pre .0 .super), a .pre .0 .element), a .pre .2)
 
--- src/runs.rt:95:18
 add-t16 : tie.Need-add-t16
 add-t16 c =
     let a = c .before .before .before .before .before .before in
@@ -82,29 +61,24 @@ add-t16 c =
     let d = r .1 in
     rw (c .block-element-at .ensures) (omega arith)
 
--- src/runs.rt:96:20
 block-elements-requires-2 : tie.Need-block-elements-requires-2
 block-elements-requires-2 c κs = search needs
 
--- src/runs.rt:96:20
 sub-t18 : tie.Need-sub-t18
 sub-t18 c = search needs
 
--- src/runs.rt:86:1
 returns : tie.Need-returns
 returns c = λ k l.
     let a = c .before .before .before .before .before in
     let r = subst (ReachedBy k _ _) (c .before .enum-told .given .1) (c .before .before .before .reach-block .ensures k (l .sees)) in
     run-no-super k _ _ _ l (a .pre .2 .served) _ _ _ (a .pre .0) (r .0) (r .1) _ (rw (c .first-slot .ensures) refl)
 
--- src/runs.rt:86:1
 returns-2 : tie.Need-returns-2
 returns-2 c = λ k l.
     let a = c .before .before .before .before .before in
     let r = subst (ReachedBy k _ _) (c .before .enum-told2 .given .1) (c .before .before .before .reach-block .ensures k (l .sees)) in
     run-no-block k _ _ _ l (a .pre .2 .served) _ _ _ (a .pre .0) r _ (rw (c .block-elements .ensures) refl)
 
--- src/runs.rt:86:1
 returns-3 : tie.Need-returns-3
 returns-3 c = λ k l.
     let a = c .before .before .before .before .before .before .before in

@@ -1,7 +1,6 @@
 -- `ea_list::runs::page_run` meets its contract. Assumes nothing.
-use Prim.Native.Nat.{_+_, _*_, _^_, _%_, _≤_, _<_}
+use Prim.Native.Nat.{_<_}
 use mathlib.Core.Path.{_≡_, refl, sym, ap, subst, _∙_}
-use mathlib.Core.Bool.{true, false}
 use native.Mathlib.Nat.{mod-lt}
 use native.Mathlib.Omega.{arith}
 use lib.ListN.{length}
@@ -17,16 +16,7 @@ use Rattle.ea_list.proofs.SeenRuns.{page-led, page-not-direct, page-sup
 use borrow.Author.Needs.{needs}
 use Rattle.ea_list.proofs.runs.page_run.Statement.{statement}
 use Rattle.ea_list.proofs.runs.page_run.Tie as tie
-use Rattle.ea_list.proofs.runs.page_run.Reads as reads
-use Rattle.ea_list.proofs.runs.page_run.Lts as lts
-use Rattle.ea_blocks.proofs.structures.page_set.Reads as page-set-reads
-use Rattle.ea_geometry.proofs.EaGeometry.block_elements.Reads as block-elements-reads
-use Rattle.ea_geometry.proofs.EaGeometry.first_slot.Reads as first-slot-reads
-use Rattle.ea_geometry.proofs.EaGeometry.page_elements.Reads as page-elements-reads
-use Rattle.ea_geometry.proofs.EaGeometry.paged_element_at.Reads as paged-element-at-reads
-use Rattle.ea_list.proofs.runs.reach_block.Reads as reach-block-reads
 
--- src/runs.rt:107:11
 -- a page has an element at least
 page-pos : (c : tie.Start) → 0 < pageElements (c .args .geometry .header)
 unfolding pageElements
@@ -39,48 +29,38 @@ reach-block-requires c κs =
     let w = page-led (p .0) _ _ _ (p .1) (a .pre .3 .served) _ _ _ (a .pre .0) (a .pre .1) in
     (a .pre .0 .super, a .pre .0 .block, a .pre .3, a .pre .4, (p .0, p .1 .sees, p .1 .index, w .super))
 
--- src/runs.rt:108:56
 enum-told : tie.Need-enum-told
 enum-told c = search needs
 
--- src/runs.rt:108:56
 add-first-slot : tie.Need-add-first-slot
 add-first-slot c =
     let a = c .before .before .before .before in
     omega (arith, supers-few _ (a .pre .3 .served), a .pre .0 .super)
 
--- src/runs.rt:108:36
 first-slot-requires : tie.Need-first-slot-requires
 first-slot-requires c κs = search needs
 
--- src/runs.rt:108:36
 sub-t16 : tie.Need-sub-t16
 sub-t16 c =
     let a = c .before .before .before .before .before in
     let x = in-super-block _ (a .pre .3 .served) _ _ _ _ (a .pre .0) in
     rw (c .first-slot .ensures) (omega arith)
 
--- src/runs.rt:109:36
 enum-told-2 : tie.Need-enum-told-2
 enum-told-2 c = search needs
 
--- src/runs.rt:109:36
 block-elements-requires : tie.Need-block-elements-requires
 block-elements-requires c κs = search needs
 
--- src/runs.rt:109:36
 sub-t18 : tie.Need-sub-t18
 sub-t18 c = search needs
 
--- src/runs.rt:110:24
 enum-known-super-at : tie.Need-enum-known-super-at
 enum-known-super-at c = search needs
 
--- src/runs.rt:111:25
 page-elements-requires : tie.Need-page-elements-requires
 page-elements-requires c κs = search needs
 
--- src/runs.rt:111:56
 page-elements-requires-2 : tie.Need-page-elements-requires-2
 page-elements-requires-2 c κs = search needs
 
@@ -98,17 +78,14 @@ set-is c k l =
     let d = page-not-direct k _ _ _ l (a .pre .3 .served) _ _ _ (a .pre .0) (a .pre .1) in
     sym (c .page-set .ensures k (l .sees) (reached-by (c .before .before .before .before) k l .2 d))
 
--- src/runs.rt:111:52
 rem-slots : tie.Need-rem-slots
 rem-slots c = rw (c .page-elements2 .ensures) (page-pos (c .before .before .before .before .before .before .before))
 
--- src/runs.rt:111:25
 sub-slots : tie.Need-sub-slots
 sub-slots c =
     let x = mod-lt (c .before .before .before .before .before .before .before .args .i) (page-pos (c .before .before .before .before .before .before .before)) in
     rw (c .page-elements2 .ensures, c .before .page-elements .ensures) (omega arith)
 
--- src/runs.rt:112:16
 page-set-requires : tie.Need-page-set-requires
 page-set-requires c κs =
     let a = c .before .before .before .before .before .before .before in
@@ -124,13 +101,11 @@ page-set-requires c κs =
       rw (r .2 d) (page-super-room (p .0) _ _ _ (p .1) v _ _ _ (a .pre .0) (a .pre .1) (r .0)),
     )
 
--- src/runs.rt:113:32
 paged-element-at-requires : tie.Need-paged-element-at-requires
 paged-element-at-requires c κs =
     let a = c .before .before .before .before .before .before .before .before .before in
     (omega (arith, elements-few _ (a .pre .3 .served) _ (a .pre .0 .super), a .pre .0 .element), a .pre .3)
 
--- src/runs.rt:113:27
 add-pos : tie.Need-add-pos
 add-pos c =
     let a = c .before .before .before .before .before .before .before .before .before .before in
@@ -142,7 +117,6 @@ add-pos c =
     let d = r .1 in
     rw (c .paged-element-at .ensures) (omega arith)
 
--- src/runs.rt:114:17
 returns : tie.Need-returns
 returns c = λ k l.
     let a = c .before .before .before .before .before .before .before .before .before .before in
@@ -150,21 +124,18 @@ returns c = λ k l.
     run-page k _ _ _ l (a .pre .3 .served) _ _ _ (a .pre .0) (a .pre .1) (r .0) _ (a .pre .2) (set-is (c .before .before) k l ∙ c .before .if1 .taken) _ _
     (rw (c .paged-element-at .ensures, r .1) refl) (rw (c .before .before .before .page-elements2 .ensures, c .before .before .before .before .page-elements .ensures) refl)
 
--- src/runs.rt:102:1
 returns-2 : tie.Need-returns-2
 returns-2 c = λ k l.
     let a = c .before .before .before .before .before in
     let r = subst (ReachedBy k _ _) (c .before .enum-told .given .1) (c .before .before .before .reach-block .ensures k (l .sees)) in
     run-no-super k _ _ _ l (a .pre .3 .served) _ _ _ (a .pre .0) (r .0) (r .1) _ (rw (c .first-slot .ensures) refl)
 
--- src/runs.rt:102:1
 returns-3 : tie.Need-returns-3
 returns-3 c = λ k l.
     let a = c .before .before .before .before .before in
     let r = subst (ReachedBy k _ _) (c .before .enum-told2 .given .1) (c .before .before .before .reach-block .ensures k (l .sees)) in
     run-no-block k _ _ _ l (a .pre .3 .served) _ _ _ (a .pre .0) r _ (rw (c .block-elements .ensures) refl)
 
--- src/runs.rt:102:1
 returns-4 : tie.Need-returns-4
 returns-4 c = λ k l.
     let a = c .before .before .before .before .before .before .before .before .before in

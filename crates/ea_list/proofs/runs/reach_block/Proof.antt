@@ -1,31 +1,23 @@
 -- `ea_list::runs::reach_block` meets its contract. Assumes nothing.
 use Prim.Native.Nat.{_+_, _≤_}
-use mathlib.Core.Path.{_≡_, sym, ap, subst, _∙_}
-use mathlib.Core.Bool.{false, not}
+use mathlib.Core.Path.{sym, ap, _∙_}
+use mathlib.Core.Bool.{not}
 use mathlib.Core.Logic.{inl, inr, ⊎-elim}
 use native.Mathlib.Omega.{arith}
 use lib.ListN.{length}
 use Rattle.ea_geometry.specs.Sizes.{directSuperBlocks}
 use Rattle.ea_geometry.specs.Extents.{superExtent}
 use Rattle.ea_blocks.specs.Call.{Call}
-use Rattle.ea_blocks.specs.Structures.{isDirect}
 use Rattle.ea_blocks.specs.Values.{Sees}
 use Rattle.ea_blocks.proofs.StructureTests.{index-seen, super-seen, is-direct, not-direct}
 use Rattle.ea_blocks.proofs.Pointers.{pointer-undefined, pointer-at, Named, named-reached, named-at, named-defined}
 use borrow.Author.Needs.{needs}
 use Rattle.ea_list.proofs.runs.reach_block.Statement.{statement}
 use Rattle.ea_list.proofs.runs.reach_block.Tie as tie
-use Rattle.ea_list.proofs.runs.reach_block.Reads as reads
-use Rattle.ea_list.proofs.runs.reach_block.Lts as lts
-use Rattle.ea_blocks.proofs.structures.block_pointer.Reads as block-pointer-reads
-use Rattle.ea_blocks.proofs.structures.super_pointer.Reads as super-pointer-reads
-use Rattle.ea_geometry.proofs.EaGeometry.direct_super_blocks.Reads as direct-super-blocks-reads
 
--- src/runs.rt:47:8
 direct-super-blocks-requires : tie.Need-direct-super-blocks-requires
 direct-super-blocks-requires c κs = search needs
 
--- src/runs.rt:48:15
 super-pointer-requires : tie.Need-super-pointer-requires
 super-pointer-requires c κs =
     let a = c .before .before .before in
@@ -33,18 +25,15 @@ super-pointer-requires c κs =
     let p = a .pre .4 in
     (omega arith, a .pre .0, a .pre .2, a .pre .3, index-seen _ _ _ (p .1) (p .2))
 
--- src/runs.rt:49:35
 enum-told : tie.Need-enum-told
 enum-told c = search needs
 
--- src/runs.rt:49:35
 returns : tie.Need-returns
 returns c = λ k s.
     let a = c .before .before .before .before .before .before in
     let d = c .before .before .before .before .direct-super-blocks .ensures in
     (not-direct _ _ _ s _ (omega arith), pointer-undefined _ _ (sym (c .enum-told .given .1) ∙ c .before .before .super-pointer .ensures k s))
 
--- src/runs.rt:50:25
 enum-known-at : tie.Need-enum-known-at
 enum-known-at c = search needs
 
@@ -76,22 +65,18 @@ block-pointer-requires c κs =
     let p = a .pre .4 in
     (a .pre .0, a .pre .1, a .pre .2, a .pre .3, index-seen _ _ _ (p .1) (p .2), super-room c)
 
--- src/runs.rt:56:31
 enum-told-2 : tie.Need-enum-told-2
 enum-told-2 c = search needs
 
--- src/runs.rt:57:21
 enum-known-at-2 : tie.Need-enum-known-at-2
 enum-known-at-2 c = search needs
 
--- src/runs.rt:40:1
 returns-2 : tie.Need-returns-2
 returns-2 c = λ k s.
     let b = c .before .before in
     let n = named (b .before) k s in
     named-reached k _ _ _ n ∙ ap not (pointer-undefined _ _ (sym (c .enum-told2 .given .1) ∙ b .block-pointer .ensures k s (named-at k _ _ n)))
 
--- src/runs.rt:40:1
 returns-3 : tie.Need-returns-3
 returns-3 c = λ k s.
     let b = c .before .before .before in

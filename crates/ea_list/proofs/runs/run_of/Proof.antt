@@ -1,29 +1,18 @@
 -- `ea_list::runs::run_of` meets its contract. Assumes nothing.
-use Prim.Native.Nat.{_+_, _≤_, _<_}
 use mathlib.Core.Path.{_≡_, refl, sym, ap, subst, _∙_}
 use native.Mathlib.Omega.{arith}
 use lib.ListN.{length}
 use Rattle.ea_geometry.specs.declared.Place.{Place}
 use Rattle.ea_geometry.specs.Slots.{PlaceOf}
 use Rattle.ea_geometry.proofs.Places.{place-of}
-use Rattle.ea_blocks.specs.Call.{Call}
-use Rattle.ea_list.specs.Runs.{Leads}
 use Rattle.ea_list.proofs.SeenRuns.{run-inline, run-nowhere}
 use borrow.Author.Needs.{needs}
 use Rattle.ea_list.proofs.runs.run_of.Statement.{statement}
 use Rattle.ea_list.proofs.runs.run_of.Tie as tie
-use Rattle.ea_list.proofs.runs.run_of.Reads as reads
-use Rattle.ea_list.proofs.runs.run_of.Lts as lts
-use Rattle.ea_geometry.proofs.EaGeometry.inline_element_at.Reads as inline-element-at-reads
-use Rattle.ea_geometry.proofs.EaGeometry.place_of.Reads as place-of-reads
-use Rattle.ea_list.proofs.runs.block_run.Reads as block-run-reads
-use Rattle.ea_list.proofs.runs.page_run.Reads as page-run-reads
 
--- src/runs.rt:64:11
 place-of-requires : tie.Need-place-of-requires
 place-of-requires c κs = search needs
 
--- src/runs.rt:65:23
 -- the place that was found is the slot's
 placed : (c : tie.After-place-of) {p : Place} → c .place-of .result ≡ p → PlaceOf (c .before .before .args .geometry .header) (c .before .before .args .slot) p
 placed c e = subst (PlaceOf _ _) (sym (c .place-of .ensures) ∙ e) (place-of _ (c .before .before .pre .1 .served) _)
@@ -31,14 +20,12 @@ placed c e = subst (PlaceOf _ _) (sym (c .place-of .ensures) ∙ e) (place-of _ 
 enum-known-i : tie.Need-enum-known-i
 enum-known-i c = search needs
 
--- src/runs.rt:66:56
 inline-element-at-requires : tie.Need-inline-element-at-requires
 unfolding PlaceOf
 inline-element-at-requires c κs =
     let q = placed (c .before .before .before) (c .before .i .given .1) in
     (omega arith, c .before .before .before .before .before .pre .1)
 
--- src/runs.rt:66:18
 add-t15 : tie.Need-add-t15
 unfolding PlaceOf
 add-t15 c =
@@ -49,22 +36,18 @@ add-t15 c =
     let e = ap length (p .1 .sees .bytes) in
     rw (c .before .inline-element-at .ensures, sym (q .0)) (omega arith)
 
--- src/runs.rt:67:20
 cast-t16 : tie.Need-cast-t16
 cast-t16 c = search needs
 
--- src/runs.rt:67:20
 sub-t17 : tie.Need-sub-t17
 unfolding PlaceOf
 sub-t17 c =
     let q = placed (c .before .before .before .before .before .before) (c .before .before .before .before .i .given .1) in
     omega arith
 
--- src/runs.rt:70:13
 enum-known-super-block : tie.Need-enum-known-super-block
 enum-known-super-block c = search needs
 
--- src/runs.rt:73:14
 block-run-requires : tie.Need-block-run-requires
 unfolding PlaceOf
 block-run-requires c κs =
@@ -72,11 +55,9 @@ block-run-requires c κs =
     let q = placed (c .before .before .before) (c .before .super-block .given .1) in
     (q .0, q .1, a .pre .1, a .pre .2, a .pre .3)
 
--- src/runs.rt:75:13
 enum-known-super-block-2 : tie.Need-enum-known-super-block-2
 enum-known-super-block-2 c = search needs
 
--- src/runs.rt:80:14
 page-run-requires : tie.Need-page-run-requires
 unfolding PlaceOf
 page-run-requires c κs =
@@ -84,15 +65,12 @@ page-run-requires c κs =
     let q = placed (c .before .before .before) (c .before .super-block2 .given .1) in
     (q .0, q .1, q .2, a .pre .1, a .pre .2, a .pre .3)
 
--- src/runs.rt:81:36
 enum-told : tie.Need-enum-told
 enum-told c = search needs
 
--- src/runs.rt:81:36
 sub-t18 : tie.Need-sub-t18
 sub-t18 c = search needs
 
--- src/runs.rt:59:1
 returns : tie.Need-returns
 unfolding PlaceOf
 returns c = λ k l.
@@ -100,15 +78,12 @@ returns c = λ k l.
     let q = placed (c .before .before .before .before .before .before) (c .before .before .before .before .i .given .1) in
     run-inline k _ _ _ l (a .pre .1 .served) (omega arith) _ _ (rw (c .before .before .inline-element-at .ensures, q .0) refl) (rw (q .0) refl)
 
--- src/runs.rt:59:1
 returns-2 : tie.Need-returns-2
 returns-2 c = search needs
 
--- src/runs.rt:59:1
 returns-3 : tie.Need-returns-3
 returns-3 c = search needs
 
--- src/runs.rt:59:1
 returns-4 : tie.Need-returns-4
 unfolding PlaceOf
 returns-4 c = λ k l.
