@@ -3,3 +3,4 @@ pub mod Listing
 pub mod Judged
 pub mod Runs
 pub mod Values
+pub mod Door
