@@ -6,3 +6,4 @@ pub mod PlaceRuns
 pub mod ChunkBytes
 pub mod SeenRuns
 pub mod WalkStates
+pub mod Heads
