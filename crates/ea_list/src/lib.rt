@@ -8,6 +8,7 @@ use fields::convert::saturating_mul;
 
 pub mod runs;
 mod walk;
+mod write;
 
 // The bytes of a chunk, the product of its lengths and the element's bytes, or 2^64 - 1 where they are more.
 fn chunk_bytes(chunk: &[u64; 32], rank: usize, element_bytes: u64) -> u64
