@@ -4,3 +4,5 @@ pub mod PlaceRuns
 pub mod ChunkBytes
 pub mod SeenRuns
 pub mod Written
+pub mod Rooms
+pub mod Doors

@@ -122,10 +122,10 @@ module _ (f : List ℕ) (r : Reading) (chunk bound down : List ℕ) where
     pub written-gap : (n m : ℕ) → m ≡ min n (count - slot) → ((c : Call) (l : List Rec) → Accepted c l → RunOf c slot (Gap n)) → Written out₀ out at (slot + m)
     written-gap n m e k = record {
       whole = λ c l a.
-      let g = records-gap c m slot (λ i lt. k c l a .1 i (omega arith)) in
-      let z : records c slot (count - slot) ≡ records c (slot + m) (count - (slot + m)) = in-two a slot m (omega arith) ∙ ap (λ (x : List Rec). x ++ records c (slot + m) (count - (slot + m))) g in
-      let p = w .whole c l a in
-      record { makes = ap (λ (x : List Rec). sets out at (listBytes x)) (sym z) ∙ p .makes; ends = ap (λ (x : List Rec). at + length (listBytes x)) (sym z) ∙ p .ends };
+          let g = records-gap c m slot (λ i lt. k c l a .1 i (omega arith)) in
+          let z : records c slot (count - slot) ≡ records c (slot + m) (count - (slot + m)) = in-two a slot m (omega arith) ∙ ap (λ (x : List Rec). x ++ records c (slot + m) (count - (slot + m))) g in
+          let p = w .whole c l a in
+          record { makes = ap (λ (x : List Rec). sets out at (listBytes x)) (sym z) ∙ p .makes; ends = ap (λ (x : List Rec). at + length (listBytes x)) (sym z) ∙ p .ends };
     }
 
     -- the records of a run have room
@@ -140,12 +140,12 @@ module _ (f : List ℕ) (r : Reading) (chunk bound down : List ℕ) where
         → Written out₀ out′ at′ (slot + m)
     written-run pos n m e k out′ at′ h = record {
       whole = λ c l a.
-      let b = records c slot m in
-      let d = records c (slot + m) (count - (slot + m)) in
-      let q = h c b (a .walks .reads) (run-accepted a slot pos n m (k c l a) e) in
-      let p = w .whole c l a in
-      record {
-        makes = rw (q .0, q .1) (sym (sets-append out at (listBytes b) (listBytes d)) ∙ ap (sets out at) (sym (bytes-in-two a slot m (omega arith))) ∙ p .makes);
-        ends = omega (arith, q .1, length-in-two a slot m (omega arith), p .ends);
-      };
+          let b = records c slot m in
+          let d = records c (slot + m) (count - (slot + m)) in
+          let q = h c b (a .walks .reads) (run-accepted a slot pos n m (k c l a) e) in
+          let p = w .whole c l a in
+          record {
+            makes = rw (q .0, q .1) (sym (sets-append out at (listBytes b) (listBytes d)) ∙ ap (sets out at) (sym (bytes-in-two a slot m (omega arith))) ∙ p .makes);
+            ends = omega (arith, q .1, length-in-two a slot m (omega arith), p .ends);
+          };
     }

@@ -111,8 +111,7 @@ count-blocks-requires : tie.Need-count-blocks-requires
 count-blocks-requires c κs =
     let e = c .before .before .before in
     let i = told (e .before .before .before .before) in
-    let p = start i .pre in
-    (
+    let p = start i .pre in (
       count-few (p .0) _ _ _ _ (sym (c .before .n .given .1) ∙ e .count-elements .ensures (p .0) (p .1 .reads)),
       served-header _ (passed (i .before .before .before)),
       wide (e .before .before .before .before),

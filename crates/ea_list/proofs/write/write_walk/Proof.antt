@@ -66,8 +66,7 @@ loop-less c =
 loop-again : tie.Need-loop-again Inv-loop μ-loop
 loop-again c =
     let r = c .before .before .before .before in
-    let l = r .before .before .loop in
-    (
+    let l = r .before .before .loop in (
       omega (arith, c .below-count .ensures),
       l .inv .1,
       l .inv .2,
@@ -83,8 +82,7 @@ write-elements-requires c κs =
     let l = r .before .before .loop in
     let d = given (r .before .before) in
     let k = found r (c .before .before .pos .given .1) (d .0) (d .1) (d .2) in
-    let f = written-fits _ _ _ _ _ (l .inv .3) (d .0) (d .1) (d .2) (min (c .before .before .pos .given .0 .1 .0) (start (r .before .before) .args .reading .geometry .header .«num_elements» - l .slot)) (omega arith) in
-    (
+    let f = written-fits _ _ _ _ _ (l .inv .3) (d .0) (d .1) (d .2) (min (c .before .before .pos .given .0 .1 .0) (start (r .before .before) .args .reading .geometry .header .«num_elements» - l .slot)) (omega arith) in (
       (d .0, _, d .2 .walks .reads, run-accepted _ _ _ _ _ (d .2) _ _ _ _ k refl, omega (arith, f, d .3, l .inv .2)),
       run-room _ _ _ _ _ (d .2) _ _ _ k,
     )
@@ -118,8 +116,7 @@ loop-again-2 c =
     let l = r .before .before .loop in
     let d = given (r .before .before) in
     let e = w .before .before .before .pos .given .1 in
-    let q = w .write-elements .ensures (d .0) _ (d .2 .walks .reads) (run-accepted _ _ _ _ _ (d .2) _ _ _ _ (found r e (d .0) (d .1) (d .2)) refl) in
-    (
+    let q = w .write-elements .ensures (d .0) _ (d .2 .walks .reads) (run-accepted _ _ _ _ _ (d .2) _ _ _ _ (found r e (d .0) (d .1) (d .2)) refl) in (
       omega (arith, c .below-count2 .ensures),
       l .inv .1,
       rw (q .0) (simp length-sets (l .inv .2)),
