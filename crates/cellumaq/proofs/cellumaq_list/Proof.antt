@@ -1,26 +1,25 @@
+-- `cellumaq::cellumaq_list` meets its contract. Assumes nothing.
 use borrow.Author.Needs.{needs}
+use mathlib.Core.Path.{_≡_, sym, ap, _∙_}
+use Rattle.ea_blocks.specs.declared.Counted.{Counted}
+use Rattle.ea_list.specs.Door.{countedNumbers, picked}
 use Rattle.cellumaq.proofs.cellumaq_list.Statement.{statement}
 use Rattle.cellumaq.proofs.cellumaq_list.Tie as tie
-use Rattle.cellumaq.proofs.cellumaq_list.Reads as reads
-use Rattle.cellumaq.proofs.cellumaq_list.Lts as lts
-use Rattle.ea_list.proofs.door.list_at.Reads as list-at-reads
-use Rattle.ea_list.proofs.door.list_number.Reads as list-number-reads
 
--- src/lib.rt:49:9
 list-at-requires : tie.Need-list-at-requires
 list-at-requires c κs = search needs
 
--- src/lib.rt:63:5
 list-number-requires : tie.Need-list-number-requires
 list-number-requires c κs = search needs
 
--- src/lib.rt:27:1
 same-length : tie.Need-same-length
 same-length c = search needs
 
--- src/lib.rt:27:1
 returns : tie.Need-returns
-returns c = ?
+returns c =
+    let e = c .before .before .before .list-at .ensures in
+    let a = c .before .before .before .before .before .before .before .before .before .before .args in
+    (c .list-number .ensures ∙ ap (λ (x : Counted). picked (a .which) (countedNumbers x)) (e .0), (e .1 .0, λ n h. e .1 .1 n (e .0 ∙ h)))
 
 pub cellumaq-list-spec : {M : Type 1} → statement M
 cellumaq-list-spec = tie.close (tie.spec list-at-requires list-number-requires same-length returns)
