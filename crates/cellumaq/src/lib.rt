@@ -42,6 +42,7 @@ pub extern "C" fn cellumaq_list(
 ) -> u64
     ensures number { λ r. ⌜ r ≡ picked which (listNumbers (listAt (now (file .entry)) address «offset_size» «length_size» (doorGrid order rank (now (chunk .entry)) (now (present .entry)) «has_maximum» (now (maximum .entry))) «element_bytes» (length (now (list .entry))))) ⌝ }
     ensures content { λ _. ⌜ now (list .exit) ≡ listContent (listAt (now (file .entry)) address «offset_size» «length_size» (doorGrid order rank (now (chunk .entry)) (now (present .entry)) «has_maximum» (now (maximum .entry))) «element_bytes» (length (now (list .entry)))) (now (list .entry)) ⌝ }
+    ensures zero { λ r. ⌜ (which ≡ 0 → r ≡ 0 → (n : ℕ) × (countedOf (listAt (now (file .entry)) address «offset_size» «length_size» (doorGrid order rank (now (chunk .entry)) (now (present .entry)) «has_maximum» (now (maximum .entry))) «element_bytes» (length (now (list .entry)))) ≡ Count n)) ⌝ }
     ensures judged { λ _. ⌜ ((n : ℕ) → countedOf (listAt (now (file .entry)) address «offset_size» «length_size» (doorGrid order rank (now (chunk .entry)) (now (present .entry)) «has_maximum» (now (maximum .entry))) «element_bytes» (length (now (list .entry)))) ≡ Count n → 0 < rank
         → (l : List Rec) × (now (list .exit) ≡ sets (now (list .entry)) 0 (listBytes l))
         × Judged (callAt (now (file .entry)) address «offset_size» «length_size» (doorGrid order rank (now (chunk .entry)) (now (present .entry)) «has_maximum» (now (maximum .entry))) «element_bytes») l n) ⌝ }
