@@ -4,13 +4,20 @@ CC = gcc
 CFLAGS = -std=c11 -O2 -Wall -Wextra -Werror
 VERSION = 0.1.0
 
-C_TESTS = test_checksum
+C_TESTS = test_checksum test_list test_list_call
 BENCHES = bench_checksum
 
-.PHONY: test demo lib bench install clean tools kit
+# A folder with whole lists of questions and answers, of which tests/data has a part.
+VECTORS = ../shared/vectors
+
+.PHONY: test vectors demo lib bench install clean tools kit
 
 test: tools kit
 	@CC='$(CC)' tests/run $(C_TESTS)
+
+vectors: build/test_list
+	@build/test_list $(VECTORS)/rust-questions.txt $(VECTORS)/rust-answers.txt
+	@build/test_list $(VECTORS)/real/questions.txt $(VECTORS)/real/answers.txt
 
 # One sentence where something is missing.
 tools:
