@@ -5,10 +5,13 @@ CFLAGS = -std=c11 -O2 -Wall -Wextra -Werror
 VERSION = 0.1.0
 
 C_TESTS = test_checksum test_list test_list_call
-BENCHES = bench_checksum
+BENCHES = bench_checksum bench_list
 
 # A folder with whole lists of questions and answers, of which tests/data has a part.
 VECTORS = ../shared/vectors
+
+# The folder with the Rust's extensible_array.rs, to measure beside it.
+RUST_SOURCES = ../shared/docs/src/src
 
 .PHONY: test vectors demo lib bench install clean tools kit
 
@@ -44,7 +47,7 @@ build/cellumaq.h: include/cellumaq.h
 build/test_%: tests/c/test_%.c $(wildcard tests/c/*.h) build/libcellumaq.a build/cellumaq.h
 	@$(CC) $(CFLAGS) -Ibuild -Itests/c -o $@ $< build/libcellumaq.a
 
-build/bench_%: bench/bench_%.c $(wildcard tests/c/*.h) build/libcellumaq.a build/cellumaq.h
+build/bench_%: bench/bench_%.c $(wildcard bench/*.h tests/c/*.h) build/libcellumaq.a build/cellumaq.h
 	@$(CC) $(CFLAGS) -Ibuild -Itests/c -o $@ $< build/libcellumaq.a
 
 build/checksum: demo/checksum.c build/libcellumaq.a build/cellumaq.h
@@ -54,6 +57,7 @@ demo: build/checksum
 	@build/checksum NOTICE
 
 bench: $(BENCHES:%=build/%)
+	@bench/rust $(RUST_SOURCES)
 	@for b in $(BENCHES); do build/$$b || exit 1; done
 
 install: lib
