@@ -50,11 +50,15 @@ build/test_%: tests/c/test_%.c $(wildcard tests/c/*.h) build/libcellumaq.a build
 build/bench_%: bench/bench_%.c $(wildcard bench/*.h tests/c/*.h) build/libcellumaq.a build/cellumaq.h
 	@$(CC) $(CFLAGS) -Ibuild -Itests/c -o $@ $< build/libcellumaq.a
 
-build/checksum: demo/checksum.c build/libcellumaq.a build/cellumaq.h
+build/demo_%: demo/%.c $(wildcard demo/*.h) build/libcellumaq.a build/cellumaq.h
 	@$(CC) $(CFLAGS) -Ibuild -o $@ $< build/libcellumaq.a
 
-demo: build/checksum
-	@build/checksum NOTICE
+# A dataset of 11 by 13 that the HDF5 library has written: offsets of 8 bytes, the index at 447, elements of 4 bytes, chunks of 4 by 4.
+DATASET = tests/data/real/edge_ea.bin 8 8 447 4 4,4 11,13 '*,15'
+
+demo: build/demo_checksum build/demo_list
+	@build/demo_checksum tests/data/real/edge_ea.bin
+	@build/demo_list $(DATASET)
 
 bench: $(BENCHES:%=build/%)
 	@bench/rust $(RUST_SOURCES)
