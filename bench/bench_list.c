@@ -6,7 +6,7 @@
 #include "clock.h"
 #include "dense.h"
 
-enum { TURNS = 3, ROUNDS = 15 };
+enum { TURNS = 5, ROUNDS = 10 };
 
 /* Of every second page, a third. */
 static size_t sparse(void)

@@ -191,9 +191,7 @@ static void numberings(void)
     c = dataset_call(&s);
     check_refusal(&c, CELLUMAQ_NUMBERS_NOTHING, 0, 0, "a dimension without chunks");
     array_free(&s.array);
-    s = worked(plain, s.grid);
-    s.array.count = 0;
-    array_free(&s.array);
+    s.array.entry_count = 0;
     array_build(&s.array);
     check_dataset(&s, "a dimension without chunks, and no address");
     s.grid = (struct grid){.rank = 4, .chunk = {1, 1, 1, 1}, .present = {5, CELLUMAQ_UNLIMITED, large, large}};
