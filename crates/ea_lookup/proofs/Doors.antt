@@ -1,12 +1,12 @@
 -- The theorems of list and lookup, said of the calls that read the header first. Assumes nothing.
-use Prim.Native.Nat.{ℕ, _<_, _≤_, _/_}
-use mathlib.Core.Path.{_≡_, refl, sym, ap, _∙_}
+use Prim.Native.Nat.{ℕ, _<_, _≤_}
+use mathlib.Core.Path.{_≡_, _∙_}
 use mathlib.Core.Bool.{true}
 use mathlib.Core.List.{List}
 use mathlib.Core.Option.{Option}
 use lib.ListN.{length}
 use Rattle.refusal.specs.Refusals.{largest64}
-use Rattle.refusal.specs.Outcome.{Outcome, refused, accepted, _yields_}
+use Rattle.refusal.specs.Outcome.{refused, accepted}
 use Rattle.refusal.proofs.Outcomes.{never, yields-inv, yields-passed}
 use Rattle.chunk_grid.specs.Grid.{Grid, isChunk}
 use Rattle.ea_header.specs.Header.{headerAt}

@@ -76,7 +76,7 @@ pub wide : (o : ℕ) → widthTest 1 o ≡ Passed → isWidth o ≡ true
 unfolding widthTest
 wide o h = not-false _ (refuse-inv _ _ _ _ h)
 
-yields-refused : {A : Type 0} (t : Checked) (a : Outcome A) (r : Refusal) → t ≡ Refused r → t yields a ≡ refused r
+pub yields-refused : {A : Type 0} (t : Checked) (a : Outcome A) (r : Refusal) → t ≡ Refused r → t yields a ≡ refused r
 unfolding _yields_
 yields-refused t a r h = rw h refl
 

@@ -43,7 +43,9 @@ block-element-at-requires c κs =
 -- the element lies in the file
 room : (c : tie.After-block-element-at)
     → let a = c .before .before .before .before .before .before .before .args in
-    c .before .before .at .given .0 .1 .0 + blockElementAt (a .reading .geometry .header) (a .reading .geometry .«offset_size») (a .i) + elementStride (a .reading .geometry .header) (a .reading .geometry .«offset_size») ≤ length (a .file .now)
+    c .before .before .at .given .0 .1 .0 + blockElementAt (a .reading .geometry .header) (a .reading .geometry .«offset_size») (a .i)
+    + elementStride (a .reading .geometry .header) (a .reading .geometry .«offset_size»)
+    ≤ length (a .file .now)
 room c =
     let a = c .before .before .before .before .before .before .before in
     let p = a .pre .4 in

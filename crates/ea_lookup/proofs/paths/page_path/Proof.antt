@@ -13,7 +13,8 @@ use Rattle.ea_list.proofs.WalkStates.{sees}
 use Rattle.ea_lookup.specs.declared.paths.Way.{Way}
 use Rattle.ea_lookup.specs.declared.paths.Way.the-variants.{To}
 use Rattle.ea_lookup.specs.Found.{WayTo}
-use Rattle.ea_lookup.proofs.Ways.{absent-path, refused-path, bounded-by, page-below-pages, super-room, super-is-at, head-room, page-room, page-found, clear-path, page-refused-path}
+use Rattle.ea_lookup.proofs.Ways.{absent-path, refused-path, bounded-by, page-below-pages, super-room, super-is-at, head-room}
+use Rattle.ea_lookup.proofs.Ways.{page-room, page-found, clear-path, page-refused-path}
 use borrow.Author.Needs.{needs}
 use Rattle.ea_lookup.proofs.paths.page_path.Statement.{statement}
 use Rattle.ea_lookup.proofs.paths.page_path.Tie as tie
@@ -64,7 +65,8 @@ turned : (c : tie.After-enter-page) (k : Call) {e : Entered}
 turned c k w q =
     let a = c .before .before .before .before .before .before .before in
     let t = both (c .before) k w in
-    subst (EnteredPage k _ _ _) q (c .enter-page .ensures k (sees _ _ 0 _ _ _ k w) (super-is-at w (a .pre .3) _ _ _ _ (a .pre .0) _ _ t (a .pre .1) _ (a .pre .2)) (t .2 .2))
+    let e = super-is-at w (a .pre .3) _ _ _ _ (a .pre .0) _ _ t (a .pre .1) _ (a .pre .2) in
+    subst (EnteredPage k _ _ _) q (c .enter-page .ensures k (sees _ _ 0 _ _ _ k w) e (t .2 .2))
 
 enum-told-2 : tie.Need-enum-told-2
 enum-told-2 c = search needs
@@ -82,7 +84,9 @@ paged-element-at-requires c κs =
 -- the element lies in the file
 room : (c : tie.After-paged-element-at)
     → let a = c .before .before .before .before .before .before .before .before .before .before .args in
-    c .before .before .before .before .before .super-at .given .0 .1 .0 + pagedElementAt (a .reading .geometry .header) (a .reading .geometry .«offset_size») (a .i) + elementStride (a .reading .geometry .header) (a .reading .geometry .«offset_size») ≤ length (a .file .now)
+    c .before .before .before .before .before .super-at .given .0 .1 .0 + pagedElementAt (a .reading .geometry .header) (a .reading .geometry .«offset_size») (a .i)
+    + elementStride (a .reading .geometry .header) (a .reading .geometry .«offset_size»)
+    ≤ length (a .file .now)
 room c =
     let e = c .before .before .before in
     let a = e .before .before .before .before .before .before .before in
