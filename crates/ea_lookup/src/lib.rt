@@ -27,6 +27,7 @@ use ea_list::chunk_bytes;
 use refusal::Checked;
 use refusal::Refusal;
 
+pub mod door;
 mod paths;
 
 // What a lookup finds: the chunk's entry, that no chunk is stored at the corner, or why there is no answer.
