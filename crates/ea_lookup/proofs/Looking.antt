@@ -24,10 +24,10 @@ use Rattle.ea_blocks.specs.Call.{Call, Rec}
 use Rattle.ea_blocks.specs.Places.{recordOf, recordAt, path}
 use Rattle.ea_blocks.proofs.Elements.{some-is}
 use Rattle.ea_blocks.proofs.Paths.{path-record}
-use Rattle.ea_list.specs.Walk.{walk}
+use Rattle.ea_walk.specs.Walk.{walk}
 use Rattle.ea_list.specs.Listing.{list}
 use Rattle.ea_list.specs.Judged.{Stored, Judged}
-use Rattle.ea_list.proofs.Walks.{walk-right}
+use Rattle.ea_walk.proofs.Walks.{walk-right}
 use Rattle.ea_list.proofs.Judging.{none-some, record-at, list-judged}
 use Rattle.ea_lookup.specs.Lookup.{slotPath, lookup, Answers, Agrees}
 
