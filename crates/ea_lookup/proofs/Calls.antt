@@ -28,7 +28,7 @@ use Rattle.ea_blocks.specs.Places.{path}
 use Rattle.ea_blocks.specs.Structures.{indexBlock, testOf}
 use Rattle.ea_blocks.specs.Values.{Sees}
 use Rattle.ea_list.specs.Listing.{list}
-use Rattle.ea_list.specs.Values.{Walks}
+use Rattle.ea_walk.specs.Values.{Walks}
 use Rattle.ea_lookup.specs.declared.Found.{Found}
 use Rattle.ea_lookup.specs.declared.Found.the-variants.{Absent as FoundAbsent, Refused as FoundRefused}
 use Rattle.ea_lookup.specs.Lookup.{slotPath, lookup}

@@ -26,7 +26,7 @@ use Rattle.ea_geometry.proofs.Places.{place-is, place-inline, page-below}
 use Rattle.ea_geometry.proofs.Positions.{element-inside, paged-element-inside, inline-element-inside, direct-pointers-inside, super-pointers-inside}
 use Rattle.ea_header.specs.declared.ExtensibleArrayHeader.{ExtensibleArrayHeader}
 use Rattle.ea_header.specs.Served.{Served}
-use Rattle.ea_list.specs.Values.{Walks}
+use Rattle.ea_walk.specs.Values.{Walks}
 use Rattle.ea_blocks.specs.declared.Entry.{Entry}
 use Rattle.ea_blocks.specs.declared.Element.{Element}
 use Rattle.ea_blocks.specs.declared.Reading.{Reading}
@@ -43,7 +43,7 @@ use Rattle.ea_blocks.proofs.Sized.{element-refused}
 use Rattle.ea_blocks.proofs.StructureTests.{not-direct}
 use Rattle.ea_blocks.proofs.Entering.{entered-super-room, entered-block-room, entered-head-room, entered-page-room}
 use Rattle.ea_blocks.specs.Values.{Sees}
-use Rattle.ea_list.proofs.WalkStates.{sees, entered-at, paged-behind}
+use Rattle.ea_walk.proofs.WalkStates.{sees, entered-at, paged-behind}
 use Rattle.fields.proofs.Widths.{width-le}
 use Rattle.ea_lookup.specs.declared.Found.the-variants.{Chunk as FoundChunk, Absent as FoundAbsent, Refused as FoundRefused}
 use Rattle.ea_lookup.specs.declared.paths.Way.the-variants.{Absent as WayAbsent, To, Refused as WayRefused}

@@ -11,7 +11,7 @@ ghost use Rattle.ea_blocks.specs.Call.{Call, callOf};
 ghost use Rattle.ea_blocks.specs.Structures.{indexBlock, testOf};
 ghost use Rattle.ea_blocks.specs.Values.{Sees};
 ghost use Rattle.ea_list.specs.Listing.{list};
-ghost use Rattle.ea_list.specs.Values.{Walks};
+ghost use Rattle.ea_walk.specs.Values.{Walks};
 ghost use Rattle.ea_lookup.specs.Lookup.{slotPath, lookup};
 ghost use Rattle.ea_lookup.specs.Found.{foundOf, Answered, Agreed};
 use crate::paths::path_of;

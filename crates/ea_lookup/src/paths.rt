@@ -13,7 +13,7 @@ ghost use Rattle.ea_blocks.specs.Call.{Call};
 ghost use Rattle.ea_blocks.specs.Elements.{element};
 ghost use Rattle.ea_blocks.specs.Places.{answerOf, path};
 ghost use Rattle.ea_blocks.specs.Values.{Reads, Sees};
-ghost use Rattle.ea_list.specs.Values.{Walks};
+ghost use Rattle.ea_walk.specs.Values.{Walks};
 ghost use Rattle.ea_lookup.specs.Found.{foundOf, WayTo};
 use crate::Found;
 use ea_blocks::Element;

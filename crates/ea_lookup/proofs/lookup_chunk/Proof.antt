@@ -8,7 +8,7 @@ use Rattle.chunk_grid.specs.Values.{gridOf, Numbers, Counted, Extents}
 use Rattle.ea_geometry.specs.declared.EaGeometry.{EaGeometry}
 use Rattle.ea_blocks.specs.Call.{Call, callOf}
 use Rattle.ea_blocks.proofs.StructureTests.{index-seen}
-use Rattle.ea_list.specs.Values.{Walks}
+use Rattle.ea_walk.specs.Values.{Walks}
 use Rattle.ea_lookup.proofs.Calls.{tests, Tested, passed-all, lookup-refused, lookup-passed, all-of}
 use Rattle.ea_lookup.proofs.Calls.{rank-small, chunk-ranked, corner-numbers, corner-counted, call-seen, call-walks}
 use borrow.Author.Needs.{needs}

@@ -8,8 +8,8 @@ use Rattle.ea_geometry.proofs.Counts.{elements-few}
 use Rattle.ea_blocks.specs.declared.enter.Entered.{Entered}
 use Rattle.ea_blocks.specs.Call.{Call}
 use Rattle.ea_blocks.specs.Entered.{EnteredPage}
-use Rattle.ea_list.specs.Values.{Walks}
-use Rattle.ea_list.proofs.WalkStates.{sees}
+use Rattle.ea_walk.specs.Values.{Walks}
+use Rattle.ea_walk.proofs.WalkStates.{sees}
 use Rattle.ea_lookup.specs.declared.paths.Way.{Way}
 use Rattle.ea_lookup.specs.declared.paths.Way.the-variants.{To}
 use Rattle.ea_lookup.specs.Found.{WayTo}
