@@ -1,7 +1,7 @@
 -- The call that code is given: what the tests before a path leave, and what is made of the call's grid. Assumes nothing.
-use Prim.Native.Nat.{ℕ, _<_, _≤_, _*_}
+use Prim.Native.Nat.{ℕ, _<_, _≤_}
 use mathlib.Core.Path.{_≡_, refl, sym, ap, subst, _∙_}
-use mathlib.Core.Bool.{Bool, _&&_}
+use mathlib.Core.Bool.{_&&_}
 use mathlib.Core.List.{List}
 use borrow.Author.Tests.{eqb-true, not-false, lt-ltb, le-ltb}
 use lib.Dec.{eqb}
@@ -9,11 +9,11 @@ use lib.ListN.{length, take}
 use Rattle.refusal.specs.declared.Refusal.{Refusal}
 use Rattle.refusal.specs.declared.Checked.{Checked}
 use Rattle.refusal.specs.declared.Checked.the-variants.{Passed, Refused}
-use Rattle.refusal.specs.Refusals.{figure, largest64, _then_}
+use Rattle.refusal.specs.Refusals.{largest64, _then_}
 use Rattle.refusal.proofs.Tests.{then-inv, refuse-inv, both}
 use Rattle.refusal.proofs.Outcomes.{yields-passed}
 use Rattle.chunk_grid.specs.Grid.{gridTest, cornerTest, aligned, below, isChunk, slotOf}
-use Rattle.chunk_grid.specs.Values.{given, gridOf, Numbers, Counted, Extents}
+use Rattle.chunk_grid.specs.Values.{given, gridOf, Numbers, Counted}
 use Rattle.chunk_grid.specs.declared.ChunkGrid.{ChunkGrid}
 use Rattle.chunk_grid.specs.declared.Slot.{Slot}
 use Rattle.chunk_grid.specs.declared.Slot.the-variants.{At, NoSlot}
@@ -23,12 +23,10 @@ use Rattle.ea_header.specs.Served.{Served, servedTest}
 use Rattle.ea_header.proofs.Served.{serves}
 use Rattle.ea_geometry.specs.declared.EaGeometry.{EaGeometry}
 use Rattle.ea_blocks.specs.Call.{Call, callOf}
-use Rattle.ea_blocks.specs.Elements.{product, chunkBytes}
 use Rattle.ea_blocks.specs.Places.{path}
 use Rattle.ea_blocks.specs.Structures.{indexBlock, testOf}
 use Rattle.ea_blocks.specs.Values.{Sees}
 use Rattle.ea_list.specs.Listing.{list}
-use Rattle.ea_walk.specs.Values.{Walks}
 use Rattle.ea_lookup.specs.declared.Found.{Found}
 use Rattle.ea_lookup.specs.declared.Found.the-variants.{Absent as FoundAbsent, Refused as FoundRefused}
 use Rattle.ea_lookup.specs.Lookup.{slotPath, lookup}
@@ -125,19 +123,10 @@ module _ (k : ChunkGrid) (corner : List ℕ) (e : length corner ≡ gridOf k .ra
   pub corner-counted : (counts : List ℕ) → Counted (k .rank) counts (gridOf k) → Counted (length corner) counts (gridOf k)
   corner-counted counts a = subst (λ (n : ℕ). Counted n counts (gridOf k)) same-rank a
 
--- what is read of a call by a geometry and the numbers of its grid
+-- a call and the geometry of its header
 module _ (f : List ℕ) (g : EaGeometry) (k : ChunkGrid) (n : ℕ) where
   abbrev call : Call
   call = callOf f (g .header) (g .«offset_size») (gridOf k) n
 
   pub call-seen : Sees call f g
   call-seen = record { bytes = refl; checksum = refl; header = refl; offset = refl }
-
-  pub call-walks : (rotated : ℕ) (numbers : Bool) (bound down : List ℕ) (bytes : ℕ) → Numbers (k .rank) rotated (k .chunk) down (gridOf k)
-      → Extents (k .rank) numbers bound (gridOf k) → bytes ≡ figure (product (take (k .rank) (k .chunk)) * n)
-      → Walks call f (record { geometry = g; «chunk_bytes» = bytes; rank = k .rank; rotated = rotated; numbers = numbers }) (k .chunk) bound down
-  unfolding chunkBytes gridOf given
-  call-walks rotated numbers bound down bytes a b e = record {
-    reads = record { bytes = refl; header = refl; offset = refl; chunked = e; numbered = a; extended = b };
-    checksum = refl;
-  }

@@ -1,13 +1,11 @@
 -- The theorems of list and lookup, said of the calls that read the header first. Assumes nothing.
 use Prim.Native.Nat.{ℕ, _<_, _≤_}
-use mathlib.Core.Path.{_≡_, refl, sym, ap, _∙_}
+use mathlib.Core.Path.{_≡_, sym, ap, _∙_}
 use mathlib.Core.Bool.{true}
 use mathlib.Core.List.{List}
 use mathlib.Core.Option.{Option}
-use native.Mathlib.Omega.{arith}
 use lib.ListN.{length}
 use Rattle.refusal.specs.declared.Refusal.{Refusal}
-use Rattle.refusal.specs.declared.Checked.{Checked}
 use Rattle.refusal.specs.declared.Checked.the-variants.{Passed, Refused}
 use Rattle.refusal.specs.Refusals.{largest64}
 use Rattle.refusal.specs.Outcome.{refused, accepted}
@@ -19,14 +17,14 @@ use Rattle.chunk_grid.specs.Shapes.{givenBytes}
 use Rattle.chunk_grid.specs.Values.{given}
 use Rattle.chunk_grid.proofs.Grids.{accepted as grid-accepted}
 use Rattle.ea_header.specs.declared.ExtensibleArrayHeader.{ExtensibleArrayHeader}
-use Rattle.ea_header.specs.declared.Parsed.the-variants.{Header, Refused as ParsedRefused}
-use Rattle.ea_header.specs.Header.{headerAt, headerTest, parsedAfter}
+use Rattle.ea_header.specs.Header.{headerAt, headerTest}
 use Rattle.ea_blocks.specs.Call.{Rec, callOf}
 use Rattle.ea_blocks.specs.Runs.{Listing}
 use Rattle.ea_list.specs.Listing.{list, inRoom, listInto}
 use Rattle.ea_list.specs.Judged.{Judged}
 use Rattle.ea_list.specs.Door.{doorGrid, callAt, listAt}
 use Rattle.ea_list.proofs.Judging.{list-judged}
+use Rattle.ea_list.proofs.Doors.{call-is}
 use Rattle.ea_lookup.specs.declared.Found.{Found}
 use Rattle.ea_lookup.specs.declared.Found.the-variants.{Refused as FoundRefused}
 use Rattle.ea_lookup.specs.Lookup.{lookup, Answers, Agrees}
@@ -35,17 +33,6 @@ use Rattle.ea_lookup.specs.Door.{lookupAt}
 use Rattle.ea_lookup.proofs.Looking.{lookup-answers, lookup-agrees}
 use Rattle.ea_lookup.proofs.Ways.{refusal-found, yields-refused}
 use Rattle.ea_lookup.proofs.Calls.{lookup-refused}
-
--- what a header that was read says of its test
-pub parsed-header : (t : Checked) (x h : ExtensibleArrayHeader) → Header h ≡ parsedAfter t x → (t ≡ Passed) × (h ≡ x)
-unfolding parsedAfter
-parsed-header Passed x h e = (refl, cc)
-parsed-header (Refused r) x h e = let z : _≡_ {A = ℕ} 0 1 = cc in absurd (omega arith)
-
-pub parsed-refused : (t : Checked) (x : ExtensibleArrayHeader) (r : Refusal) → ParsedRefused r ≡ parsedAfter t x → t ≡ Refused r
-unfolding parsedAfter
-parsed-refused Passed x r e = let z : _≡_ {A = ℕ} 0 1 = cc in absurd (omega arith)
-parsed-refused (Refused q) x r e = cc
 
 pub door-small : (order rank : ℕ) (chunk present : List ℕ) (flag : ℕ) (maximum : List ℕ) → gridTest (doorGrid order rank chunk present flag maximum) ≡ Passed → rank ≤ 32
 unfolding doorGrid givenBytes given
@@ -96,19 +83,16 @@ module _ (f : List ℕ) (address o len : ℕ) (g : Grid) (n : ℕ) where
       unfolding callAt
       grid-refused r e = lookup-refused (callAt f address o len g n) corner r (sym (then-first _ _ (sym e))) ∙ sym (ap foundOf at-is)
 
-      pub call-found : (h : ExtensibleArrayHeader) → h ≡ headerAt f address o len → (g′ : Grid) → g′ ≡ g → (k : List ℕ) → k ≡ corner
-          → foundOf (lookup (callOf f h o g′ n) k) ≡ foundOf (lookupAt f address o len g n corner)
-      unfolding callAt
-      call-found h e g′ i k j = rw (e, i, j) (sym (ap foundOf at-is))
+      module _ (h : ExtensibleArrayHeader) (e : h ≡ headerAt f address o len) (g′ : Grid) (i : g′ ≡ g) (k : List ℕ) (j : k ≡ corner) where
+        pub call-found : foundOf (lookup (callOf f h o g′ n) k) ≡ foundOf (lookupAt f address o len g n corner)
+        call-found = rw (call-is f address o len h e g g′ i n, j) (sym (ap foundOf at-is))
+
+        pub call-agrees : (found : Found) → Agreed (list (callOf f h o g′ n)) g′ k found → Agreed (list (callAt f address o len g n)) g corner found
+        call-agrees found x = rw (← call-is f address o len h e g g′ i n, ← i, ← j) x
 
       pub grid-agrees : (found : Found) (r : Refusal) → gridTest g ≡ Refused r → Agreed (list (callAt f address o len g n)) g corner found
       unfolding list callAt
       grid-agrees found r e = λ l ranked h k. absurd (refused-passed r (sym e ∙ yields-inv _ _ l h .0))
-
-      pub call-agrees : (found : Found) (h : ExtensibleArrayHeader) → h ≡ headerAt f address o len → (g′ : Grid) → g′ ≡ g → (k : List ℕ) → k ≡ corner
-          → Agreed (list (callOf f h o g′ n)) g′ k found → Agreed (list (callAt f address o len g n)) g corner found
-      unfolding callAt
-      call-agrees found h e g′ i k j x = rw (← e, ← i, ← j) x
 
     -- the equation, and the theorems of it
     pub all-at : (found : Found) → found ≡ foundOf (lookupAt f address o len g n corner)

@@ -1,17 +1,18 @@
-// The lookup as it is called from C: on numbers and bytes, with the header read first.
+// The lookup as it is called from C: on numbers and bytes, with the header read first, and with one number as its answer.
 ghost use mathlib.Core.Path.{_≡_};
 ghost use Prim.Native.Nat.{ℕ};
 ghost use Rattle.chunk_grid.specs.Shapes.{shapeOf};
-ghost use Rattle.ea_list.specs.Door.{orderOf, doorGrid, callAt, listAt};
+ghost use Rattle.ea_list.specs.Door.{doorGrid, callAt, listAt, picked};
 ghost use Rattle.ea_lookup.specs.Found.{foundOf, Answered, Agreed};
-ghost use Rattle.ea_lookup.specs.Door.{lookupAt};
+ghost use Rattle.ea_lookup.specs.Door.{lookupAt, foundNumbers};
 use crate::Found;
 use crate::lookup_chunk;
 use chunk_grid::ChunkGrid;
-use chunk_grid::GridOrder;
 use chunk_grid::read_shape;
 use ea_header::ExtensibleArrayHeader;
 use ea_header::Parsed;
+use ea_list::door::grid_order;
+use ea_list::door::pick;
 use refusal::Checked;
 
 // Reads the header at an address, the shapes of a dataset and a corner, and looks up the chunk at the corner.
@@ -68,12 +69,20 @@ pub fn lookup_at(
     }
 }
 
-// The order that a number stands for.
-fn grid_order(order: u64) -> GridOrder
-    ensures { λ r. ⌜ r ≡ orderOf order ⌝ }
+// The number of a lookup's answer that is asked for.
+pub fn found_number(found: Found, which: u64) -> u64
+    ensures { λ r. ⌜ r ≡ picked which (foundNumbers found) ⌝ }
 {
-    if order == 0 {
-        return GridOrder::RowMajor;
+    match found {
+        Found::Chunk(entry) => pick(
+            which,
+            Checked::Passed.refusal(),
+            1,
+            entry.address,
+            entry.size as u64,
+            entry.mask as u64,
+        ),
+        Found::Absent => pick(which, Checked::Passed.refusal(), 0, 0, 0, 0),
+        Found::Refused(r) => pick(which, r, 0, 0, 0, 0),
     }
-    GridOrder::UnlimitedFirst
 }

@@ -4,13 +4,15 @@ use mathlib.Core.Path.{_≡_, sym, _∙_}
 use lib.ListN.{length}
 use Rattle.refusal.specs.declared.Checked.the-variants.{Passed}
 use Rattle.refusal.specs.Refusals.{largest64}
-use Rattle.chunk_grid.specs.Values.{gridOf, Numbers, Counted, Extents}
+use Rattle.chunk_grid.specs.Values.{given, gridOf, Numbers, Counted, Extents}
 use Rattle.ea_geometry.specs.declared.EaGeometry.{EaGeometry}
 use Rattle.ea_blocks.specs.Call.{Call, callOf}
 use Rattle.ea_blocks.proofs.StructureTests.{index-seen}
+use Rattle.ea_blocks.specs.Elements.{chunkBytes}
 use Rattle.ea_walk.specs.Values.{Walks}
+use Rattle.ea_list.proofs.Rooms.{walks-by}
 use Rattle.ea_lookup.proofs.Calls.{tests, Tested, passed-all, lookup-refused, lookup-passed, all-of}
-use Rattle.ea_lookup.proofs.Calls.{rank-small, chunk-ranked, corner-numbers, corner-counted, call-seen, call-walks}
+use Rattle.ea_lookup.proofs.Calls.{rank-small, chunk-ranked, corner-numbers, corner-counted, call-seen}
 use borrow.Author.Needs.{needs}
 use Rattle.ea_lookup.proofs.lookup_chunk.Statement.{statement}
 use Rattle.ea_lookup.proofs.lookup_chunk.Tie as tie
@@ -31,12 +33,12 @@ lookup-test-requires : tie.Need-lookup-test-requires
 lookup-test-requires c κs = search needs
 
 -- the call
-abbrev given : tie.Start → Call
-given c = callOf (c .args .file .now) (c .args .header) (c .args .offset-size) (gridOf (c .args .grid)) (c .args .element-bytes)
+abbrev call : tie.Start → Call
+call c = callOf (c .args .file .now) (c .args .header) (c .args .offset-size) (gridOf (c .args .grid)) (c .args .element-bytes)
 
 made : (c : tie.After-lookup-test)
     → let s = c .before .before .before .before .before .before .before .before .before .before in
-    c .lookup-test .result ≡ tests (given s) (s .args .corner .now)
+    c .lookup-test .result ≡ tests (call s) (s .args .corner .now)
 made c = c .lookup-test .ensures _ (call-seen _ _ _ _)
 
 enum-known-r : tie.Need-enum-known-r
@@ -56,12 +58,12 @@ enum-told c = search needs
 
 passed : (c : tie.After-enum-told)
     → let s = c .before .before .before .before .before .before .before .before .before .before .before .before in
-    tests (given s) (s .args .corner .now) ≡ Passed
+    tests (call s) (s .args .corner .now) ≡ Passed
 passed c = sym (made (c .before .before)) ∙ c .enum-told .given .1
 
 tested : (c : tie.After-enum-told)
     → let s = c .before .before .before .before .before .before .before .before .before .before .before .before in
-    Tested (given s) (s .args .corner .now)
+    Tested (call s) (s .args .corner .now)
 tested c = passed-all _ _ (passed c)
 
 -- what the grid's slots are numbered by
@@ -100,12 +102,13 @@ walks : (c : tie.After-chunk-bytes)
     let s = n .before .before .before .before .before .before .before .before .before .before .before .before in
     let r = n .before .before .before .before .before .before .numbering in
     let g : EaGeometry = record { header = s .args .header; «offset_size» = s .args .offset-size } in
-    Walks (given s) (s .args .file .now)
+    Walks (call s) (s .args .file .now)
     (record { geometry = g; «chunk_bytes» = c .chunk-bytes .result; rank = s .args .grid .rank; rotated = r .result .rotated; numbers = r .result .numbers })
     (s .args .grid .chunk) (r .last .1 .1 .0) (r .last .1 .1 .1 .0)
+unfolding gridOf given chunkBytes
 walks c =
     let x = numbered (c .before .before .before .before .before .before .before) in
-    call-walks _ _ _ _ _ _ _ _ _ (x .0) (x .2) (c .chunk-bytes .ensures)
+    walks-by _ _ _ _ _ _ _ _ _ _ _ _ (x .0) (x .2) (c .chunk-bytes .ensures)
 
 slot-path-requires : tie.Need-slot-path-requires
 slot-path-requires c κs =

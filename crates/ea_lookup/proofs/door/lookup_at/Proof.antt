@@ -10,9 +10,10 @@ use Rattle.chunk_grid.specs.Grid.{Grid, gridTest}
 use Rattle.chunk_grid.specs.Shapes.{shapeOf}
 use Rattle.chunk_grid.specs.Values.{gridOf, whereTested}
 use Rattle.chunk_grid.proofs.Shapes.{stored-shape}
-use Rattle.ea_header.specs.Header.{headerAt, headerTest, parsedAt}
+use Rattle.ea_header.specs.Header.{headerAt, headerTest}
 use Rattle.ea_list.specs.Door.{doorGrid}
-use Rattle.ea_lookup.proofs.Doors.{parsed-header, parsed-refused, door-small, header-refused, grid-refused, grid-agrees, call-found, call-agrees, all-at}
+use Rattle.ea_list.proofs.Doors.{parsed-header, parsed-refused}
+use Rattle.ea_lookup.proofs.Doors.{door-small, header-refused, grid-refused, grid-agrees, call-found, call-agrees, all-at}
 use borrow.Author.Needs.{needs}
 use Rattle.ea_lookup.proofs.door.lookup_at.Statement.{statement}
 use Rattle.ea_lookup.proofs.door.lookup_at.Tie as tie
@@ -28,8 +29,7 @@ parsed : (c : tie.After-header)
     → let a = c .before .before .before .before .before .before .before .before .args in
     (headerTest lookup3 (a .file .now) (a .address) (a .offset-size) (a .length-size) ≡ Passed)
     × (c .header .given .0 .0 ≡ headerAt (a .file .now) (a .address) (a .offset-size) (a .length-size))
-unfolding parsedAt
-parsed c = parsed-header _ _ _ (sym (c .header .given .1) ∙ c .before .before .parse .ensures)
+parsed c = parsed-header _ _ _ _ _ _ (sym (c .header .given .1) ∙ c .before .before .parse .ensures)
 
 grid-order-requires : tie.Need-grid-order-requires
 grid-order-requires c κs = search needs
@@ -102,12 +102,11 @@ returns-2 c =
     let x = c .lookup-chunk .ensures in
     let h = parsed d in
     all-at _ _ _ _ _ _ _ _ (x .0 ∙ call-found _ _ _ _ _ _ _ (h .0) _ (h .1) _ (grid-is n) _ (shape m .1))
-    (λ t. call-agrees _ _ _ _ _ _ _ t _ _ (h .1) _ (grid-is n) _ (shape m .1) (x .1 .1))
+    (λ t. call-agrees _ _ _ _ _ _ _ t _ (h .1) _ (grid-is n) _ (shape m .1) _ (x .1 .1))
 
 returns-3 : tie.Need-returns-3
-unfolding parsedAt
 returns-3 c =
-    let e = parsed-refused _ _ _ (sym (c .before .r .given .1) ∙ c .before .before .before .parse .ensures) in
+    let e = parsed-refused _ _ _ _ _ _ (sym (c .before .r .given .1) ∙ c .before .before .before .parse .ensures) in
     all-at _ _ _ _ _ _ _ _ (header-refused _ _ _ _ _ _ _ _ e) (λ t. absurd (refused-passed _ (sym e ∙ t)))
 
 pub lookup-at-spec : {M : Type 1} → statement M
