@@ -16,7 +16,9 @@ returns : tie.Need-returns
 returns c = λ k w. no-slot k _ (c .enum-told .given .1)
 
 returns-2 : tie.Need-returns-2
-returns-2 c = λ k w. past-count k _ _ (c .before .before .before .slot .given .1) (rw (w .reads .header) (c .if1 .taken))
+returns-2 c = λ k w.
+    let le = c .if1 .taken in
+    past-count k _ _ (c .before .before .before .slot .given .1) (rw (w .reads .header) (omega arith))
 
 path-of-requires : tie.Need-path-of-requires
 path-of-requires c κs = search needs
