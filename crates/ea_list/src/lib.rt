@@ -100,7 +100,7 @@ fn list_walk(
 }
 
 // The bytes of a chunk, the product of its lengths and the element's bytes, or 2^64 - 1 where they are more.
-fn chunk_bytes(chunk: &[u64; 32], rank: usize, element_bytes: u64) -> u64
+pub fn chunk_bytes(chunk: &[u64; 32], rank: usize, element_bytes: u64) -> u64
     requires { ⌜ (rank ≤ 32) × (length (take rank (now chunk)) ≡ rank) ⌝ }
     ensures { λ r. ⌜ r ≡ figure (product (take rank (now (chunk .entry))) * «element_bytes») ⌝ }
 {

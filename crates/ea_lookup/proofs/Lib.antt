@@ -1,2 +1,4 @@
 pub mod Looking
+pub mod Ways
+pub mod Calls
 pub mod Doors
