@@ -1,10 +1,15 @@
 // The doors for C: each passes on to the library.
 ghost use mathlib.Core.Path.{_≡_};
+ghost use mathlib.Core.Bool.{true};
 ghost use mathlib.Core.List.{List};
+ghost use mathlib.Core.Option.{Option};
 ghost use Prim.Native.Nat.{ℕ, _<_};
 ghost use lib.ListN.{length};
 ghost use lib.Seq.{sets};
 ghost use Rattle.checksum.specs.Lookup3.{lookup3};
+ghost use Rattle.refusal.specs.Outcome.{accepted};
+ghost use Rattle.chunk_grid.specs.Grid.{isChunk};
+ghost use Rattle.chunk_grid.specs.Shapes.{shapeOf};
 ghost use Rattle.ea_blocks.specs.declared.Counted.the-variants.{Count};
 ghost use Rattle.ea_blocks.specs.Call.{Rec};
 ghost use Rattle.ea_blocks.specs.Records.{listBytes};
@@ -12,8 +17,12 @@ ghost use Rattle.ea_blocks.specs.Runs.{countedOf};
 ghost use Rattle.ea_list.specs.Listing.{listContent};
 ghost use Rattle.ea_list.specs.Judged.{Judged};
 ghost use Rattle.ea_list.specs.Door.{doorGrid, callAt, listAt, listNumbers, picked};
+ghost use Rattle.ea_lookup.specs.Lookup.{Answers, Agrees};
+ghost use Rattle.ea_lookup.specs.Door.{lookupAt, lookupNumbers};
 use ea_list::door::list_at;
 use ea_list::door::list_number;
+use ea_lookup::door::found_number;
+use ea_lookup::door::lookup_at;
 
 // HDF5's metadata checksum of some bytes.
 #[no_mangle]
@@ -62,4 +71,45 @@ pub extern "C" fn cellumaq_list(
         list,
     );
     list_number(counted, which)
+}
+
+// One chunk of a dataset by its corner. Answers the number that `which` asks for.
+#[no_mangle]
+pub extern "C" fn cellumaq_lookup(
+    file: &[u8],
+    offset_size: u64,
+    length_size: u64,
+    address: u64,
+    element_bytes: u64,
+    order: u64,
+    rank: u64,
+    chunk: &[u8],
+    present: &[u8],
+    has_maximum: u64,
+    maximum: &[u8],
+    corner: &[u8],
+    which: u64,
+) -> u64
+    ensures number { λ r. ⌜ r ≡ picked which (lookupNumbers (lookupAt (now (file .entry)) address «offset_size» «length_size» (doorGrid order rank (now (chunk .entry)) (now (present .entry)) «has_maximum» (now (maximum .entry))) «element_bytes» (shapeOf rank (now (corner .entry))))) ⌝ }
+    ensures zero { λ r. ⌜ (which ≡ 0 → r ≡ 0 → (x : Option Rec) × (lookupAt (now (file .entry)) address «offset_size» «length_size» (doorGrid order rank (now (chunk .entry)) (now (present .entry)) «has_maximum» (now (maximum .entry))) «element_bytes» (shapeOf rank (now (corner .entry))) ≡ accepted x)) ⌝ }
+    ensures answers { λ _. ⌜ ((x : Option Rec) → lookupAt (now (file .entry)) address «offset_size» «length_size» (doorGrid order rank (now (chunk .entry)) (now (present .entry)) «has_maximum» (now (maximum .entry))) «element_bytes» (shapeOf rank (now (corner .entry))) ≡ accepted x → Answers (callAt (now (file .entry)) address «offset_size» «length_size» (doorGrid order rank (now (chunk .entry)) (now (present .entry)) «has_maximum» (now (maximum .entry))) «element_bytes») (shapeOf rank (now (corner .entry))) x) ⌝ }
+    ensures agrees { λ r. ⌜ ((room : ℕ) (l : List Rec) → 0 < rank → listAt (now (file .entry)) address «offset_size» «length_size» (doorGrid order rank (now (chunk .entry)) (now (present .entry)) «has_maximum» (now (maximum .entry))) «element_bytes» room ≡ accepted l
+        → isChunk (doorGrid order rank (now (chunk .entry)) (now (present .entry)) «has_maximum» (now (maximum .entry))) (shapeOf rank (now (corner .entry))) ≡ true
+        → (x : Option Rec) × (r ≡ picked which (lookupNumbers (accepted x))) × Agrees l (shapeOf rank (now (corner .entry))) x) ⌝ }
+{
+    let found = lookup_at(
+        file,
+        offset_size,
+        length_size,
+        address,
+        element_bytes,
+        order,
+        rank,
+        chunk,
+        present,
+        has_maximum,
+        maximum,
+        corner,
+    );
+    found_number(found, which)
 }

@@ -66,7 +66,7 @@ told-yields (Refused x) a p q = record { above = λ r e. let z : Refused x ≡ R
 pub told-accepted : {A : Type 0} (a : A) → Told (accepted a)
 told-accepted a = record { above = λ r e. absurd (never r a (sym e)) }
 
-told-cond : {A : Type 0} (b : Bool) {x y : Outcome A} → Told x → Told y → Told (cond b x y)
+pub told-cond : {A : Type 0} (b : Bool) {x y : Outcome A} → Told x → Told y → Told (cond b x y)
 told-cond true p q = p
 told-cond false p q = q
 

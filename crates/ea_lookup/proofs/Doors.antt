@@ -8,9 +8,9 @@ use lib.ListN.{length}
 use Rattle.refusal.specs.declared.Refusal.{Refusal}
 use Rattle.refusal.specs.declared.Checked.the-variants.{Passed, Refused}
 use Rattle.refusal.specs.Refusals.{largest64}
-use Rattle.refusal.specs.Outcome.{refused, accepted}
+use Rattle.refusal.specs.Outcome.{accepted}
 use Rattle.refusal.proofs.Tests.{refused-passed, then-first}
-use Rattle.refusal.proofs.Outcomes.{never, yields-inv, yields-passed}
+use Rattle.refusal.proofs.Outcomes.{yields-inv, yields-passed}
 use Rattle.checksum.specs.Lookup3.{lookup3}
 use Rattle.chunk_grid.specs.Grid.{Grid, gridTest, isChunk}
 use Rattle.chunk_grid.specs.Shapes.{givenBytes}
@@ -19,11 +19,11 @@ use Rattle.chunk_grid.proofs.Grids.{accepted as grid-accepted}
 use Rattle.ea_header.specs.declared.ExtensibleArrayHeader.{ExtensibleArrayHeader}
 use Rattle.ea_header.specs.Header.{headerAt, headerTest}
 use Rattle.ea_blocks.specs.Call.{Rec, callOf}
-use Rattle.ea_blocks.specs.Runs.{Listing}
-use Rattle.ea_list.specs.Listing.{list, inRoom, listInto}
+use Rattle.ea_list.specs.Listing.{list}
 use Rattle.ea_list.specs.Judged.{Judged}
 use Rattle.ea_list.specs.Door.{doorGrid, callAt, listAt}
 use Rattle.ea_list.proofs.Judging.{list-judged}
+use Rattle.ea_list.proofs.Rooms.{into-inv}
 use Rattle.ea_list.proofs.Doors.{call-is}
 use Rattle.ea_lookup.specs.declared.Found.{Found}
 use Rattle.ea_lookup.specs.declared.Found.the-variants.{Refused as FoundRefused}
@@ -38,15 +38,10 @@ pub door-small : (order rank : ℕ) (chunk present : List ℕ) (flag : ℕ) (max
 unfolding doorGrid givenBytes given
 door-small order rank chunk present flag maximum t = grid-accepted (doorGrid order rank chunk present flag maximum) t .small
 
-room-inv : (a : Listing) (room : ℕ) (l : List Rec) → inRoom a room ≡ accepted l → a ≡ accepted l
-unfolding inRoom
-room-inv (refused r) room l h = absurd (never r l h)
-room-inv (accepted m) room l h = yields-inv _ _ l h .1
-
 module _ (f : List ℕ) (address o len : ℕ) (g : Grid) (n : ℕ) where
   inner : (room : ℕ) (l : List Rec) → listAt f address o len g n room ≡ accepted l → list (callAt f address o len g n) ≡ accepted l
-  unfolding listAt listInto
-  inner room l h = room-inv _ _ l (yields-inv _ _ l h .1)
+  unfolding listAt
+  inner room l h = into-inv _ room l (yields-inv _ _ l h .1)
 
   -- an accepted list of rank 1 to 32 is Judged
   pub list-at-judged : (room : ℕ) (l : List Rec) → 0 < g .rank → headerAt f address o len .«num_elements» ≤ largest64 → listAt f address o len g n room ≡ accepted l
