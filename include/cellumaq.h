@@ -20,7 +20,7 @@ uint32_t cellumaq_checksum(const uint8_t *bytes, size_t length);
 #define CELLUMAQ_UNLIMITED UINT64_MAX
 
 /* Why a call gives no result. A refusal has two figures; each is 0 where none is named here, and UINT64_MAX where it would be more. Of several reasons
- * the first that is met is told: the header (20, 21, 22, 2, 1, 26), then the shapes (3 to 8), then 27, the index block, and the other
+ * the first that is met is told: the header (20, 21, 22, 2, 1, 26), then the shapes (3 to 8) and the corner, then 27, the index block, and the other
  * blocks in the order of the chunks' numbers; a list that is too small comes last. */
 enum cellumaq_refusal {
     CELLUMAQ_ACCEPTED = 0, /* no refusal */
@@ -35,6 +35,7 @@ enum cellumaq_refusal {
     CELLUMAQ_UNLIMITED_COUNT = 7, /* a dimension is unlimited whose number of chunks is needed: all but the leading one's are */
     CELLUMAQ_TOO_MANY_CHUNKS = 8, /* the shapes have more chunks than 2^64 - 1 can number */
     CELLUMAQ_LIST_TOO_SMALL = 9,  /* the list has no room for all records; first figure: how many there are */
+    CELLUMAQ_CORNER = 10,         /* the corner isn't of 8 * rank bytes, no multiple of the chunk's lengths, or not below the present ones */
 
     /* What the file's writer wrote. */
     CELLUMAQ_PAST_END = 20,              /* a structure ends behind the file; figures: its end, the file's length */
@@ -58,7 +59,10 @@ enum cellumaq_which {
     CELLUMAQ_REFUSAL = 0,       /* the refusal's number, 0 where the call is accepted */
     CELLUMAQ_FIRST_FIGURE = 1,  /* the refusal's figures */
     CELLUMAQ_SECOND_FIGURE = 2,
-    CELLUMAQ_COUNT = 3          /* how many records there are, 0 after a refusal */
+    CELLUMAQ_COUNT = 3,         /* how many records there are, 0 after a refusal; of a lookup 1 or 0 */
+    CELLUMAQ_FOUND_ADDRESS = 4, /* of a lookup: the chunk's address, size and filter mask, 0 where it isn't there */
+    CELLUMAQ_FOUND_SIZE = 5,
+    CELLUMAQ_FOUND_MASK = 6
 };
 
 /* How a dataset's chunks are numbered. HDF5 numbers those of an extensible array with the unlimited dimension first. */
@@ -96,7 +100,21 @@ uint64_t cellumaq_list(const uint8_t *file, size_t file_length, uint64_t offset_
                        uint64_t order, uint64_t rank, const uint8_t *chunk, size_t chunk_length, const uint8_t *present, size_t present_length,
                        uint64_t has_maximum, const uint8_t *maximum, size_t maximum_length, uint8_t *list, size_t list_length, uint64_t which);
 
-/* Stores a dimension's length into a shape of at least 8 * (dimension + 1) bytes. The first dimension is 0. */
+/* Looks up one chunk of a dataset by its corner: the chunk whose first element has the offsets `corner`, stored as a shape is. The other arguments
+ * are those of cellumaq_list(). All slices are only read.
+ *
+ * Where the list is accepted, the lookup of a chunk in the present shape is too, and finds what the list has for its corner, or nothing where the list
+ * has no such record. But only what leads to the chunk is tested: the header, the index block, and the super block, data block and page that name it.
+ * Damage elsewhere is not noticed.
+ *
+ * Ask with CELLUMAQ_COUNT. At 1 ask for address, size and mask. Only at 0 ask with CELLUMAQ_REFUSAL: no such chunk in the file, or why that isn't known.
+ */
+uint64_t cellumaq_lookup(const uint8_t *file, size_t file_length, uint64_t offset_size, uint64_t length_size, uint64_t address, uint64_t element_bytes,
+                         uint64_t order, uint64_t rank, const uint8_t *chunk, size_t chunk_length, const uint8_t *present, size_t present_length,
+                         uint64_t has_maximum, const uint8_t *maximum, size_t maximum_length, const uint8_t *corner, size_t corner_length,
+                         uint64_t which);
+
+/* Stores a dimension's length into a shape, or its offset into a corner, of at least 8 * (dimension + 1) bytes. The first dimension is 0. */
 static inline void cellumaq_put_length(uint8_t *shape, size_t dimension, uint64_t length)
 {
     for (size_t i = 0; i < 8; i++)
