@@ -32,7 +32,8 @@ pub extern "C" fn cellumaq_checksum(bytes: &[u8]) -> u32
     checksum::jenkins_lookup3(bytes)
 }
 
-// The chunk list of a dataset, into a lent list. Answers the number that `which` asks for.
+// The chunk list of a dataset, into a lent list. Answers the number that `which` asks for: 0, where the refusal is asked for, says that
+// the call is accepted. The list holds what it says, and for rank 1 to 32 an accepted list can be judged chunk by chunk.
 #[no_mangle]
 pub extern "C" fn cellumaq_list(
     file: &[u8],
@@ -49,12 +50,13 @@ pub extern "C" fn cellumaq_list(
     list: &mut [u8],
     which: u64,
 ) -> u64
-    ensures number { λ r. ⌜ r ≡ picked which (listNumbers (listAt (now (file .entry)) address «offset_size» «length_size» (doorGrid order rank (now (chunk .entry)) (now (present .entry)) «has_maximum» (now (maximum .entry))) «element_bytes» (length (now (list .entry))))) ⌝ }
-    ensures content { λ _. ⌜ now (list .exit) ≡ listContent (listAt (now (file .entry)) address «offset_size» «length_size» (doorGrid order rank (now (chunk .entry)) (now (present .entry)) «has_maximum» (now (maximum .entry))) «element_bytes» (length (now (list .entry)))) (now (list .entry)) ⌝ }
-    ensures zero { λ r. ⌜ (which ≡ 0 → r ≡ 0 → (n : ℕ) × (countedOf (listAt (now (file .entry)) address «offset_size» «length_size» (doorGrid order rank (now (chunk .entry)) (now (present .entry)) «has_maximum» (now (maximum .entry))) «element_bytes» (length (now (list .entry)))) ≡ Count n)) ⌝ }
-    ensures judged { λ _. ⌜ ((n : ℕ) → countedOf (listAt (now (file .entry)) address «offset_size» «length_size» (doorGrid order rank (now (chunk .entry)) (now (present .entry)) «has_maximum» (now (maximum .entry))) «element_bytes» (length (now (list .entry)))) ≡ Count n → 0 < rank
-        → (l : List Rec) × (now (list .exit) ≡ sets (now (list .entry)) 0 (listBytes l))
-        × Judged (callAt (now (file .entry)) address «offset_size» «length_size» (doorGrid order rank (now (chunk .entry)) (now (present .entry)) «has_maximum» (now (maximum .entry))) «element_bytes») l n) ⌝ }
+    ensures { λ r. ⌜ (let grid = doorGrid order rank (now (chunk .entry)) (now (present .entry)) «has_maximum» (now (maximum .entry)) in
+        let call = callAt (now (file .entry)) address «offset_size» «length_size» grid «element_bytes» in
+        let answer = listAt (now (file .entry)) address «offset_size» «length_size» grid «element_bytes» (length (now (list .entry))) in
+        (r ≡ picked which (listNumbers answer))
+        × (which ≡ 0 → r ≡ 0 → (n : ℕ) × (countedOf answer ≡ Count n))
+        × (now (list .exit) ≡ listContent answer (now (list .entry)))
+        × ((n : ℕ) → countedOf answer ≡ Count n → 0 < rank → (l : List Rec) × (now (list .exit) ≡ sets (now (list .entry)) 0 (listBytes l)) × Judged call l n)) ⌝ }
 {
     let counted = list_at(
         file,
@@ -73,7 +75,8 @@ pub extern "C" fn cellumaq_list(
     list_number(counted, which)
 }
 
-// One chunk of a dataset by its corner. Answers the number that `which` asks for.
+// One chunk of a dataset by its corner. Answers the number that `which` asks for: 0, where the refusal is asked for, says that the call
+// is accepted. An accepted answer says what the place of the corner's slot holds, and agrees with an accepted list.
 #[no_mangle]
 pub extern "C" fn cellumaq_lookup(
     file: &[u8],
@@ -90,12 +93,15 @@ pub extern "C" fn cellumaq_lookup(
     corner: &[u8],
     which: u64,
 ) -> u64
-    ensures number { λ r. ⌜ r ≡ picked which (lookupNumbers (lookupAt (now (file .entry)) address «offset_size» «length_size» (doorGrid order rank (now (chunk .entry)) (now (present .entry)) «has_maximum» (now (maximum .entry))) «element_bytes» (shapeOf rank (now (corner .entry))))) ⌝ }
-    ensures zero { λ r. ⌜ (which ≡ 0 → r ≡ 0 → (x : Option Rec) × (lookupAt (now (file .entry)) address «offset_size» «length_size» (doorGrid order rank (now (chunk .entry)) (now (present .entry)) «has_maximum» (now (maximum .entry))) «element_bytes» (shapeOf rank (now (corner .entry))) ≡ accepted x)) ⌝ }
-    ensures answers { λ _. ⌜ ((x : Option Rec) → lookupAt (now (file .entry)) address «offset_size» «length_size» (doorGrid order rank (now (chunk .entry)) (now (present .entry)) «has_maximum» (now (maximum .entry))) «element_bytes» (shapeOf rank (now (corner .entry))) ≡ accepted x → Answers (callAt (now (file .entry)) address «offset_size» «length_size» (doorGrid order rank (now (chunk .entry)) (now (present .entry)) «has_maximum» (now (maximum .entry))) «element_bytes») (shapeOf rank (now (corner .entry))) x) ⌝ }
-    ensures agrees { λ r. ⌜ ((room : ℕ) (l : List Rec) → 0 < rank → listAt (now (file .entry)) address «offset_size» «length_size» (doorGrid order rank (now (chunk .entry)) (now (present .entry)) «has_maximum» (now (maximum .entry))) «element_bytes» room ≡ accepted l
-        → isChunk (doorGrid order rank (now (chunk .entry)) (now (present .entry)) «has_maximum» (now (maximum .entry))) (shapeOf rank (now (corner .entry))) ≡ true
-        → (x : Option Rec) × (r ≡ picked which (lookupNumbers (accepted x))) × Agrees l (shapeOf rank (now (corner .entry))) x) ⌝ }
+    ensures { λ r. ⌜ (let grid = doorGrid order rank (now (chunk .entry)) (now (present .entry)) «has_maximum» (now (maximum .entry)) in
+        let at = shapeOf rank (now (corner .entry)) in
+        let call = callAt (now (file .entry)) address «offset_size» «length_size» grid «element_bytes» in
+        let answer = lookupAt (now (file .entry)) address «offset_size» «length_size» grid «element_bytes» at in
+        (r ≡ picked which (lookupNumbers answer))
+        × (which ≡ 0 → r ≡ 0 → (x : Option Rec) × (answer ≡ accepted x))
+        × ((x : Option Rec) → answer ≡ accepted x → Answers call at x)
+        × ((room : ℕ) (l : List Rec) → 0 < rank → listAt (now (file .entry)) address «offset_size» «length_size» grid «element_bytes» room ≡ accepted l
+        → isChunk grid at ≡ true → (x : Option Rec) × (r ≡ picked which (lookupNumbers (accepted x))) × Agrees l at x)) ⌝ }
 {
     let found = lookup_at(
         file,

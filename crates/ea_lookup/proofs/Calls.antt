@@ -89,8 +89,8 @@ module _ (c : Call) (corner : List ℕ) where
 
   -- the equation, and the theorems of it
   pub all-of : (found : Found) → c .header .«num_elements» ≤ largest64 → found ≡ foundOf (lookup c corner)
-      → (found ≡ foundOf (lookup c corner)) × (Answered (lookup c corner) c corner found × Agreed (list c) (c .grid) corner found)
-  all-of found fits e = (e, (answers, agrees))
+      → (found ≡ foundOf (lookup c corner)) × Answered (lookup c corner) c corner found × Agreed (list c) (c .grid) corner found
+  all-of found fits e = (e, answers, agrees)
     where
       answers : Answered (lookup c corner) c corner found
       answers x h = (e ∙ ap foundOf h, lookup-answers c corner x h)

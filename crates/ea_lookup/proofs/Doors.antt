@@ -93,10 +93,10 @@ module _ (f : List ℕ) (address o len : ℕ) (g : Grid) (n : ℕ) where
     pub all-at : (found : Found) → found ≡ foundOf (lookupAt f address o len g n corner)
         → (headerTest lookup3 f address o len ≡ Passed → Agreed (list (callAt f address o len g n)) g corner found)
         → (found ≡ foundOf (lookupAt f address o len g n corner))
-        × (Answered (lookupAt f address o len g n corner) (callAt f address o len g n) corner found
-        × ((room : ℕ) → Agreed (listAt f address o len g n room) g corner found))
+        × Answered (lookupAt f address o len g n corner) (callAt f address o len g n) corner found
+        × ((room : ℕ) → Agreed (listAt f address o len g n room) g corner found)
     unfolding listAt
-    all-at found e agreed = (e, (answers, agrees))
+    all-at found e agreed = (e, answers, agrees)
       where
         answers : Answered (lookupAt f address o len g n corner) (callAt f address o len g n) corner found
         answers x h = (e ∙ ap foundOf h, lookup-at-answers corner x h)

@@ -30,15 +30,12 @@ pub fn lookup_at(
     maximum: &[u8],
     corner: &[u8],
 ) -> Found
-    ensures found { λ r. ⌜ r ≡ foundOf (lookupAt (now (file .entry)) address «offset_size» «length_size»
-        (doorGrid order rank (now (chunk .entry)) (now (present .entry)) «has_maximum» (now (maximum .entry))) «element_bytes» (shapeOf rank (now (corner .entry)))) ⌝ }
-    ensures answers { λ r. ⌜ Answered (lookupAt (now (file .entry)) address «offset_size» «length_size»
-        (doorGrid order rank (now (chunk .entry)) (now (present .entry)) «has_maximum» (now (maximum .entry))) «element_bytes» (shapeOf rank (now (corner .entry))))
-        (callAt (now (file .entry)) address «offset_size» «length_size»
-        (doorGrid order rank (now (chunk .entry)) (now (present .entry)) «has_maximum» (now (maximum .entry))) «element_bytes») (shapeOf rank (now (corner .entry))) r ⌝ }
-    ensures agrees { λ r. ⌜ ((room : ℕ) → Agreed (listAt (now (file .entry)) address «offset_size» «length_size»
-        (doorGrid order rank (now (chunk .entry)) (now (present .entry)) «has_maximum» (now (maximum .entry))) «element_bytes» room)
-        (doorGrid order rank (now (chunk .entry)) (now (present .entry)) «has_maximum» (now (maximum .entry))) (shapeOf rank (now (corner .entry))) r) ⌝ }
+    ensures { λ r. ⌜ (let grid = doorGrid order rank (now (chunk .entry)) (now (present .entry)) «has_maximum» (now (maximum .entry)) in
+        let at = shapeOf rank (now (corner .entry)) in
+        let answer = lookupAt (now (file .entry)) address «offset_size» «length_size» grid «element_bytes» at in
+        (r ≡ foundOf answer)
+        × Answered answer (callAt (now (file .entry)) address «offset_size» «length_size» grid «element_bytes») at r
+        × ((room : ℕ) → Agreed (listAt (now (file .entry)) address «offset_size» «length_size» grid «element_bytes» room) grid at r)) ⌝ }
 {
     match ExtensibleArrayHeader::parse(file, address, offset_size, length_size) {
         Parsed::Header(header) => {

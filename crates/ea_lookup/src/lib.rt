@@ -47,10 +47,11 @@ pub fn lookup_chunk(
     offset_size: u64,
     corner: &[u64],
 ) -> Found
-    ensures found { λ r. ⌜ r ≡ foundOf (lookup (callOf (now (file .entry)) header «offset_size» (gridOf grid) «element_bytes») (now (corner .entry))) ⌝ }
-    ensures answers { λ r. ⌜ Answered (lookup (callOf (now (file .entry)) header «offset_size» (gridOf grid) «element_bytes») (now (corner .entry)))
-        (callOf (now (file .entry)) header «offset_size» (gridOf grid) «element_bytes») (now (corner .entry)) r ⌝ }
-    ensures agrees { λ r. ⌜ Agreed (list (callOf (now (file .entry)) header «offset_size» (gridOf grid) «element_bytes»)) (gridOf grid) (now (corner .entry)) r ⌝ }
+    ensures { λ r. ⌜ (let call = callOf (now (file .entry)) header «offset_size» (gridOf grid) «element_bytes» in
+        let answer = lookup call (now (corner .entry)) in
+        (r ≡ foundOf answer)
+        × Answered answer call (now (corner .entry)) r
+        × Agreed (list call) (gridOf grid) (now (corner .entry)) r) ⌝ }
 {
     let geometry = EaGeometry {
         header,

@@ -20,16 +20,8 @@ returns : tie.Need-returns
 returns c =
     let e = c .before .before .before .list-at .ensures in
     let a = c .before .before .before .before .before .before .before .before .before .before .args in
-    let number = c .list-number .ensures ∙ ap (λ (x : Counted). picked (a .which) (countedNumbers x)) (e .0) in (
-      number,
-      (
-        e .1 .0,
-        (
-          list-zero _ _ _ _ _ _ _ _ _ number,
-          λ n h. e .1 .1 n (e .0 ∙ h),
-        ),
-      ),
-    )
+    let number = c .list-number .ensures ∙ ap (λ (x : Counted). picked (a .which) (countedNumbers x)) (e .0) in
+    (number, list-zero _ _ _ _ _ _ _ _ _ number, e .1, λ n h. e .2 n (e .0 ∙ h))
 
 pub cellumaq-list-spec : {M : Type 1} → statement M
 cellumaq-list-spec = tie.close (tie.spec list-at-requires list-number-requires same-length returns)

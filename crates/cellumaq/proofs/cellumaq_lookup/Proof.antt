@@ -25,13 +25,9 @@ returns c =
     let of : Found → ℕ = λ x. picked (a .which) (foundNumbers x) in
     let number = c .found-number .ensures ∙ ap of (e .0) in (
       number,
-      (
-        lookup-zero _ _ _ _ _ _ _ _ _ number,
-        (
-          λ x h. e .1 .0 x h .1,
-          λ room l ranked h k. let d = e .1 .1 room l ranked h k in (d .0, c .found-number .ensures ∙ ap of (d .1), d .2),
-        ),
-      ),
+      lookup-zero _ _ _ _ _ _ _ _ _ number,
+      λ x h. e .1 x h .1,
+      λ room l ranked h k. let d = e .2 room l ranked h k in (d .0, c .found-number .ensures ∙ ap of (d .1), d .2),
     )
 
 pub cellumaq-lookup-spec : {M : Type 1} → statement M

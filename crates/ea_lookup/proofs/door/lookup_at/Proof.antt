@@ -102,7 +102,7 @@ returns-2 c =
     let x = c .lookup-chunk .ensures in
     let h = parsed d in
     all-at _ _ _ _ _ _ _ _ (x .0 ∙ call-found _ _ _ _ _ _ _ (h .0) _ (h .1) _ (grid-is n) _ (shape m .1))
-    (λ t. call-agrees _ _ _ _ _ _ _ t _ (h .1) _ (grid-is n) _ (shape m .1) _ (x .1 .1))
+    (λ t. call-agrees _ _ _ _ _ _ _ t _ (h .1) _ (grid-is n) _ (shape m .1) _ (x .2))
 
 returns-3 : tie.Need-returns-3
 returns-3 c =
