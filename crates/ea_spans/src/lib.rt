@@ -1,0 +1,7 @@
+// The spans of an index: the bytes of its own structures.
+
+// A structure's address and its bytes.
+pub struct Span {
+    pub address: u64,
+    pub length: u64,
+}
