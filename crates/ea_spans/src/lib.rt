@@ -1,5 +1,8 @@
 // The spans of an index: the bytes of its own structures.
 
+mod count;
+mod enter;
+
 // A structure's address and its bytes.
 pub struct Span {
     pub address: u64,
