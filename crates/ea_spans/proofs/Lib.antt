@@ -2,3 +2,4 @@ pub mod Tests
 pub mod Turns
 pub mod Counting
 pub mod Lengths
+pub mod Writing

@@ -19,9 +19,9 @@ use Rattle.ea_geometry.specs.Bounded.{Bounded}
 use Rattle.ea_geometry.specs.Extents.{indexExtent, superExtent}
 use Rattle.ea_geometry.proofs.Positions.{index-extent-few}
 use Rattle.ea_blocks.specs.Call.{Call}
-use Rattle.ea_blocks.specs.Structures.{indexAt, superAt}
+use Rattle.ea_blocks.specs.Structures.{indexAt, superAt, blockAt}
 use Rattle.ea_blocks.specs.Values.{Sees}
-use Rattle.ea_spans.specs.Spans.{spanTest, headerSpan, indexSpan, superSpan}
+use Rattle.ea_spans.specs.Spans.{spanTest, headerSpan, indexSpan, superSpan, blockLength, blockSpan}
 use Rattle.ea_spans.specs.Walk.{indexOf}
 
 module _ (s : Span) where
@@ -89,3 +89,8 @@ module _ (f : List ℕ) (g : EaGeometry) where
       → record { address = at; length = n } ≡ superSpan (callAt f g) u
   unfolding superSpan
   super-spanned u at n e q = rw (e, q) refl
+
+  pub block-spanned : (u k at n : ℕ) → at ≡ blockAt (callAt f g) u k → n ≡ blockLength (g .header) (g .«offset_size») u
+      → record { address = at; length = n } ≡ blockSpan (callAt f g) u k
+  unfolding blockSpan
+  block-spanned u k at n e q = rw (e, q) refl

@@ -1,4 +1,4 @@
 pub mod Spans
 pub mod Walk
 pub mod Listing
-pub mod Entered
+pub mod Values

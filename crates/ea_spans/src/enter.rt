@@ -12,7 +12,7 @@ ghost use Rattle.ea_spans.specs.Spans.{spanTest, headerSpan};
 ghost use Rattle.refusal.specs.declared.Checked.the-variants.{Refused};
 ghost use Rattle.ea_blocks.specs.Structures.{superAt};
 ghost use Rattle.ea_spans.specs.Walk.{indexOf, indexTest, superTest, headTest};
-ghost use Rattle.ea_spans.specs.Entered.{EnteredSpan};
+ghost use Rattle.ea_spans.specs.Values.{EnteredSpan};
 use crate::Span;
 use ea_blocks::enter::Entered;
 use ea_blocks::structures::Pointer;

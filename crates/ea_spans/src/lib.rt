@@ -2,6 +2,7 @@
 
 mod count;
 mod enter;
+mod write;
 
 // A structure's address and its bytes.
 pub struct Span {
