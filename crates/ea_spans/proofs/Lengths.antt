@@ -111,10 +111,26 @@ supers-length c zero u l h =
     rw (z, e) (omega arith)
 supers-length c (suc j) u l h = super-length c j u (supers-length c j (u + 1)) l h
 
-pub pointed-few : (c : Call) (n : ℕ) → Served (c .header) → Count n ≡ countedOf (supersFrom c (superBlocks (c .header)) 0) → n < 2 ^ 34
-pointed-few c n v h =
-    let i = counted-is _ n h in
-    let a = supers-length c (superBlocks (c .header)) 0 (i .0) (i .1) in
+-- so they are few
+pointed-length : (c : Call) (l : List Span) → Served (c .header) → supersFrom c (superBlocks (c .header)) 0 ≡ accepted l → length l < 2 ^ 34
+pointed-length c l v h =
+    let a = supers-length c (superBlocks (c .header)) 0 l h in
     let z : 0 + superBlocks (c .header) ≡ superBlocks (c .header) = omega arith in
     let b = rw z at a in
-    omega (arith, b, i .2, blocks-before-few (c .header) v (superBlocks (c .header)) (omega arith), supers-few (c .header) v)
+    omega (arith, b, blocks-before-few (c .header) v (superBlocks (c .header)) (omega arith), supers-few (c .header) v)
+
+index-length : (c : Call) (l : List Span) → Served (c .header) → indexSpans c ≡ accepted l → length l < 2 ^ 35
+unfolding indexSpans
+index-length c l v h =
+    by-cond (λ (a : Spanning). a ≡ accepted l → length l < 2 ^ 35) (undefined (c .offsetSize) (indexAt c))
+    (λ t e. let z : l ≡ [] = cc in omega (arith, ap length z))
+    (λ t e.
+    let y = yields-inv _ _ l e in
+    let o = also-inv _ _ l (y .1) in
+    omega (arith, ap length (o .2), pointed-length c (o .0) v (o .1))) h
+
+pub pointed-few : (c : Call) (n : ℕ) → Served (c .header) → Count n ≡ countedOf (supersFrom c (superBlocks (c .header)) 0) → n < 2 ^ 34
+pointed-few c n v h = let i = counted-is _ n h in omega (arith, i .2, pointed-length c (i .0) v (i .1))
+
+pub index-few : (c : Call) (n : ℕ) → Served (c .header) → Count n ≡ countedOf (indexSpans c) → n < 2 ^ 35
+index-few c n v h = let i = counted-is _ n h in omega (arith, i .2, index-length c (i .0) v (i .1))

@@ -3,3 +3,4 @@ pub mod Turns
 pub mod Counting
 pub mod Lengths
 pub mod Writing
+pub mod Listing

@@ -40,7 +40,7 @@ pub going-whole : (a : Spanning) (n : ℕ) (addresses lengths : List ℕ) → Ro
     → Going a n addresses lengths (filled addressOf a n addresses) (filled lengthOf a n lengths)
 going-whole a n addresses lengths r = record { room = r; first = refl; second = refl }
 
-filled-also : (part : Span → ℕ) (s : Span) (a : Spanning) (n : ℕ) (out : List ℕ) (l : List Span) → a ≡ accepted l
+pub filled-also : (part : Span → ℕ) (s : Span) (a : Spanning) (n : ℕ) (out : List ℕ) (l : List Span) → a ≡ accepted l
     → filled part a (n + 1) (set out n (part s)) ≡ filled part (also s a) n out
 unfolding filled also each
 filled-also part s a n out l e = rw (e, add-one n) refl

@@ -9,7 +9,7 @@ use Rattle.refusal.specs.Outcome.{refused, accepted, _yields_}
 use Rattle.ea_blocks.specs.declared.Counted.{Counted}
 use Rattle.ea_blocks.specs.declared.Counted.the-variants.{Count, Refused as CountedRefused}
 use Rattle.ea_spans.specs.declared.Span.{Span}
-use Rattle.ea_spans.specs.Walk.{Spanning}
+use Rattle.ea_spans.specs.Walk.{Spanning, spans}
 
 -- the number of spans, or the refusal
 unfoldable pub countedOf : Spanning → Counted
@@ -24,6 +24,9 @@ inRoom (accepted l) room = refuse 9 (length l) 0 (ltb room (length l)) yields ac
 -- Two lists hold as many spans as the shorter of them.
 abbrev pub roomOf : List ℕ → List ℕ → ℕ
 roomOf addresses lengths = min (length addresses) (length lengths)
+
+unfoldable pub spansInto : List ℕ → ℕ → ℕ → ℕ → List ℕ → List ℕ → Spanning
+spansInto f address o l addresses lengths = inRoom (spans f address o l) (roomOf addresses lengths)
 
 -- the addresses or the lengths of spans
 unfoldable pub each : (Span → ℕ) → List Span → List ℕ
