@@ -4,3 +4,5 @@ pub mod Counting
 pub mod Lengths
 pub mod Writing
 pub mod Listing
+pub mod Members
+pub mod Covering

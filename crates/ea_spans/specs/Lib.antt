@@ -2,3 +2,4 @@ pub mod Spans
 pub mod Walk
 pub mod Listing
 pub mod Values
+pub mod Covered
