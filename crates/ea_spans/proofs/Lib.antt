@@ -6,3 +6,4 @@ pub mod Writing
 pub mod Listing
 pub mod Members
 pub mod Covering
+pub mod Storing

@@ -3,3 +3,4 @@ pub mod Walk
 pub mod Listing
 pub mod Values
 pub mod Covered
+pub mod Stored

@@ -19,6 +19,7 @@ use refusal::Refusal;
 
 mod count;
 mod enter;
+pub mod records;
 mod write;
 
 // A structure's address and its bytes.
