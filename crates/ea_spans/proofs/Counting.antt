@@ -31,8 +31,8 @@ use Rattle.ea_spans.specs.declared.Span.{Span}
 use Rattle.ea_spans.specs.Spans.{superSpan, blockSpan}
 use Rattle.ea_spans.specs.Walk.{Spanning, also, superTest, blocksFrom, supersFrom}
 use Rattle.ea_spans.specs.Listing.{countedOf}
-use Rattle.ea_spans.specs.Values.{EnteredSpan}
-use Rattle.ea_spans.proofs.Tests.{callAt, seen}
+use Rattle.ea_spans.specs.Values.{callAt, EnteredSpan}
+use Rattle.ea_spans.proofs.Tests.{seen}
 use Rattle.ea_spans.proofs.Turns.{behindSuper, supers-none, supers-direct, supers-undefined, supers-refused, supers-tested, blocks-none, blocks-undefined, blocks-defined}
 
 -- what is counted so far, and what is left

@@ -24,8 +24,8 @@ use Rattle.ea_blocks.specs.declared.Counted.the-variants.{Refused as CountedRef
 use Rattle.ea_spans.specs.declared.Span.{Span}
 use Rattle.ea_spans.specs.Spans.{headerSpan}
 use Rattle.ea_spans.specs.Walk.{Spanning, also, indexSpans, headTest, spans}
+use Rattle.ea_spans.specs.Values.{callAt}
 use Rattle.ea_spans.specs.Listing.{countedOf, inRoom, filled, addressOf, lengthOf}
-use Rattle.ea_spans.proofs.Tests.{callAt}
 
 -- what is answered, and what two lists are then
 abbrev pub Answers : Spanning → Counted → List ℕ → List ℕ → List ℕ → List ℕ → Type 0

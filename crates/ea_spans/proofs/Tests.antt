@@ -22,6 +22,7 @@ use Rattle.ea_blocks.specs.Call.{Call}
 use Rattle.ea_blocks.specs.Structures.{indexAt, superAt, blockAt}
 use Rattle.ea_blocks.specs.Values.{Sees}
 use Rattle.ea_spans.specs.Spans.{spanTest, headerSpan, indexSpan, superSpan, blockLength, blockSpan}
+use Rattle.ea_spans.specs.Values.{callAt}
 use Rattle.ea_spans.specs.Walk.{indexOf}
 
 module _ (s : Span) where
@@ -67,10 +68,6 @@ pub refused-is : (t : Checked) (h : ExtensibleArrayHeader) (r : Refusal) → Par
 unfolding parsedAfter
 refused-is Passed h r e = let z : _≡_ {A = ℕ} 0 1 = cc in absurd (omega arith)
 refused-is (Refused q) h r e = let z : r ≡ q = cc in ap Refused z
-
--- the call that a file and a geometry stand for
-abbrev pub callAt : List ℕ → EaGeometry → Call
-callAt f g = indexOf f (g .header) (g .«offset_size»)
 
 module _ (f : List ℕ) (g : EaGeometry) where
   pub seen : Sees (callAt f g) f g

@@ -7,6 +7,7 @@ use mathlib.Core.Logic.{_⊎_}
 use lib.ListN.{length}
 use Rattle.refusal.specs.declared.Checked.the-variants.{Passed, Refused}
 use Rattle.refusal.specs.Outcome.{accepted}
+use Rattle.ea_geometry.specs.declared.EaGeometry.{EaGeometry}
 use Rattle.ea_blocks.specs.declared.enter.Entered.{Entered}
 use Rattle.ea_blocks.specs.declared.enter.Entered.the-variants.{Absent, At, Refused as EnteredRefused}
 use Rattle.ea_blocks.specs.declared.structures.Pointer.{Pointer}
@@ -14,7 +15,11 @@ use Rattle.ea_blocks.specs.declared.structures.Pointer.the-variants.{Undefined,
 use Rattle.ea_blocks.specs.Call.{Call}
 use Rattle.ea_blocks.specs.Structures.{isDirect, superAt, superUndefined}
 use Rattle.ea_spans.specs.declared.Span.{Span}
-use Rattle.ea_spans.specs.Walk.{Spanning, superTest}
+use Rattle.ea_spans.specs.Walk.{Spanning, superTest, indexOf}
+
+-- the call that a file and a geometry stand for
+abbrev pub callAt : List ℕ → EaGeometry → Call
+callAt f g = indexOf f (g .header) (g .«offset_size»)
 
 -- Super block u: its pointer is undefined, it has passed 31 and its test (or the index block names its data blocks, and nothing is said
 -- of the position), or it is refused.

@@ -7,7 +7,8 @@ ghost use Rattle.fields.specs.Fields.{isWidth, undefined};
 ghost use Rattle.ea_geometry.specs.Bounded.{Bounded};
 ghost use Rattle.ea_geometry.specs.Sizes.{superBlocks};
 ghost use Rattle.ea_geometry.specs.Extents.{indexExtent};
-ghost use Rattle.ea_spans.specs.Walk.{indexOf, supersFrom, indexSpans};
+ghost use Rattle.ea_spans.specs.Walk.{supersFrom, indexSpans};
+ghost use Rattle.ea_spans.specs.Values.{callAt};
 ghost use Rattle.ea_spans.specs.Listing.{countedOf};
 use crate::enter::enter_super;
 use crate::enter::test_index;
@@ -23,7 +24,7 @@ use refusal::Checked;
 // Tests the index block and what it leads to, and counts the spans behind the header's.
 pub fn count_index(file: &[u8], geometry: EaGeometry) -> Counted
     requires { ⌜ Bounded geometry × (isWidth (geometry .«offset_size») ≡ true) ⌝ }
-    ensures { λ r. ⌜ r ≡ countedOf (indexSpans (indexOf (now (file .entry)) (geometry .header) (geometry .«offset_size»))) ⌝ }
+    ensures { λ r. ⌜ r ≡ countedOf (indexSpans (callAt (now (file .entry)) geometry)) ⌝ }
 {
     if index_undefined(geometry) {
         return Counted::Count(0);
@@ -52,7 +53,7 @@ pub fn index_undefined(geometry: EaGeometry) -> bool
 fn count_pointed(file: &[u8], geometry: EaGeometry) -> Counted
     requires { ⌜ Bounded geometry × (isWidth (geometry .«offset_size») ≡ true)
         × (geometry .header .«index_block_address» + indexExtent (geometry .header) (geometry .«offset_size») ≤ length (now file)) ⌝ }
-    ensures { λ r. ⌜ r ≡ countedOf (supersFrom (indexOf (now (file .entry)) (geometry .header) (geometry .«offset_size»)) (superBlocks (geometry .header)) 0) ⌝ }
+    ensures { λ r. ⌜ r ≡ countedOf (supersFrom (callAt (now (file .entry)) geometry) (superBlocks (geometry .header)) 0) ⌝ }
 {
     let supers = geometry.super_blocks();
     let directs = geometry.direct_super_blocks();

@@ -11,8 +11,8 @@ ghost use Rattle.ea_geometry.specs.Extents.{indexExtent};
 ghost use Rattle.ea_spans.specs.Spans.{spanTest, headerSpan};
 ghost use Rattle.refusal.specs.declared.Checked.the-variants.{Refused};
 ghost use Rattle.ea_blocks.specs.Structures.{superAt};
-ghost use Rattle.ea_spans.specs.Walk.{indexOf, indexTest, superTest, headTest};
-ghost use Rattle.ea_spans.specs.Values.{EnteredSpan};
+ghost use Rattle.ea_spans.specs.Walk.{indexTest, superTest, headTest};
+ghost use Rattle.ea_spans.specs.Values.{callAt, EnteredSpan};
 use crate::Span;
 use ea_blocks::enter::Entered;
 use ea_blocks::structures::Pointer;
@@ -65,7 +65,8 @@ fn test_header_span(address: u64, offset_size: u64, length_size: u64) -> Checked
 
 // Reads the header at an address: 31, then its own refusals, then 27.
 pub fn parse_served(file: &[u8], address: u64, offset_size: u64, length_size: u64) -> Parsed
-    ensures { λ r. ⌜ r ≡ parsedAfter (headTest (now (file .entry)) address «offset_size» «length_size») (headerAt (now (file .entry)) address «offset_size» «length_size») ⌝ }
+    ensures { λ r. ⌜ r ≡ parsedAfter (headTest (now (file .entry)) address «offset_size» «length_size»)
+        (headerAt (now (file .entry)) address «offset_size» «length_size») ⌝ }
 {
     if let Checked::Refused(r) = test_header_span(address, offset_size, length_size) {
         return Parsed::Refused(r);
@@ -82,7 +83,7 @@ pub fn parse_served(file: &[u8], address: u64, offset_size: u64, length_size: u6
 // Tests the index block: 31, then 20, 23, 26.
 pub fn test_index(file: &[u8], geometry: EaGeometry) -> Checked
     requires { ⌜ Bounded geometry ⌝ }
-    ensures { λ r. ⌜ r ≡ indexTest (indexOf (now (file .entry)) (geometry .header) (geometry .«offset_size»)) ⌝ }
+    ensures { λ r. ⌜ r ≡ indexTest (callAt (now (file .entry)) geometry) ⌝ }
 {
     let spanned = test_span(Span {
         address: geometry.header.index_block_address,
@@ -98,7 +99,7 @@ pub fn test_index(file: &[u8], geometry: EaGeometry) -> Checked
 pub fn enter_super(file: &[u8], geometry: EaGeometry, u: u64) -> Entered
     requires { ⌜ (u < superBlocks (geometry .header)) × Bounded geometry × (isWidth (geometry .«offset_size») ≡ true)
         × (geometry .header .«index_block_address» + indexExtent (geometry .header) (geometry .«offset_size») ≤ length (now file)) ⌝ }
-    ensures { λ r. ⌜ EnteredSpan (indexOf (now (file .entry)) (geometry .header) (geometry .«offset_size»)) u r ⌝ }
+    ensures { λ r. ⌜ EnteredSpan (callAt (now (file .entry)) geometry) u r ⌝ }
 {
     if u < geometry.direct_super_blocks() {
         return Entered::At(0);
@@ -115,8 +116,8 @@ pub fn enter_super(file: &[u8], geometry: EaGeometry, u: u64) -> Entered
 // Tests super block u, which lies at `at`.
 fn test_super(file: &[u8], geometry: EaGeometry, u: u64, at: u64) -> Checked
     requires { ⌜ (u < superBlocks (geometry .header)) × Bounded geometry ⌝ }
-    ensures { λ r. ⌜ (at ≡ superAt (indexOf (now (file .entry)) (geometry .header) (geometry .«offset_size»)) u
-        → r ≡ superTest (indexOf (now (file .entry)) (geometry .header) (geometry .«offset_size»)) u) ⌝ }
+    ensures { λ r. ⌜ (at ≡ superAt (callAt (now (file .entry)) geometry) u
+        → r ≡ superTest (callAt (now (file .entry)) geometry) u) ⌝ }
 {
     let spanned = test_span(Span {
         address: at,

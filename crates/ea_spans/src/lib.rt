@@ -5,7 +5,8 @@ ghost use mathlib.Core.Bool.{true};
 ghost use Rattle.fields.specs.Fields.{isWidth};
 ghost use Rattle.ea_geometry.specs.Bounded.{Bounded};
 ghost use Rattle.ea_blocks.specs.declared.Counted.the-variants.{Refused};
-ghost use Rattle.ea_spans.specs.Walk.{indexOf, also, indexSpans};
+ghost use Rattle.ea_spans.specs.Walk.{also, indexSpans};
+ghost use Rattle.ea_spans.specs.Values.{callAt};
 ghost use Rattle.ea_spans.specs.Listing.{countedOf, inRoom, roomOf, spansInto, filled, addressOf, lengthOf};
 use crate::count::count_index;
 use crate::enter::parse_served;
@@ -38,11 +39,14 @@ pub fn extensible_array_index_spans(
     addresses: &mut [u64],
     lengths: &mut [u64],
 ) -> Counted
-    ensures answer { λ r. ⌜ r ≡ countedOf (spansInto (now (file .entry)) address «offset_size» «length_size» (now (addresses .entry)) (now (lengths .entry))) ⌝ }
+    ensures answer { λ r. ⌜ r ≡ countedOf (spansInto (now (file .entry)) address «offset_size» «length_size»
+        (now (addresses .entry)) (now (lengths .entry))) ⌝ }
     ensures first { λ _. ⌜ now (addresses .exit)
-        ≡ filled addressOf (spansInto (now (file .entry)) address «offset_size» «length_size» (now (addresses .entry)) (now (lengths .entry))) 0 (now (addresses .entry)) ⌝ }
+        ≡ filled addressOf (spansInto (now (file .entry)) address «offset_size» «length_size»
+        (now (addresses .entry)) (now (lengths .entry))) 0 (now (addresses .entry)) ⌝ }
     ensures second { λ _. ⌜ now (lengths .exit)
-        ≡ filled lengthOf (spansInto (now (file .entry)) address «offset_size» «length_size» (now (addresses .entry)) (now (lengths .entry))) 0 (now (lengths .entry)) ⌝ }
+        ≡ filled lengthOf (spansInto (now (file .entry)) address «offset_size» «length_size»
+        (now (addresses .entry)) (now (lengths .entry))) 0 (now (lengths .entry)) ⌝ }
 {
     match parse_served(file, address, offset_size, length_size) {
         Parsed::Refused(r) => Counted::Refused(r),
@@ -63,11 +67,14 @@ fn list_spans(
     lengths: &mut [u64],
 ) -> Counted
     requires { ⌜ Bounded geometry × (isWidth (geometry .«offset_size») ≡ true) ⌝ }
-    ensures answer { λ r. ⌜ r ≡ countedOf (inRoom (also header (indexSpans (indexOf (now (file .entry)) (geometry .header) (geometry .«offset_size»)))) (roomOf (now (addresses .entry)) (now (lengths .entry)))) ⌝ }
+    ensures answer { λ r. ⌜ r ≡ countedOf (inRoom (also header (indexSpans (callAt (now (file .entry)) geometry)))
+        (roomOf (now (addresses .entry)) (now (lengths .entry)))) ⌝ }
     ensures first { λ _. ⌜ now (addresses .exit)
-        ≡ filled addressOf (inRoom (also header (indexSpans (indexOf (now (file .entry)) (geometry .header) (geometry .«offset_size»)))) (roomOf (now (addresses .entry)) (now (lengths .entry)))) 0 (now (addresses .entry)) ⌝ }
+        ≡ filled addressOf (inRoom (also header (indexSpans (callAt (now (file .entry)) geometry)))
+        (roomOf (now (addresses .entry)) (now (lengths .entry)))) 0 (now (addresses .entry)) ⌝ }
     ensures second { λ _. ⌜ now (lengths .exit)
-        ≡ filled lengthOf (inRoom (also header (indexSpans (indexOf (now (file .entry)) (geometry .header) (geometry .«offset_size»)))) (roomOf (now (addresses .entry)) (now (lengths .entry)))) 0 (now (lengths .entry)) ⌝ }
+        ≡ filled lengthOf (inRoom (also header (indexSpans (callAt (now (file .entry)) geometry)))
+        (roomOf (now (addresses .entry)) (now (lengths .entry)))) 0 (now (lengths .entry)) ⌝ }
 {
     let needed = match count_index(file, geometry) {
         Counted::Count(n) => n + 1,

@@ -10,9 +10,9 @@ ghost use Rattle.ea_geometry.specs.Bounded.{Bounded};
 ghost use Rattle.ea_geometry.specs.Sizes.{superBlocks};
 ghost use Rattle.ea_geometry.specs.Extents.{indexExtent};
 ghost use Rattle.ea_spans.specs.Spans.{blockLength};
-ghost use Rattle.ea_spans.specs.Walk.{indexOf, supersFrom, indexSpans};
+ghost use Rattle.ea_spans.specs.Walk.{supersFrom, indexSpans};
 ghost use Rattle.ea_spans.specs.Listing.{filled, addressOf, lengthOf};
-ghost use Rattle.ea_spans.specs.Values.{FoundSuper, Room};
+ghost use Rattle.ea_spans.specs.Values.{callAt, FoundSuper, Room};
 use crate::Span;
 use crate::count::index_undefined;
 use ea_blocks::structures::Pointer;
@@ -33,11 +33,11 @@ pub fn put_span(addresses: &mut [u64], lengths: &mut [u64], i: usize, span: Span
 // Writes the spans behind the header's, from number 1 on.
 pub fn write_index(file: &[u8], geometry: EaGeometry, addresses: &mut [u64], lengths: &mut [u64])
     requires { ⌜ Bounded geometry × (isWidth (geometry .«offset_size») ≡ true)
-        × Room (indexSpans (indexOf (now file) (geometry .header) (geometry .«offset_size»))) 1 (now addresses) (now lengths) ⌝ }
+        × Room (indexSpans (callAt (now file) geometry)) 1 (now addresses) (now lengths) ⌝ }
     ensures first { λ _. ⌜ now (addresses .exit)
-        ≡ filled addressOf (indexSpans (indexOf (now (file .entry)) (geometry .header) (geometry .«offset_size»))) 1 (now (addresses .entry)) ⌝ }
+        ≡ filled addressOf (indexSpans (callAt (now (file .entry)) geometry)) 1 (now (addresses .entry)) ⌝ }
     ensures second { λ _. ⌜ now (lengths .exit)
-        ≡ filled lengthOf (indexSpans (indexOf (now (file .entry)) (geometry .header) (geometry .«offset_size»))) 1 (now (lengths .entry)) ⌝ }
+        ≡ filled lengthOf (indexSpans (callAt (now (file .entry)) geometry)) 1 (now (lengths .entry)) ⌝ }
 {
     if index_undefined(geometry) {
         return;
@@ -54,11 +54,11 @@ pub fn write_index(file: &[u8], geometry: EaGeometry, addresses: &mut [u64], len
 fn write_pointed(file: &[u8], geometry: EaGeometry, addresses: &mut [u64], lengths: &mut [u64])
     requires { ⌜ Bounded geometry × (isWidth (geometry .«offset_size») ≡ true)
         × (geometry .header .«index_block_address» + indexExtent (geometry .header) (geometry .«offset_size») ≤ length (now file))
-        × Room (supersFrom (indexOf (now file) (geometry .header) (geometry .«offset_size»)) (superBlocks (geometry .header)) 0) 2 (now addresses) (now lengths) ⌝ }
+        × Room (supersFrom (callAt (now file) geometry) (superBlocks (geometry .header)) 0) 2 (now addresses) (now lengths) ⌝ }
     ensures first { λ _. ⌜ now (addresses .exit)
-        ≡ filled addressOf (supersFrom (indexOf (now (file .entry)) (geometry .header) (geometry .«offset_size»)) (superBlocks (geometry .header)) 0) 2 (now (addresses .entry)) ⌝ }
+        ≡ filled addressOf (supersFrom (callAt (now (file .entry)) geometry) (superBlocks (geometry .header)) 0) 2 (now (addresses .entry)) ⌝ }
     ensures second { λ _. ⌜ now (lengths .exit)
-        ≡ filled lengthOf (supersFrom (indexOf (now (file .entry)) (geometry .header) (geometry .«offset_size»)) (superBlocks (geometry .header)) 0) 2 (now (lengths .entry)) ⌝ }
+        ≡ filled lengthOf (supersFrom (callAt (now (file .entry)) geometry) (superBlocks (geometry .header)) 0) 2 (now (lengths .entry)) ⌝ }
 {
     let supers = geometry.super_blocks();
     let directs = geometry.direct_super_blocks();
@@ -99,7 +99,7 @@ fn write_pointed(file: &[u8], geometry: EaGeometry, addresses: &mut [u64], lengt
 fn find_super(file: &[u8], geometry: EaGeometry, u: u64) -> Pointer
     requires { ⌜ (u < superBlocks (geometry .header)) × Bounded geometry × (isWidth (geometry .«offset_size») ≡ true)
         × (geometry .header .«index_block_address» + indexExtent (geometry .header) (geometry .«offset_size») ≤ length (now file)) ⌝ }
-    ensures { λ r. ⌜ FoundSuper (indexOf (now (file .entry)) (geometry .header) (geometry .«offset_size»)) u r ⌝ }
+    ensures { λ r. ⌜ FoundSuper (callAt (now (file .entry)) geometry) u r ⌝ }
 {
     if u < geometry.direct_super_blocks() {
         return Pointer::At(0);

@@ -17,11 +17,14 @@ pub extern "C" fn cellumaq_test_spans(
     lengths: &mut [u64],
     which: u64,
 ) -> u64
-    ensures number { λ r. ⌜ r ≡ picked which (countedOf (spansInto (now (file .entry)) address «offset_size» «length_size» (now (addresses .entry)) (now (lengths .entry)))) ⌝ }
+    ensures number { λ r. ⌜ r ≡ picked which (countedOf (spansInto (now (file .entry)) address «offset_size» «length_size»
+        (now (addresses .entry)) (now (lengths .entry)))) ⌝ }
     ensures first { λ _. ⌜ now (addresses .exit)
-        ≡ filled addressOf (spansInto (now (file .entry)) address «offset_size» «length_size» (now (addresses .entry)) (now (lengths .entry))) 0 (now (addresses .entry)) ⌝ }
+        ≡ filled addressOf (spansInto (now (file .entry)) address «offset_size» «length_size»
+        (now (addresses .entry)) (now (lengths .entry))) 0 (now (addresses .entry)) ⌝ }
     ensures second { λ _. ⌜ now (lengths .exit)
-        ≡ filled lengthOf (spansInto (now (file .entry)) address «offset_size» «length_size» (now (addresses .entry)) (now (lengths .entry))) 0 (now (lengths .entry)) ⌝ }
+        ≡ filled lengthOf (spansInto (now (file .entry)) address «offset_size» «length_size»
+        (now (addresses .entry)) (now (lengths .entry))) 0 (now (lengths .entry)) ⌝ }
 {
     let counted = extensible_array_index_spans(
         file,

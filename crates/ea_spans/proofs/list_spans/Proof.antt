@@ -9,12 +9,12 @@ use Rattle.ea_blocks.specs.declared.Counted.the-variants.{Count}
 use Rattle.ea_spans.specs.declared.Span.{Span}
 use Rattle.ea_spans.specs.Walk.{Spanning, also, indexSpans}
 use Rattle.ea_spans.specs.Listing.{countedOf, inRoom, roomOf, filled, addressOf, lengthOf}
-use Rattle.ea_spans.proofs.Tests.{callAt}
 use Rattle.ea_spans.proofs.Lengths.{counted-is, refused-is, counted-more, refused-more, index-few}
 use Rattle.ea_spans.proofs.Writing.{Going, going-whole, going-put}
 use Rattle.ea_spans.proofs.Listing.{answers-refused, room-refused, room-small, room-fits}
 use borrow.Author.Needs.{needs}
 use Rattle.ea_spans.proofs.list_spans.Statement.{statement}
+use Rattle.ea_spans.specs.Values.{callAt}
 use Rattle.ea_spans.proofs.list_spans.Tie as tie
 
 count-index-requires : tie.Need-count-index-requires

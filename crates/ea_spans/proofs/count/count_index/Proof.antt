@@ -9,10 +9,11 @@ use Rattle.ea_blocks.specs.Structures.{indexAt}
 use Rattle.ea_blocks.proofs.StructureTests.{index-seen}
 use Rattle.ea_spans.specs.Walk.{indexTest}
 use Rattle.ea_spans.specs.Listing.{countedOf}
-use Rattle.ea_spans.proofs.Tests.{callAt, seen}
+use Rattle.ea_spans.proofs.Tests.{seen}
 use Rattle.ea_spans.proofs.Lengths.{counted-more, refused-more, index-none, index-refused, index-tested, pointed-few}
 use borrow.Author.Needs.{needs}
 use Rattle.ea_spans.proofs.count.count_index.Statement.{statement}
+use Rattle.ea_spans.specs.Values.{callAt}
 use Rattle.ea_spans.proofs.count.count_index.Tie as tie
 
 index-undefined-requires : tie.Need-index-undefined-requires

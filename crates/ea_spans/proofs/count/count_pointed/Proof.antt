@@ -15,8 +15,8 @@ use Rattle.ea_geometry.proofs.Counts.{supers-few}
 use Rattle.ea_blocks.specs.declared.enter.Entered.{Entered}
 use Rattle.ea_blocks.proofs.StructureTests.{is-direct, not-direct}
 use Rattle.ea_blocks.proofs.Pointers.{pointer-undefined, pointer-at}
-use Rattle.ea_spans.specs.Values.{EnteredSpan}
-use Rattle.ea_spans.proofs.Tests.{callAt, seen}
+use Rattle.ea_spans.specs.Values.{callAt, EnteredSpan}
+use Rattle.ea_spans.proofs.Tests.{seen}
 use Rattle.ea_spans.proofs.Counting.{Fixed, AtSuper, AtBlock, Done, answered, few-enough, entered-at, entered-room, at-first, supers-done, super-skip, super-refused, super-named, super-in, blocks-done, block-skip, block-counted}
 use Rattle.ea_spans.proofs.count.count_pointed.Statement.{statement}
 use Rattle.ea_spans.proofs.count.count_pointed.Tie as tie

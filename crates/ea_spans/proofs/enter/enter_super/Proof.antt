@@ -7,9 +7,10 @@ use Rattle.ea_blocks.specs.Structures.{isDirect, superAt, superUndefined}
 use Rattle.ea_blocks.proofs.StructureTests.{is-direct, not-direct}
 use Rattle.ea_blocks.proofs.Pointers.{pointer-undefined, pointer-at}
 use Rattle.ea_spans.specs.Walk.{superTest}
-use Rattle.ea_spans.proofs.Tests.{callAt, seen}
+use Rattle.ea_spans.proofs.Tests.{seen}
 use borrow.Author.Needs.{needs}
 use Rattle.ea_spans.proofs.enter.enter_super.Statement.{statement}
+use Rattle.ea_spans.specs.Values.{callAt}
 use Rattle.ea_spans.proofs.enter.enter_super.Tie as tie
 
 direct-super-blocks-requires : tie.Need-direct-super-blocks-requires

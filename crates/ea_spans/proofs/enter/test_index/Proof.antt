@@ -4,9 +4,10 @@ use native.Mathlib.Omega.{arith}
 use Rattle.refusal.proofs.Tests.{then-second, then-first}
 use Rattle.ea_spans.specs.Spans.{spanTest, indexSpan}
 use Rattle.ea_spans.specs.Walk.{indexTest}
-use Rattle.ea_spans.proofs.Tests.{callAt, seen, index-spanned}
+use Rattle.ea_spans.proofs.Tests.{seen, index-spanned}
 use borrow.Author.Needs.{needs}
 use Rattle.ea_spans.proofs.enter.test_index.Statement.{statement}
+use Rattle.ea_spans.specs.Values.{callAt}
 use Rattle.ea_spans.proofs.enter.test_index.Tie as tie
 
 index-extent-requires : tie.Need-index-extent-requires

@@ -4,9 +4,10 @@ use Rattle.refusal.proofs.Tests.{then-second, then-first}
 use Rattle.ea_blocks.specs.Structures.{superAt}
 use Rattle.ea_spans.specs.Spans.{spanTest, superSpan}
 use Rattle.ea_spans.specs.Walk.{superTest}
-use Rattle.ea_spans.proofs.Tests.{callAt, seen, super-spanned}
+use Rattle.ea_spans.proofs.Tests.{seen, super-spanned}
 use borrow.Author.Needs.{needs}
 use Rattle.ea_spans.proofs.enter.test_super.Statement.{statement}
+use Rattle.ea_spans.specs.Values.{callAt}
 use Rattle.ea_spans.proofs.enter.test_super.Tie as tie
 
 super-extent-requires : tie.Need-super-extent-requires

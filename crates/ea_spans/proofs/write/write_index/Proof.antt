@@ -10,11 +10,12 @@ use Rattle.ea_blocks.specs.Structures.{indexAt}
 use Rattle.ea_blocks.proofs.StructureTests.{index-seen}
 use Rattle.ea_spans.specs.Walk.{also, indexTest, supersFrom, indexSpans}
 use Rattle.ea_spans.specs.Listing.{filled, addressOf, lengthOf}
-use Rattle.ea_spans.proofs.Tests.{callAt, seen, index-spanned}
+use Rattle.ea_spans.proofs.Tests.{seen, index-spanned}
 use Rattle.ea_spans.proofs.Lengths.{index-none, index-tested}
 use Rattle.ea_spans.proofs.Writing.{Going, going-whole, going-as, going-span, going-fits, going-put, filled-none, index-passed}
 use borrow.Author.Needs.{needs}
 use Rattle.ea_spans.proofs.write.write_index.Statement.{statement}
+use Rattle.ea_spans.specs.Values.{callAt}
 use Rattle.ea_spans.proofs.write.write_index.Tie as tie
 
 index-undefined-requires : tie.Need-index-undefined-requires

@@ -19,8 +19,8 @@ use Rattle.ea_blocks.proofs.Pointers.{pointer-undefined, pointer-at}
 use Rattle.ea_spans.specs.Spans.{blockLength}
 use Rattle.ea_spans.specs.Walk.{Spanning, also, supersFrom}
 use Rattle.ea_spans.specs.Listing.{filled, addressOf, lengthOf}
-use Rattle.ea_spans.specs.Values.{EnteredSpan, FoundSuper}
-use Rattle.ea_spans.proofs.Tests.{callAt, seen, super-spanned, block-spanned}
+use Rattle.ea_spans.specs.Values.{callAt, EnteredSpan, FoundSuper}
+use Rattle.ea_spans.proofs.Tests.{seen, super-spanned, block-spanned}
 use Rattle.ea_spans.proofs.Counting.{Fixed, entered-at, entered-room}
 use Rattle.ea_spans.proofs.Writing.{Going, supersLeft, blocksLeft, going-whole, going-span, going-to, going-fits, going-put, going-lengths, going-entered, going-skip, going-named, going-super, going-undefined, going-block, going-behind, going-done, going-first}
 use Rattle.ea_spans.proofs.write.write_pointed.Statement.{statement}
