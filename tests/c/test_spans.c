@@ -128,8 +128,31 @@ static void answers_of_the_rust(void)
     fclose(answers);
 }
 
+/* Header sizes as given: 16 + 6L + O bytes, and their sum with the address is exact. 31 begins where it is past 2^64 - 1, then 20. */
+static void sizes_as_given(void)
+{
+    static const struct {
+        uint64_t offset_size, length_size, address, numbers[3];
+    } cases[] = {
+        {UINT64_MAX - 16, 0, 0, {20, UINT64_MAX, 0}},
+        {UINT64_MAX - 15, 0, 0, {31, 0, UINT64_MAX}},
+        {UINT64_MAX - 16, 0, 1, {31, 1, UINT64_MAX}},
+        {UINT64_MAX, UINT64_MAX, 0, {31, 0, UINT64_MAX}},
+        {0, UINT64_MAX / 6, 0, {31, 0, UINT64_MAX}},
+        {3, 3, 0, {20, 37, 0}},
+    };
+
+    for (size_t i = 0; i < sizeof cases / sizeof *cases; i++)
+        for (uint64_t which = 0; which < 3; which++) {
+            uint64_t number = cellumaq_test_spans(NULL, 0, cases[i].offset_size, cases[i].length_size, cases[i].address, NULL, 0, NULL, 0, which);
+
+            CHECK(number == cases[i].numbers[which], "case %zu, which %" PRIu64 ": %" PRIu64, i, which, number);
+        }
+}
+
 int main(void)
 {
     test_run("spans: the answers of the Rust", answers_of_the_rust);
+    test_run("spans: header sizes as given", sizes_as_given);
     return test_summary();
 }
