@@ -4,7 +4,7 @@ CC = gcc
 CFLAGS = -std=c11 -O2 -Wall -Wextra -Werror
 VERSION = 0.1.0
 
-C_TESTS = test_checksum test_list test_list_call test_lookup
+C_TESTS = test_checksum test_list test_list_call test_lookup test_spans
 BENCHES = bench_checksum bench_list bench_lookup
 
 # A folder with whole lists of questions and answers, of which tests/data has a part.
@@ -48,6 +48,15 @@ build/cellumaq.h: include/cellumaq.h
 
 build/test_%: tests/c/test_%.c $(wildcard tests/c/*.h) build/libcellumaq.a build/cellumaq.h
 	@$(CC) $(CFLAGS) -Ibuild -Itests/c -o $@ $< build/libcellumaq.a
+
+# The span listing is called from C in its test only.
+build/libspans_door.a: crates.txt $(shell find crates -name '*.rt' -o -name '*.antt') | tools
+	@mkdir -p build
+	rt staticlib spans_door >build/spans_door.log 2>&1 || { cat build/spans_door.log; exit 1; }
+	@cp target/staticlib/libspans_door.a $@
+
+build/test_spans: tests/c/test_spans.c tests/c/test.h build/libspans_door.a
+	@$(CC) $(CFLAGS) -Itests/c -o $@ $< build/libspans_door.a
 
 build/bench_%: bench/bench_%.c $(wildcard bench/*.h tests/c/*.h) build/libcellumaq.a build/cellumaq.h
 	@$(CC) $(CFLAGS) -Ibuild -Itests/c -o $@ $< build/libcellumaq.a

@@ -1,0 +1,100 @@
+-- `ea_spans::enter::parse_served` meets its contract. Assumes nothing.
+use mathlib.Core.Path.{_≡_, sym, ap, _∙_}
+use Rattle.refusal.specs.declared.Checked.the-variants.{Passed}
+use Rattle.refusal.proofs.Tests.{then-second, then-first}
+use Rattle.checksum.specs.Lookup3.{lookup3}
+use Rattle.ea_header.specs.declared.Parsed.the-variants.{Header}
+use Rattle.ea_header.specs.Served.{servedTest}
+use Rattle.ea_header.specs.Header.{headerAt, headerTest, parsedAt}
+use Rattle.ea_spans.specs.Spans.{spanTest, headerSpan}
+use Rattle.ea_spans.specs.Walk.{headTest}
+use Rattle.ea_spans.proofs.Tests.{header-after, refused-after, header-is, refused-is}
+use borrow.Author.Needs.{needs}
+use Rattle.ea_spans.proofs.enter.parse_served.Statement.{statement}
+use Rattle.ea_spans.proofs.enter.parse_served.Tie as tie
+
+test-header-span-requires : tie.Need-test-header-span-requires
+test-header-span-requires c κs = search needs
+
+enum-known-r : tie.Need-enum-known-r
+enum-known-r c = search needs
+
+returns : tie.Need-returns
+unfolding headTest
+returns c = refused-after _ _ (then-first _ _ (sym (c .before .r .given .1) ∙ c .before .before .before .test-header-span .ensures))
+
+-- past 31
+fits : (c : tie.After-enum-told)
+    → let a = c .before .before .before .before .args in
+    Passed ≡ spanTest (headerSpan (a .address) (a .offset-size) (a .length-size))
+fits c = sym (c .enum-told .given .1) ∙ c .before .before .test-header-span .ensures
+
+enum-told : tie.Need-enum-told
+enum-told c = search needs
+
+parse-requires : tie.Need-parse-requires
+parse-requires c κs = search needs
+
+enum-known-r-2 : tie.Need-enum-known-r-2
+enum-known-r-2 c = search needs
+
+enum-known-header : tie.Need-enum-known-header
+enum-known-header c = search needs
+
+served-test-requires : tie.Need-served-test-requires
+served-test-requires c κs = search needs
+
+enum-told-2 : tie.Need-enum-told-2
+enum-told-2 c = search needs
+
+enum-known-r-3 : tie.Need-enum-known-r-3
+enum-known-r-3 c = search needs
+
+returns-2 : tie.Need-returns-2
+unfolding headTest parsedAt
+returns-2 c =
+    let p = c .before .before .before in
+    let e = refused-is _ _ _ (sym (c .before .r2 .given .1) ∙ p .parse .ensures) in
+    refused-after _ _ (then-first _ _ e ∙ then-second _ _ (fits (p .before)))
+
+-- past the header's own tests
+read : (c : tie.After-served-test)
+    → let a = c .before .before .before .before .before .before .before .before .before .args in
+    (Passed ≡ headerTest lookup3 (a .file .now) (a .address) (a .offset-size) (a .length-size))
+    × (c .before .before .header .given .0 .0 ≡ headerAt (a .file .now) (a .address) (a .offset-size) (a .length-size))
+unfolding parsedAt
+read c = header-is _ _ _ (sym (c .before .before .header .given .1) ∙ c .before .before .before .before .parse .ensures)
+
+returns-3 : tie.Need-returns-3
+unfolding headTest
+returns-3 c =
+    let t = c .before .before in
+    let r = read t in
+    let e = sym (c .enum-told2 .given .1) ∙ t .served-test .ensures ∙ ap servedTest (r .1) in
+    ap Header (r .1) ∙ header-after _ _ (e ∙ then-second _ _ (r .0) ∙ then-second _ _ (fits (t .before .before .before .before .before)))
+
+returns-4 : tie.Need-returns-4
+unfolding headTest
+returns-4 c =
+    let t = c .before .before .before in
+    let r = read t in
+    let e = sym (c .before .r3 .given .1) ∙ t .served-test .ensures ∙ ap servedTest (r .1) in
+    refused-after _ _ (e ∙ then-second _ _ (r .0) ∙ then-second _ _ (fits (t .before .before .before .before .before)))
+
+pub parse-served-spec : {M : Type 1} → statement M
+parse-served-spec =
+    tie.close
+    (tie.spec
+    test-header-span-requires
+    enum-known-r
+    returns
+    enum-told
+    parse-requires
+    enum-known-r-2
+    enum-known-header
+    served-test-requires
+    enum-told-2
+    enum-known-r-3
+    returns-2
+    returns-3
+    returns-4)

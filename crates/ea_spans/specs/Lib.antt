@@ -1,0 +1,6 @@
+pub mod Spans
+pub mod Walk
+pub mod Listing
+pub mod Values
+pub mod Covered
+pub mod Stored

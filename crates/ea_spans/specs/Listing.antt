@@ -1,0 +1,45 @@
+-- The span listing: its answer, and the two lists that it fills.
+use Prim.Native.Nat.{ℕ, min}
+use mathlib.Core.List.{List, [], _∷_}
+use lib.Dec.{ltb}
+use lib.ListN.{length}
+use lib.Seq.{sets}
+use Rattle.refusal.specs.Refusals.{refuse}
+use Rattle.refusal.specs.Outcome.{refused, accepted, _yields_}
+use Rattle.ea_blocks.specs.declared.Counted.{Counted}
+use Rattle.ea_blocks.specs.declared.Counted.the-variants.{Count, Refused as CountedRefused}
+use Rattle.ea_spans.specs.declared.Span.{Span}
+use Rattle.ea_spans.specs.Walk.{Spanning, spans}
+
+-- the number of spans, or the refusal
+unfoldable pub countedOf : Spanning → Counted
+countedOf (refused r) = CountedRefused r
+countedOf (accepted l) = Count (length l)
+
+-- Then 9, list too small (needed records), where there is no room for all.
+unfoldable pub inRoom : Spanning → ℕ → Spanning
+inRoom (refused r) room = refused r
+inRoom (accepted l) room = refuse 9 (length l) 0 (ltb room (length l)) yields accepted l
+
+-- Two lists hold as many spans as the shorter of them.
+abbrev pub roomOf : List ℕ → List ℕ → ℕ
+roomOf addresses lengths = min (length addresses) (length lengths)
+
+unfoldable pub spansInto : List ℕ → ℕ → ℕ → ℕ → List ℕ → List ℕ → Spanning
+spansInto f address o l addresses lengths = inRoom (spans f address o l) (roomOf addresses lengths)
+
+-- the addresses or the lengths of spans
+unfoldable pub each : (Span → ℕ) → List Span → List ℕ
+each part [] = []
+each part (s ∷ l) = part s ∷ each part l
+
+abbrev pub addressOf : Span → ℕ
+addressOf s = s .address
+
+abbrev pub lengthOf : Span → ℕ
+lengthOf s = s .length
+
+-- A lent list then: those numbers from `at` on, and the others as they were. After a refusal all is as it was.
+unfoldable pub filled : (Span → ℕ) → Spanning → ℕ → List ℕ → List ℕ
+filled part (refused r) at out = out
+filled part (accepted l) at out = sets out at (each part l)

@@ -1,0 +1,103 @@
+// The spans of an index: the bytes of its own structures, which are its header, its index block, and every super block and data block
+// that is pointed to.
+ghost use mathlib.Core.Path.{_≡_};
+ghost use mathlib.Core.Bool.{true};
+ghost use Rattle.fields.specs.Fields.{isWidth};
+ghost use Rattle.ea_geometry.specs.Bounded.{Bounded};
+ghost use Rattle.ea_blocks.specs.declared.Counted.the-variants.{Refused};
+ghost use Rattle.ea_spans.specs.Walk.{also, indexSpans};
+ghost use Rattle.ea_spans.specs.Values.{callAt};
+ghost use Rattle.ea_spans.specs.Listing.{countedOf, inRoom, roomOf, spansInto, filled, addressOf, lengthOf};
+use crate::count::count_index;
+use crate::enter::parse_served;
+use crate::write::put_span;
+use crate::write::write_index;
+use ea_blocks::Counted;
+use ea_geometry::EaGeometry;
+use ea_header::ExtensibleArrayHeader;
+use ea_header::Parsed;
+use refusal::Refusal;
+
+mod count;
+mod enter;
+pub mod records;
+mod write;
+
+// A structure's address and its bytes.
+pub struct Span {
+    pub address: u64,
+    pub length: u64,
+}
+
+// Lists the spans of the index whose header lies at an address: their addresses and their lengths, from number 0 on. The answer is how
+// many they are. After a refusal both lists are as they were; 9 tells how many numbers each list must hold.
+pub fn extensible_array_index_spans(
+    file: &[u8],
+    address: u64,
+    offset_size: u64,
+    length_size: u64,
+    addresses: &mut [u64],
+    lengths: &mut [u64],
+) -> Counted
+    ensures answer { λ r. ⌜ r ≡ countedOf (spansInto (now (file .entry)) address «offset_size» «length_size»
+        (now (addresses .entry)) (now (lengths .entry))) ⌝ }
+    ensures first { λ _. ⌜ now (addresses .exit)
+        ≡ filled addressOf (spansInto (now (file .entry)) address «offset_size» «length_size»
+        (now (addresses .entry)) (now (lengths .entry))) 0 (now (addresses .entry)) ⌝ }
+    ensures second { λ _. ⌜ now (lengths .exit)
+        ≡ filled lengthOf (spansInto (now (file .entry)) address «offset_size» «length_size»
+        (now (addresses .entry)) (now (lengths .entry))) 0 (now (lengths .entry)) ⌝ }
+{
+    match parse_served(file, address, offset_size, length_size) {
+        Parsed::Refused(r) => Counted::Refused(r),
+        Parsed::Header(header) => {
+            let length = ExtensibleArrayHeader::serialized_size(offset_size, length_size);
+            let geometry = EaGeometry::from_header(header, offset_size);
+            list_spans(file, geometry, Span { address, length }, addresses, lengths)
+        }
+    }
+}
+
+// Lists the header's span and those behind it.
+fn list_spans(
+    file: &[u8],
+    geometry: EaGeometry,
+    header: Span,
+    addresses: &mut [u64],
+    lengths: &mut [u64],
+) -> Counted
+    requires { ⌜ Bounded geometry × (isWidth (geometry .«offset_size») ≡ true) ⌝ }
+    ensures answer { λ r. ⌜ r ≡ countedOf (inRoom (also header (indexSpans (callAt (now (file .entry)) geometry)))
+        (roomOf (now (addresses .entry)) (now (lengths .entry)))) ⌝ }
+    ensures first { λ _. ⌜ now (addresses .exit)
+        ≡ filled addressOf (inRoom (also header (indexSpans (callAt (now (file .entry)) geometry)))
+        (roomOf (now (addresses .entry)) (now (lengths .entry)))) 0 (now (addresses .entry)) ⌝ }
+    ensures second { λ _. ⌜ now (lengths .exit)
+        ≡ filled lengthOf (inRoom (also header (indexSpans (callAt (now (file .entry)) geometry)))
+        (roomOf (now (addresses .entry)) (now (lengths .entry)))) 0 (now (lengths .entry)) ⌝ }
+{
+    let needed = match count_index(file, geometry) {
+        Counted::Count(n) => n + 1,
+        Counted::Refused(r) => return Counted::Refused(r),
+    };
+    if (addresses.len() as u64) < needed {
+        return too_small(needed);
+    }
+    if (lengths.len() as u64) < needed {
+        return too_small(needed);
+    }
+    put_span(addresses, lengths, 0, header);
+    write_index(file, geometry, addresses, lengths);
+    Counted::Count(needed)
+}
+
+// 9: the lists must hold so many.
+fn too_small(needed: u64) -> Counted
+    ensures { λ r. ⌜ r ≡ Refused (record { number = 9; first = needed; second = 0 }) ⌝ }
+{
+    Counted::Refused(Refusal {
+        number: Refusal::LIST_TOO_SMALL,
+        first: needed,
+        second: 0,
+    })
+}
