@@ -1,0 +1,5 @@
+pub mod Words
+pub mod Numbers
+pub mod Lengths
+pub mod Heads
+pub mod Inputs

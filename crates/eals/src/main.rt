@@ -1,0 +1,4 @@
+mod line;
+mod text;
+
+fn main() {}
