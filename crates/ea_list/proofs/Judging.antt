@@ -19,7 +19,7 @@ use Rattle.ea_blocks.specs.Call.{Call, Rec}
 use Rattle.ea_blocks.specs.Places.{held, recordOf, recordAt, with, records}
 use Rattle.ea_list.specs.Listing.{list}
 use Rattle.ea_list.specs.Judged.{Stored, Used, Tally, hit, miss, end, Rising, Judged}
-use Rattle.ea_list.proofs.Walks.{walk-records}
+use Rattle.ea_walk.proofs.Walks.{walk-records}
 
 pub none-some : {A : Type 0} (a : A) → none ≡ some a → ⊥
 none-some a h = let z : _≡_ {A = ℕ} 0 1 = cc in omega arith

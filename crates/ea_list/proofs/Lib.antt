@@ -1,9 +1,8 @@
-pub mod Walks
 pub mod Judging
-pub mod Turns
 pub mod Writing
 pub mod PlaceRuns
 pub mod ChunkBytes
 pub mod SeenRuns
-pub mod WalkStates
-pub mod Heads
+pub mod Written
+pub mod Rooms
+pub mod Doors

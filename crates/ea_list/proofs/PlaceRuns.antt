@@ -23,7 +23,7 @@ use Rattle.ea_blocks.specs.Places.{blockReached, reached, positionOf}
 use Rattle.ea_blocks.proofs.Passed.{gone}
 use Rattle.ea_list.specs.declared.runs.Run.the-variants.{Gap, Elements}
 use Rattle.ea_list.specs.Runs.{HasAt, RunOf}
-use Rattle.ea_list.proofs.Walks.{in-pages-over}
+use Rattle.ea_walk.proofs.Walks.{in-pages-over}
 
 -- slot s + j is element i + j of the same block
 later : (h : ExtensibleArrayHeader) (s u k i j : ℕ) → InBlock h s u k i → i + j < blockElements h u → InBlock h (s + j) u k (i + j)

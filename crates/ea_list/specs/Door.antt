@@ -3,11 +3,10 @@ use Prim.Native.Nat.{ℕ}
 use mathlib.Core.Bool.{not, cond}
 use mathlib.Core.List.{List}
 use lib.Dec.{eqb}
-use lib.ListN.{length}
 use Rattle.refusal.specs.declared.Refusal.{Refusal}
 use Rattle.refusal.specs.declared.Checked.the-variants.{Passed}
 use Rattle.refusal.specs.Refusals.{refusalOf}
-use Rattle.refusal.specs.Outcome.{refused, accepted, _yields_}
+use Rattle.refusal.specs.Outcome.{_yields_}
 use Rattle.checksum.specs.Lookup3.{lookup3}
 use Rattle.chunk_grid.specs.declared.GridOrder.{GridOrder}
 use Rattle.chunk_grid.specs.declared.GridOrder.the-variants.{RowMajor, UnlimitedFirst}
@@ -15,7 +14,9 @@ use Rattle.chunk_grid.specs.Grid.{Grid}
 use Rattle.chunk_grid.specs.Shapes.{givenBytes}
 use Rattle.ea_header.specs.Header.{headerAt, headerTest}
 use Rattle.ea_blocks.specs.Call.{Call, callOf}
-use Rattle.ea_blocks.specs.Runs.{Listing}
+use Rattle.ea_blocks.specs.declared.Counted.{Counted}
+use Rattle.ea_blocks.specs.declared.Counted.the-variants.{Count, Refused as CountedRefused}
+use Rattle.ea_blocks.specs.Runs.{Listing, countedOf}
 use Rattle.ea_list.specs.Listing.{listInto}
 
 -- Order 0 is R, any other U; ..
@@ -48,9 +49,12 @@ noRefusal = refusalOf Passed
 unfoldable pub refusedNumbers : Refusal → Numbers
 refusedNumbers r = record { refusal = r; count = 0; address = 0; size = 0; mask = 0 }
 
-unfoldable pub listNumbers : Listing → Numbers
-listNumbers (refused r) = refusedNumbers r
-listNumbers (accepted l) = record { refusal = noRefusal; count = length l; address = 0; size = 0; mask = 0 }
+unfoldable pub countedNumbers : Counted → Numbers
+countedNumbers (CountedRefused r) = refusedNumbers r
+countedNumbers (Count n) = record { refusal = noRefusal; count = n; address = 0; size = 0; mask = 0 }
+
+abbrev pub listNumbers : Listing → Numbers
+listNumbers a = countedNumbers (countedOf a)
 
 -- List and lookup return one number, picked by an argument: 1 and 2 a refusal's figures, 3 the count, 4 to 6 lookup's address, size,
 -- mask, otherwise the refusal or 0.

@@ -10,7 +10,7 @@ use Rattle.chunk_grid.specs.Grid.{gridTest}
 use Rattle.ea_blocks.specs.Call.{Call}
 use Rattle.ea_blocks.specs.Runs.{Listing}
 use Rattle.ea_blocks.specs.Records.{recordLength, listBytes}
-use Rattle.ea_list.specs.Walk.{walk}
+use Rattle.ea_walk.specs.Walk.{walk}
 
 -- List: 3 to 8, then 27 and the walk.
 unfoldable pub list : Call → Listing

@@ -1,13 +1,103 @@
 // The chunk list.
 ghost use mathlib.Core.Path.{_≡_};
-ghost use Prim.Native.Nat.{_*_, _≤_};
+ghost use mathlib.Core.List.{List};
+ghost use Prim.Native.Nat.{ℕ, _*_, _/_, _<_, _≤_};
 ghost use lib.ListN.{length, take};
+ghost use lib.Seq.{sets};
 ghost use Rattle.refusal.specs.Refusals.{figure};
+ghost use Rattle.chunk_grid.specs.Values.{gridOf};
+ghost use Rattle.ea_blocks.specs.declared.Counted.the-variants.{Count};
+ghost use Rattle.ea_blocks.specs.Call.{Call, Rec, callOf};
 ghost use Rattle.ea_blocks.specs.Elements.{product};
+ghost use Rattle.ea_blocks.specs.Records.{recordLength, listBytes};
+ghost use Rattle.ea_blocks.specs.Runs.{countedOf};
+ghost use Rattle.ea_walk.specs.Walk.{walk};
+ghost use Rattle.ea_walk.specs.Values.{Walks};
+ghost use Rattle.ea_list.specs.Listing.{inRoom, listInto, listContent};
+ghost use Rattle.ea_list.specs.Judged.{Judged};
+use crate::walk::count_walk;
+use crate::write::write_walk;
+use chunk_grid::ChunkGrid;
+use ea_blocks::Counted;
+use ea_blocks::Reading;
+use ea_geometry::EaGeometry;
+use ea_header::ExtensibleArrayHeader;
 use fields::convert::saturating_mul;
+use refusal::Checked;
+use refusal::Refusal;
 
+pub mod door;
 pub mod runs;
 mod walk;
+mod write;
+
+// Lists the chunks of a dataset: one record for each, in slot order, from the start of the lent list on. `header` is the header of
+// its index, element_bytes the bytes of one of its elements. A list that is too small, like every other refusal, is left as it was.
+pub fn read_extensible_array_chunks(
+    file: &[u8],
+    header: ExtensibleArrayHeader,
+    grid: ChunkGrid,
+    element_bytes: u64,
+    offset_size: u64,
+    list: &mut [u8],
+) -> Counted
+    ensures counted { λ r. ⌜ r ≡ countedOf (listInto (callOf (now (file .entry)) header «offset_size» (gridOf grid) «element_bytes») (length (now (list .entry)))) ⌝ }
+    ensures content { λ _. ⌜ now (list .exit) ≡ listContent (listInto (callOf (now (file .entry)) header «offset_size» (gridOf grid) «element_bytes») (length (now (list .entry)))) (now (list .entry)) ⌝ }
+    ensures judged { λ r. ⌜ ((n : ℕ) → r ≡ Count n → 0 < grid .rank → (l : List Rec)
+        × (now (list .exit) ≡ sets (now (list .entry)) 0 (listBytes l))
+        × Judged (callOf (now (file .entry)) header «offset_size» (gridOf grid) «element_bytes») l n) ⌝ }
+{
+    let mut counts = [0u64; 32];
+    let mut bound = [0u64; 32];
+    let mut down = [0u64; 32];
+    let numbering = grid.numbering(&mut counts, &mut bound, &mut down);
+    let checked = numbering.checked;
+    if let Checked::Refused(r) = checked {
+        return Counted::Refused(r);
+    }
+    let chunk = grid.chunk;
+    let reading = Reading {
+        geometry: EaGeometry {
+            header,
+            offset_size,
+        },
+        chunk_bytes: chunk_bytes(&chunk, grid.rank as usize, element_bytes),
+        rank: grid.rank,
+        rotated: numbering.rotated,
+        numbers: numbering.numbers,
+    };
+    list_walk(list, file, reading, &chunk, &bound, &down)
+}
+
+// Walks an index, and writes its records into the list; 9 where it has no room for them.
+fn list_walk(
+    list: &mut [u8],
+    file: &[u8],
+    reading: Reading,
+    chunk: &[u64; 32],
+    bound: &[u64; 32],
+    down: &[u64; 32],
+) -> Counted
+    requires { ⌜ ((c : Call) × Walks c (now file) reading (now chunk) (now bound) (now down)) ⌝ }
+    ensures { λ r. ⌜ ((c : Call) → Walks c (now (file .entry)) reading (now (chunk .entry)) (now (bound .entry)) (now (down .entry))
+        → (r ≡ countedOf (inRoom (walk c) (length (now (list .entry)) / recordLength (reading .rank))))
+        × (now (list .exit) ≡ listContent (inRoom (walk c) (length (now (list .entry)) / recordLength (reading .rank))) (now (list .entry)))) ⌝ }
+{
+    let counted = count_walk(file, reading, chunk, bound, down);
+    let Counted::Count(n) = counted else {
+        return counted;
+    };
+    let room = list.len() as u64 / (16 + 8 * reading.rank);
+    if room < n {
+        return Counted::Refused(Refusal {
+            number: Refusal::LIST_TOO_SMALL,
+            first: n,
+            second: 0,
+        });
+    }
+    write_walk(list, file, reading, chunk, bound, down);
+    Counted::Count(n)
+}
 
 // The bytes of a chunk, the product of its lengths and the element's bytes, or 2^64 - 1 where they are more.
 fn chunk_bytes(chunk: &[u64; 32], rank: usize, element_bytes: u64) -> u64

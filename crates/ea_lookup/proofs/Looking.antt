@@ -27,10 +27,10 @@ use Rattle.ea_blocks.specs.Structures.{indexBlock, testOf}
 use Rattle.ea_blocks.specs.Places.{held, recordOf, recordAt, path}
 use Rattle.ea_blocks.proofs.Elements.{some-is}
 use Rattle.ea_blocks.proofs.Paths.{path-record}
-use Rattle.ea_list.specs.Walk.{walk}
+use Rattle.ea_walk.specs.Walk.{walk}
 use Rattle.ea_list.specs.Listing.{list}
 use Rattle.ea_list.specs.Judged.{Stored, Judged}
-use Rattle.ea_list.proofs.Walks.{walk-right}
+use Rattle.ea_walk.proofs.Walks.{walk-right}
 use Rattle.ea_list.proofs.Judging.{none-some, record-at, list-judged}
 use Rattle.ea_lookup.specs.Lookup.{slotPath, lookup, Answers, Agrees}
 

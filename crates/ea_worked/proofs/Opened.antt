@@ -16,7 +16,7 @@ use Rattle.ea_geometry.specs.Place.{superOf, inPages, placeIn, inSuperBlock, pl
 use Rattle.ea_blocks.specs.Structures.{signatureTest, structureTest, indexAt, isDirect, superNamedAt, superAt, blockNamedAt, blockAt, dataPageAt, superUndefined, blockUndefined, bitSet, pageSet, testOf}
 use Rattle.ea_blocks.specs.Elements.{filtered, product, chunkBytes, sizeBytes, sizeAt, maskAt, entryAt, elementSizeTest, entryTest, _gives_, insideOnly, element}
 use Rattle.ea_blocks.specs.Places.{blockReached, reached, positionOf, leading as leadingStructures, structures, pointerTest, answerOf, tested, pathAt, path}
-use Rattle.ea_list.specs.Walk.{pagesFrom, block, blocksFrom, supers, behindInline, walk}
+use Rattle.ea_walk.specs.Walk.{pagesFrom, block, blocksFrom, supers, behindInline, walk}
 use Rattle.ea_blocks.specs.Runs.{also, alsoElement, elements}
 use Rattle.ea_list.specs.Listing.{list, inRoom, listInto, listContent}
 use Rattle.ea_blocks.specs.Records.{recordLength, offsetBytes, recordBytes, listBytes}

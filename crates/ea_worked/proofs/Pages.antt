@@ -8,7 +8,7 @@ use lib.ListN.{length, take, set, replicate}
 use Rattle.refusal.specs.Outcome.{refused, accepted}
 use Rattle.ea_header.specs.Header.{headerAt}
 use Rattle.ea_blocks.specs.Places.{path}
-use Rattle.ea_list.specs.Walk.{behindInline}
+use Rattle.ea_walk.specs.Walk.{behindInline}
 use Rattle.ea_list.specs.Listing.{list, listInto}
 use Rattle.ea_lookup.specs.Lookup.{lookup}
 use Rattle.ea_worked.specs.Files.{callOn, callAt, listAt, lookupAt}

@@ -9,7 +9,7 @@ use Rattle.ea_geometry.specs.Sizes.{directSuperBlocks}
 use Rattle.ea_geometry.specs.Extents.{inlineElementAt}
 use Rattle.ea_blocks.specs.Call.{Call, Rec}
 use Rattle.ea_blocks.specs.Structures.{indexAt}
-use Rattle.ea_list.specs.Walk.{supers}
+use Rattle.ea_walk.specs.Walk.{supers}
 use Rattle.ea_blocks.specs.Runs.{Listing, elements}
 use Rattle.ea_list.specs.Listing.{list}
 use Rattle.ea_list.specs.Judged.{Judged}

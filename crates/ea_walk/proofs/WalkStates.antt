@@ -35,10 +35,10 @@ use Rattle.ea_blocks.specs.Values.{Sees}
 use Rattle.ea_blocks.specs.Entered.{EnteredSuper, EnteredBlock, EnteredPage}
 use Rattle.ea_blocks.proofs.Runs.{plus, plus-none, run-count, run-refused, run-length}
 use Rattle.ea_blocks.proofs.StructureTests.{is-direct, not-direct}
-use Rattle.ea_list.specs.Walk.{pagesFrom, blocksFrom, supers}
-use Rattle.ea_list.specs.Values.{Walks}
-use Rattle.ea_list.proofs.Walks.{in-pages-over}
-use Rattle.ea_list.proofs.Turns as turns
+use Rattle.ea_walk.specs.Walk.{pagesFrom, blocksFrom, supers}
+use Rattle.ea_walk.specs.Values.{Walks}
+use Rattle.ea_walk.proofs.Walks.{in-pages-over}
+use Rattle.ea_walk.proofs.Turns as turns
 
 -- the answer that a refusal and a count stand for
 unfoldable pub answered : Checked → ℕ → Counted

@@ -1,4 +1,4 @@
--- `ea_list::walk::count_blocks` meets its contract: at every super block, data block and page, what is counted and what is left are the
+-- `ea_walk::count_blocks` meets its contract: at every super block, data block and page, what is counted and what is left are the
 -- whole. Assumes nothing.
 use borrow.Author.Needs.{needs}
 use Prim.Native.Nat.{ℕ, _+_, _-_, _≤_, _<_}
@@ -11,7 +11,7 @@ use Rattle.refusal.specs.declared.Checked.the-variants.{Passed, Refused}
 use Rattle.ea_geometry.specs.Sizes as sizes
 use Rattle.ea_geometry.specs.Sizes.{blockElements}
 use Rattle.ea_geometry.specs.Place.{inPages}
-use Rattle.ea_list.proofs.WalkStates.{Fixed, AtSuper, AtBlock, AtPage, BehindBlock, Done, answered, sees, at-first, supers-done, super-ended, super-skip, super-refused, super-in, blocks-done, block-behind, block-ended, block-skip, block-refused, block-run, block-run-refused, block-pages, pages-done, page-skip, page-refused, page-run-refused, page-run-last, page-run-on, slot-few, block-few, entered-at, count-few, page-ends, paged-behind, unpaged-room}
+use Rattle.ea_walk.proofs.WalkStates.{Fixed, AtSuper, AtBlock, AtPage, BehindBlock, Done, answered, sees, at-first, supers-done, super-ended, super-skip, super-refused, super-in, blocks-done, block-behind, block-ended, block-skip, block-refused, block-run, block-run-refused, block-pages, pages-done, page-skip, page-refused, page-run-refused, page-run-last, page-run-on, slot-few, block-few, entered-at, count-few, page-ends, paged-behind, unpaged-room}
 use Rattle.fields.proofs.Widths.{width-le}
 use Rattle.ea_geometry.proofs.Counts.{all-few, pages-exact}
 use Rattle.ea_geometry.proofs.Places.{next-slot}
@@ -27,11 +27,11 @@ use Rattle.ea_header.specs.declared.ExtensibleArrayHeader.{ExtensibleArrayHeade
 use Rattle.ea_blocks.specs.Structures.{blockAt}
 use Rattle.ea_geometry.specs.Extents.{blockElementAt}
 use Rattle.ea_blocks.specs.declared.enter.Entered.{Entered}
-use Rattle.ea_list.specs.Values.{Walks}
-use Rattle.ea_list.proofs.Walks.{in-pages-over}
+use Rattle.ea_walk.specs.Values.{Walks}
+use Rattle.ea_walk.proofs.Walks.{in-pages-over}
 use Rattle.ea_blocks.proofs.Entering.{entered-super-room, entered-block-room, entered-head-room, entered-page-room}
-use Rattle.ea_list.proofs.walk.count_blocks.Statement.{statement}
-use Rattle.ea_list.proofs.walk.count_blocks.Tie as tie
+use Rattle.ea_walk.proofs.count_blocks.Statement.{statement}
+use Rattle.ea_walk.proofs.count_blocks.Tie as tie
 
 abbrev Inv-pages : tie.InvT-pages
 Inv-pages file reading first chunk bound down geometry count supers directs page refused₀ total₀ slot u blocks elements super-at k at pages from₀ p₀ refused total from p =

@@ -35,7 +35,7 @@ use Rattle.ea_blocks.specs.Elements.{element}
 use Rattle.ea_blocks.specs.Places.{positionOf, answerOf, recordAt, with, records, path}
 use Rattle.ea_blocks.proofs.Paths.{Leads, Misses, Ready, missed, led, no-super, no-block, in-block, in-clear, in-page, in-index, no-place}
 use Rattle.ea_blocks.specs.Runs.{Listing, also, alsoElement, elements}
-use Rattle.ea_list.specs.Walk.{pagesFrom, block, blocksFrom, supers, behindInline, walk}
+use Rattle.ea_walk.specs.Walk.{pagesFrom, block, blocksFrom, supers, behindInline, walk}
 
 nil-is : (l : List Rec) → accepted [] ≡ accepted l → l ≡ []
 nil-is l h = cc

@@ -57,9 +57,10 @@ behindInline c =
     cond (leb (c .header .«num_elements») (c .header .«idx_blk_elmts»)) (accepted [])
     (widthTest 1 (c .offsetSize) yields supers c (superBlocks (c .header)) 0 (c .header .«idx_blk_elmts»))
 
+-- the inline elements, and what is behind them
+abbrev pub fromInline : Call → Listing
+fromInline c = elements c (indexAt c + inlineElementAt (c .header) (c .offsetSize) 0) (c .header .«idx_blk_elmts») 0 (behindInline c)
+
 -- 27, then the index block's 20, 23, 26, then the walk in slot order
 unfoldable pub walk : Call → Listing
-walk c =
-    servedTest (c .header)
-    yields testOf c indexBlock
-    yields elements c (indexAt c + inlineElementAt (c .header) (c .offsetSize) 0) (c .header .«idx_blk_elmts») 0 (behindInline c)
+walk c = servedTest (c .header) yields testOf c indexBlock yields fromInline c

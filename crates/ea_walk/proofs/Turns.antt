@@ -16,7 +16,7 @@ use Rattle.ea_geometry.specs.Place.{inPages}
 use Rattle.ea_blocks.specs.Call.{Call}
 use Rattle.ea_blocks.specs.Structures.{superBlock, dataBlock, dataPage, testOf, isDirect, blockAt, dataPageAt, superUndefined, blockUndefined, pageSet}
 use Rattle.ea_blocks.specs.Runs.{Listing, elements}
-use Rattle.ea_list.specs.Walk.{pagesFrom, block, blocksFrom, supers}
+use Rattle.ea_walk.specs.Walk.{pagesFrom, block, blocksFrom, supers}
 
 -- what is left of n, before and after a turn
 less : (n i : ℕ) → i < n → n - i ≡ suc (n - (i + 1))

@@ -1,0 +1,17 @@
+-- `ea_list::door::grid_order` meets its contract. Assumes nothing.
+use mathlib.Core.Path.{_≡_, refl}
+use borrow.Author.Tests.{eq-eqb, ne-eqb}
+use Rattle.ea_list.specs.Door.{orderOf}
+use Rattle.ea_list.proofs.door.grid_order.Statement.{statement}
+use Rattle.ea_list.proofs.door.grid_order.Tie as tie
+
+returns : tie.Need-returns
+unfolding orderOf
+returns c = rw (eq-eqb (c .before .args .order) 0 (c .if1 .taken)) refl
+
+returns-2 : tie.Need-returns-2
+unfolding orderOf
+returns-2 c = rw (ne-eqb (c .before .args .order) 0 (c .if1 .left)) refl
+
+pub grid-order-spec : {M : Type 1} → statement M
+grid-order-spec = tie.close (tie.spec returns returns-2)
