@@ -1,4 +1,5 @@
 mod line;
+mod print;
 mod text;
 
 fn main() {}
