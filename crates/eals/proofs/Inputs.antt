@@ -7,7 +7,8 @@ use native.Mathlib.Omega.{arith}
 use lib.ListN.{length, take, drop, drop-of-length-le, length-drop, length-take}
 use lib.Seq.{take-all}
 use lib.Dec.{leb, ltb}
-use borrow.Author.Tests.{lt-ltb, le-ltb, le-leb, lt-leb}
+use borrow.Author.Tests.{lt-ltb, le-ltb, le-leb, lt-leb, leb-true}
+use Rattle.refusal.proofs.Tests.{both}
 use Rattle.eals.specs.Text.{before}
 use Rattle.eals.specs.Line.{lineOf, fileOf, fits}
 use Rattle.eals.proofs.Words.{take-before}
@@ -65,3 +66,10 @@ module _ (s : List ℕ) where
   pub input-fits : length (lineOf s) < length s → length (lineOf s) ≤ 4095 → length (fileOf s) ≤ 60000 → fits s ≡ true
   unfolding fits
   input-fits a b c = rw (lt-ltb _ _ a, le-leb _ _ b, le-leb _ _ c) refl
+
+  pub line-short : fits s ≡ true → length (lineOf s) ≤ 4095
+  unfolding fits
+  line-short t =
+      let ended = ltb (length (lineOf s)) (length s) in
+      let short = leb (length (lineOf s)) 4095 in
+      leb-true (length (lineOf s)) 4095 (both ended short (both (ended && short) (leb (length (fileOf s)) 60000) t .0) .1)

@@ -9,18 +9,14 @@ use lib.ListN.{length}
 use lib.Seq.{sets, length-sets}
 use lib.Dec.{eqb, leb}
 use borrow.Author.Tests.{le-leb, lt-leb, eq-eqb, ne-eqb, eqb-true, eqb-false}
-use Rattle.refusal.specs.Refusals.{largest64}
-use Rattle.refusal.proofs.Tests.{by-cond, lt-or-ge, both}
+use Rattle.refusal.proofs.Tests.{lt-or-ge}
 use Rattle.fields.specs.LittleEndian.{leBytes}
 use Rattle.ea_blocks.specs.Records.{offsetBytes}
 use Rattle.ea_blocks.proofs.Records.{sets-bytes}
-use Rattle.eals.specs.Text.{isOnly}
 use Rattle.eals.specs.Words.{wordsFrom, wordAt}
 use Rattle.eals.specs.Line.{lengthNumber, lengthThen, lengthsFrom, lengthsRead}
-use Rattle.eals.specs.declared.text.Number.{Number}
 use Rattle.eals.specs.declared.text.Number.the-variants.{Value, NoNumber}
 use Rattle.eals.proofs.Words.{words-at, no-words}
-use Rattle.eals.proofs.Numbers.{only-has-byte, number-has-byte}
 
 -- behind 2 × rank lengths, as the code tests it
 pub behind-half : (rank i : ℕ) → leb rank (i / 2) ≡ leb (2 * rank) i
@@ -29,14 +25,6 @@ behind-half rank i =
     (λ h. rw (lt-leb rank (i / 2) h, lt-leb (2 * rank) i (omega arith)) refl)
     (λ h. rw (le-leb rank (i / 2) h, le-leb (2 * rank) i (omega arith)) refl)
     (lt-or-ge (i / 2) rank)
-
--- a word that names a length has a byte
-pub length-has-byte : (b : Bool) (w : List ℕ) (n : ℕ) → lengthNumber b w ≡ Value n → 0 < length w
-unfolding lengthNumber
-length-has-byte b w n =
-    by-cond (λ (x : Number). x ≡ Value n → 0 < length w) (b && isOnly 42 w)
-    (λ e _. only-has-byte 42 w (both b (isOnly 42 w) e .1))
-    (λ _ h. number-has-byte largest64 w n h)
 
 module _ (line : List ℕ) (rank at i : ℕ) (here : at ≤ length line) where
   abbrev next : ℕ
@@ -91,7 +79,7 @@ by-three rank i h = go (eqb (i / 3) rank) refl
 module _ (out₀ line : List ℕ) (from rank : ℕ) where
   abbrev pub Kept : List ℕ → ℕ → ℕ → Type 0
   Kept out at i =
-      (length out ≡ length out₀) × (16384 ≤ length out) × (2 * i ≤ at) × (at ≤ 65536)
+      (length out ≡ length out₀) × (32768 ≤ length out) × (i ≤ at) × (at ≤ 65536)
       × (sets out (8 * i) (offsetBytes (lengthsFrom rank i (wordsFrom line at))) ≡ sets out₀ 0 (offsetBytes (lengthsFrom rank 0 (wordsFrom line from))))
       × (i + length (lengthsFrom rank i (wordsFrom line at)) ≡ length (lengthsFrom rank 0 (wordsFrom line from)))
       × (i + length (wordsFrom line at) ≡ length (wordsFrom line from))
@@ -106,7 +94,6 @@ module _ (out₀ line : List ℕ) (from rank : ℕ) where
         let named : lengthNumber (leb (2 * rank) i) (wordAt line at) ≡ Value n = rw (← behind-half rank i, ← e) (sym h) in
         let read = ap (λ (l : List ℕ). length l) (length-read line rank at i here n named) in
         let behind = ap (λ (ws : List (List ℕ)). length ws) (words-at line at here) in
-        let byte = length-has-byte (leb (2 * rank) i) (wordAt line at) n named in
         let wide : length w ≡ length (wordAt line at) = ap (λ (l : List ℕ). length l) e in
         rw wide (
           length-sets out (8 * i) (leBytes 8 n) ∙ kept .0,

@@ -6,3 +6,5 @@ pub mod Inputs
 pub mod Digits
 pub mod Puts
 pub mod Lines
+pub mod Bounds
+pub mod Answers

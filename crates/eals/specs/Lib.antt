@@ -2,3 +2,4 @@ pub mod Text
 pub mod Words
 pub mod Line
 pub mod Printed
+pub mod Program

@@ -63,7 +63,7 @@ fn parse_length(word: &[u8], maximum: bool) -> Number
 
 // Stores the lengths from `from` on, up to the first word that is none, and answers whether the line has 3 times rank of them and nothing else.
 fn parse_lengths(lengths: &mut [u8], line: &[u8], from: usize, rank: u64) -> bool
-    requires { ⌜ (length (now line) ≤ 4095) × (from ≤ 65536) × (16384 ≤ length (now lengths)) ⌝ }
+    requires { ⌜ (length (now line) ≤ 4095) × (from ≤ 65536) × (32768 ≤ length (now lengths)) ⌝ }
     ensures { λ r. ⌜ r ≡ lengthsRead rank (wordsFrom (now (line .entry)) from) ⌝ }
     ensures { λ _. ⌜ now (lengths .exit) ≡ sets (now (lengths .entry)) 0 (offsetBytes (lengthsFrom rank 0 (wordsFrom (now (line .entry)) from))) ⌝ }
 {
@@ -121,7 +121,7 @@ fn order_at(line: &[u8], at: usize) -> Found
 
 // Reads a line, and stores its lengths.
 fn parse_line(lengths: &mut [u8], line: &[u8]) -> Reading
-    requires { ⌜ (length (now line) ≤ 4095) × (16384 ≤ length (now lengths)) ⌝ }
+    requires { ⌜ (length (now line) ≤ 4095) × (32768 ≤ length (now lengths)) ⌝ }
     ensures { λ r. ⌜ r ≡ lineReading (words (now (line .entry))) ⌝ }
     ensures { λ _. ⌜ now (lengths .exit) ≡ lineStored (words (now (line .entry))) (now (lengths .entry)) ⌝ }
 {
@@ -194,7 +194,7 @@ pub fn file_of(input: &[u8]) -> &[u8]
 
 // Reads the line in front of a file, and stores its lengths.
 pub fn parse(lengths: &mut [u8], input: &[u8]) -> Reading
-    requires { ⌜ 16384 ≤ length (now lengths) ⌝ }
+    requires { ⌜ 32768 ≤ length (now lengths) ⌝ }
     ensures { λ r. ⌜ r ≡ readingOf (now (input .entry)) ⌝ }
     ensures { λ _. ⌜ now (lengths .exit) ≡ storedOf (now (input .entry)) (now (lengths .entry)) ⌝ }
 {
