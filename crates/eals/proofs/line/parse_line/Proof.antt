@@ -4,7 +4,7 @@ use native.Mathlib.Omega.{arith}
 use borrow.Author.Tests.{not-true, not-false}
 use Rattle.refusal.specs.Refusals.{largest64}
 use Rattle.eals.specs.Text.{numberOf}
-use Rattle.eals.specs.Line.{orderNumber, lineReading, lineStored, withLengths, lengthsStored, headOf}
+use Rattle.eals.specs.Line.{orderNumber, lineReading, lineStored, withLengths, lengthsStored, headOf, _for_}
 use Rattle.eals.proofs.Heads.{Step, first-stands, word-read, word-refused}
 use borrow.Author.Needs.{needs}
 use Rattle.eals.proofs.line.parse_line.Statement.{statement}
