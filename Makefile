@@ -4,13 +4,25 @@ CC = gcc
 CFLAGS = -std=c11 -O2 -Wall -Wextra -Werror
 VERSION = 0.1.0
 
-C_TESTS = test_checksum
-BENCHES = bench_checksum
+C_TESTS = test_checksum test_list test_list_call test_lookup
+BENCHES = bench_checksum bench_list bench_lookup
 
-.PHONY: test demo lib bench install clean tools kit
+# A folder with whole lists of questions and answers, of which tests/data has a part.
+VECTORS = ../shared/vectors
+
+# The folder with the Rust's extensible_array.rs, to measure beside it.
+RUST_SOURCES = ../shared/docs/src/src
+
+.PHONY: test vectors demo lib bench install clean tools kit
 
 test: tools kit
 	@CC='$(CC)' tests/run $(C_TESTS)
+
+vectors: build/test_list build/test_lookup
+	@build/test_list $(VECTORS)/rust-questions.txt $(VECTORS)/rust-answers.txt
+	@build/test_list $(VECTORS)/real/questions.txt $(VECTORS)/real/answers.txt
+	@build/test_lookup $(VECTORS)/lookup-questions.txt $(VECTORS)/lookup-answers.txt
+	@build/test_lookup $(VECTORS)/real/questions.txt $(VECTORS)/real/answers.txt
 
 # One sentence where something is missing.
 tools:
@@ -37,16 +49,22 @@ build/cellumaq.h: include/cellumaq.h
 build/test_%: tests/c/test_%.c $(wildcard tests/c/*.h) build/libcellumaq.a build/cellumaq.h
 	@$(CC) $(CFLAGS) -Ibuild -Itests/c -o $@ $< build/libcellumaq.a
 
-build/bench_%: bench/bench_%.c $(wildcard tests/c/*.h) build/libcellumaq.a build/cellumaq.h
+build/bench_%: bench/bench_%.c $(wildcard bench/*.h tests/c/*.h) build/libcellumaq.a build/cellumaq.h
 	@$(CC) $(CFLAGS) -Ibuild -Itests/c -o $@ $< build/libcellumaq.a
 
-build/checksum: demo/checksum.c build/libcellumaq.a build/cellumaq.h
+build/demo_%: demo/%.c $(wildcard demo/*.h) build/libcellumaq.a build/cellumaq.h
 	@$(CC) $(CFLAGS) -Ibuild -o $@ $< build/libcellumaq.a
 
-demo: build/checksum
-	@build/checksum NOTICE
+# A dataset of 11 by 13 that the HDF5 library has written: offsets of 8 bytes, the index at 447, elements of 4 bytes, chunks of 4 by 4.
+DATASET = tests/data/real/edge_ea.bin 8 8 447 4 4,4 11,13 '*,15'
+
+demo: build/demo_checksum build/demo_list build/demo_lookup
+	@build/demo_checksum tests/data/real/edge_ea.bin
+	@build/demo_list $(DATASET)
+	@build/demo_lookup $(DATASET) 8,4
 
 bench: $(BENCHES:%=build/%)
+	@bench/rust $(RUST_SOURCES)
 	@for b in $(BENCHES); do build/$$b || exit 1; done
 
 install: lib

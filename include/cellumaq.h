@@ -16,6 +16,148 @@ extern "C" {
 /* HDF5's metadata checksum: Bob Jenkins' lookup3, hashlittle with start value 0, of `length` bytes. They are only read, at any alignment. */
 uint32_t cellumaq_checksum(const uint8_t *bytes, size_t length);
 
+/* The length of a dimension without an end: as its maximum length, or as its present one where no maximum is given. */
+#define CELLUMAQ_UNLIMITED UINT64_MAX
+
+/* Why a call gives no result. A refusal has two figures; each is 0 where none is named here, and UINT64_MAX where it would be more. Of several reasons
+ * the first that is met is told: the header (20, 21, 22, 2, 1, 26), then the shapes (3 to 8) and the corner, then 27, the index block, and the other
+ * blocks in the order of the chunks' numbers; a list that is too small comes last. */
+enum cellumaq_refusal {
+    CELLUMAQ_ACCEPTED = 0, /* no refusal */
+
+    /* What the caller gave. */
+    CELLUMAQ_OFFSET_SIZE = 1,     /* the offset size isn't 2, 4 or 8; first figure: it */
+    CELLUMAQ_LENGTH_SIZE = 2,     /* the length size isn't 2, 4 or 8; first figure: it */
+    CELLUMAQ_RANK = 3,            /* the rank is over 32, or the chunk shape isn't of 8 * rank bytes */
+    CELLUMAQ_PRESENT_RANK = 4,    /* the present shape isn't of 8 * rank bytes */
+    CELLUMAQ_MAXIMUM_RANK = 5,    /* a maximum shape is given that isn't of 8 * rank bytes */
+    CELLUMAQ_CHUNK_LENGTH = 6,    /* a chunk has length 0 in some dimension */
+    CELLUMAQ_UNLIMITED_COUNT = 7, /* a dimension is unlimited whose number of chunks is needed: all but the leading one's are */
+    CELLUMAQ_TOO_MANY_CHUNKS = 8, /* the shapes have more chunks than 2^64 - 1 can number */
+    CELLUMAQ_LIST_TOO_SMALL = 9,  /* the list has no room for all records; first figure: how many there are */
+    CELLUMAQ_CORNER = 10,         /* the corner isn't of 8 * rank bytes, no multiple of the chunk's lengths, or not below the present ones */
+
+    /* What the file's writer wrote. */
+    CELLUMAQ_PAST_END = 20,              /* a structure ends behind the file; figures: its end, the file's length */
+    CELLUMAQ_HEADER_SIGNATURE = 21,      /* no "EAHD" at the address */
+    CELLUMAQ_HEADER_VERSION = 22,        /* the header's version isn't 0; first figure: it */
+    CELLUMAQ_INDEX_BLOCK_SIGNATURE = 23, /* no "EAIB" where the header names the index block */
+    CELLUMAQ_DATA_BLOCK_SIGNATURE = 24,  /* no "EADB" where a data block is named */
+    CELLUMAQ_SUPER_BLOCK_SIGNATURE = 25, /* no "EASB" where a super block is named */
+    CELLUMAQ_CHECKSUM = 26,              /* a structure's checksum is wrong; figures: the stored one, the computed one */
+    CELLUMAQ_HEADER_NOT_SERVED = 27,     /* the header is sound, but beyond what is read here: least block elements no power of two from 1 to
+                                          * 128, max bits over 62, super block minimum over 32, or page exponent over 32 */
+    CELLUMAQ_ELEMENT_SIZE = 28,          /* a filtered element has too few bytes for an address and a mask */
+    CELLUMAQ_SIZE_FIELD = 29,            /* a filtered element has over 8 bytes for the chunk's size */
+    CELLUMAQ_CHUNK_SIZE = 30,            /* a chunk's size is over 2^32 - 1; first figure: it */
+    CELLUMAQ_NUMBERS_NOTHING = 32,       /* a chunk is named though a dimension behind the leading one has no chunks */
+    CELLUMAQ_OFFSET_OVERFLOW = 33        /* a chunk's offset is over 2^64 - 1 */
+};
+
+/* The number that a call returns is picked by its last argument, `which`. Any other argument gives the refusal, as 0 does. */
+enum cellumaq_which {
+    CELLUMAQ_REFUSAL = 0,       /* the refusal's number, 0 where the call is accepted */
+    CELLUMAQ_FIRST_FIGURE = 1,  /* the refusal's figures */
+    CELLUMAQ_SECOND_FIGURE = 2,
+    CELLUMAQ_COUNT = 3,         /* how many records there are, 0 after a refusal; of a lookup 1 or 0 */
+    CELLUMAQ_FOUND_ADDRESS = 4, /* of a lookup: the chunk's address, size and filter mask, 0 where it isn't there */
+    CELLUMAQ_FOUND_SIZE = 5,
+    CELLUMAQ_FOUND_MASK = 6
+};
+
+/* How a dataset's chunks are numbered. HDF5 numbers those of an extensible array with the unlimited dimension first. */
+enum cellumaq_order {
+    CELLUMAQ_ROW_MAJOR = 0,      /* the last dimension fastest */
+    CELLUMAQ_UNLIMITED_FIRST = 1 /* the first unlimited dimension slowest, the others as they stand; any number but 0 means this */
+};
+
+/* Lists the chunks of the dataset whose index is the extensible array at `address`.
+ *
+ * file           The file from its first byte on: an address is a position in this slice.
+ * offset_size    How many bytes the file has for an offset and for a length: 2, 4 or 8, as its superblock says.
+ * length_size
+ * address        Where the array's header, "EAHD", begins.
+ * element_bytes  The bytes of one element of the dataset. The size of a chunk that isn't filtered is the product of the chunk's lengths and this.
+ * order          enum cellumaq_order.
+ * rank           How many dimensions the dataset has, 0 to 32.
+ * chunk          Three shapes, each of 8 * rank bytes, stored by cellumaq_put_length(): the lengths of a chunk,
+ * present        those of the dataset at present,
+ * has_maximum    and those that it can grow to, unless has_maximum is 0; then `maximum` is not looked at, and the present shape stands for it.
+ * maximum
+ * list           Room for floor(list_length / cellumaq_record_size(rank)) records, at any alignment. It must not overlap the other slices.
+ * which          enum cellumaq_which.
+ *
+ * file, chunk, present and maximum are only read. If the call is accepted, each chunk that the array has an address for below its published count, and
+ * whose corner is in the present shape, has one record in the list, in the order of the chunks' numbers; the bytes behind the last record stay as they
+ * were. After a refusal the whole list is as it was. What is written doesn't depend on `which`. At rank 0 each of those addresses is a record.
+ *
+ * A record's address and size are those that the array has. Whether the chunk's bytes lie in the file is not tested here.
+ *
+ * Ask with CELLUMAQ_COUNT. Only at 0 ask again, with CELLUMAQ_REFUSAL: no chunk, or why there is no list. A list of length 0 asks how many records
+ * there are: it is refused with CELLUMAQ_LIST_TOO_SMALL unless there is none, and the first figure says how many.
+ */
+uint64_t cellumaq_list(const uint8_t *file, size_t file_length, uint64_t offset_size, uint64_t length_size, uint64_t address, uint64_t element_bytes,
+                       uint64_t order, uint64_t rank, const uint8_t *chunk, size_t chunk_length, const uint8_t *present, size_t present_length,
+                       uint64_t has_maximum, const uint8_t *maximum, size_t maximum_length, uint8_t *list, size_t list_length, uint64_t which);
+
+/* Looks up one chunk of a dataset by its corner: the chunk whose first element has the offsets `corner`, stored as a shape is. The other arguments
+ * are those of cellumaq_list(). All slices are only read.
+ *
+ * Where the list is accepted, the lookup of a chunk in the present shape is too, and finds what the list has for its corner, or nothing where the list
+ * has no such record. But only what leads to the chunk is tested: the header, the index block, and the super block, data block and page that name it.
+ * Damage elsewhere is not noticed.
+ *
+ * Ask with CELLUMAQ_COUNT. At 1 ask for address, size and mask. Only at 0 ask with CELLUMAQ_REFUSAL: no such chunk in the file, or why that isn't known.
+ */
+uint64_t cellumaq_lookup(const uint8_t *file, size_t file_length, uint64_t offset_size, uint64_t length_size, uint64_t address, uint64_t element_bytes,
+                         uint64_t order, uint64_t rank, const uint8_t *chunk, size_t chunk_length, const uint8_t *present, size_t present_length,
+                         uint64_t has_maximum, const uint8_t *maximum, size_t maximum_length, const uint8_t *corner, size_t corner_length,
+                         uint64_t which);
+
+/* Stores a dimension's length into a shape, or its offset into a corner, of at least 8 * (dimension + 1) bytes. The first dimension is 0. */
+static inline void cellumaq_put_length(uint8_t *shape, size_t dimension, uint64_t length)
+{
+    for (size_t i = 0; i < 8; i++)
+        shape[8 * dimension + i] = (uint8_t)(length >> (8 * i));
+}
+
+/* A number of `width` bytes, 8 at most, little-endian. */
+static inline uint64_t cellumaq_get(const uint8_t *bytes, size_t width)
+{
+    uint64_t number = 0;
+
+    for (size_t i = width; i > 0; i--)
+        number = number << 8 | bytes[i - 1];
+    return number;
+}
+
+/* The bytes of one record: the chunk's address 8, its size 4, its filter mask 4, its corner's offset 8 in each dimension, all little-endian. */
+static inline size_t cellumaq_record_size(size_t rank)
+{
+    return 16 + 8 * rank;
+}
+
+/* The fields of record i, which must be below the count. */
+static inline uint64_t cellumaq_record_address(const uint8_t *list, size_t rank, size_t i)
+{
+    return cellumaq_get(list + i * cellumaq_record_size(rank), 8);
+}
+
+static inline uint32_t cellumaq_record_chunk_size(const uint8_t *list, size_t rank, size_t i)
+{
+    return (uint32_t)cellumaq_get(list + i * cellumaq_record_size(rank) + 8, 4);
+}
+
+static inline uint32_t cellumaq_record_mask(const uint8_t *list, size_t rank, size_t i)
+{
+    return (uint32_t)cellumaq_get(list + i * cellumaq_record_size(rank) + 12, 4);
+}
+
+static inline uint64_t cellumaq_record_offset(const uint8_t *list, size_t rank, size_t i, size_t dimension)
+{
+    return cellumaq_get(list + i * cellumaq_record_size(rank) + 16 + 8 * dimension, 8);
+}
+
 #ifdef __cplusplus
 }
 #endif

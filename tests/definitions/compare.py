@@ -44,6 +44,7 @@ def built(sources):
     for name in SOURCES:
         shutil.copy(os.path.join(sources, name), os.path.join(folder, name))
     shutil.copy(os.path.join(HERE, "harness.rs"), os.path.join(folder, "main.rs"))
+    shutil.copy(os.path.join(HERE, "shims.rs"), os.path.join(folder, "shims.rs"))
     with open(os.path.join(folder, "Cargo.toml"), "w") as f:
         f.write(MANIFEST)
     subprocess.run(["cargo", "build", "--release", "--offline", "--quiet"], cwd=folder, check=True, env={**os.environ, "RUSTFLAGS": "-Awarnings"})

@@ -1,10 +1,15 @@
 // The doors for C: each passes on to the library.
 ghost use mathlib.Core.Path.{_≡_};
+ghost use mathlib.Core.Bool.{true};
 ghost use mathlib.Core.List.{List};
+ghost use mathlib.Core.Option.{Option};
 ghost use Prim.Native.Nat.{ℕ, _<_};
 ghost use lib.ListN.{length};
 ghost use lib.Seq.{sets};
 ghost use Rattle.checksum.specs.Lookup3.{lookup3};
+ghost use Rattle.refusal.specs.Outcome.{accepted};
+ghost use Rattle.chunk_grid.specs.Grid.{isChunk};
+ghost use Rattle.chunk_grid.specs.Shapes.{shapeOf};
 ghost use Rattle.ea_blocks.specs.declared.Counted.the-variants.{Count};
 ghost use Rattle.ea_blocks.specs.Call.{Rec};
 ghost use Rattle.ea_blocks.specs.Records.{listBytes};
@@ -12,8 +17,12 @@ ghost use Rattle.ea_blocks.specs.Runs.{countedOf};
 ghost use Rattle.ea_list.specs.Listing.{listContent};
 ghost use Rattle.ea_list.specs.Judged.{Judged};
 ghost use Rattle.ea_list.specs.Door.{doorGrid, callAt, listAt, listNumbers, picked};
+ghost use Rattle.ea_lookup.specs.Lookup.{Answers, Agrees};
+ghost use Rattle.ea_lookup.specs.Door.{lookupAt, lookupNumbers};
 use ea_list::door::list_at;
 use ea_list::door::list_number;
+use ea_lookup::door::found_number;
+use ea_lookup::door::lookup_at;
 
 // HDF5's metadata checksum of some bytes.
 #[no_mangle]
@@ -23,7 +32,8 @@ pub extern "C" fn cellumaq_checksum(bytes: &[u8]) -> u32
     checksum::jenkins_lookup3(bytes)
 }
 
-// The chunk list of a dataset, into a lent list. Answers the number that `which` asks for.
+// The chunk list of a dataset, into a lent list. Answers the number that `which` asks for: 0, where the refusal is asked for, says that
+// the call is accepted. The list holds what it says, and for rank 1 to 32 an accepted list can be judged chunk by chunk.
 #[no_mangle]
 pub extern "C" fn cellumaq_list(
     file: &[u8],
@@ -40,11 +50,13 @@ pub extern "C" fn cellumaq_list(
     list: &mut [u8],
     which: u64,
 ) -> u64
-    ensures number { λ r. ⌜ r ≡ picked which (listNumbers (listAt (now (file .entry)) address «offset_size» «length_size» (doorGrid order rank (now (chunk .entry)) (now (present .entry)) «has_maximum» (now (maximum .entry))) «element_bytes» (length (now (list .entry))))) ⌝ }
-    ensures content { λ _. ⌜ now (list .exit) ≡ listContent (listAt (now (file .entry)) address «offset_size» «length_size» (doorGrid order rank (now (chunk .entry)) (now (present .entry)) «has_maximum» (now (maximum .entry))) «element_bytes» (length (now (list .entry)))) (now (list .entry)) ⌝ }
-    ensures judged { λ _. ⌜ ((n : ℕ) → countedOf (listAt (now (file .entry)) address «offset_size» «length_size» (doorGrid order rank (now (chunk .entry)) (now (present .entry)) «has_maximum» (now (maximum .entry))) «element_bytes» (length (now (list .entry)))) ≡ Count n → 0 < rank
-        → (l : List Rec) × (now (list .exit) ≡ sets (now (list .entry)) 0 (listBytes l))
-        × Judged (callAt (now (file .entry)) address «offset_size» «length_size» (doorGrid order rank (now (chunk .entry)) (now (present .entry)) «has_maximum» (now (maximum .entry))) «element_bytes») l n) ⌝ }
+    ensures { λ r. ⌜ (let grid = doorGrid order rank (now (chunk .entry)) (now (present .entry)) «has_maximum» (now (maximum .entry)) in
+        let call = callAt (now (file .entry)) address «offset_size» «length_size» grid «element_bytes» in
+        let answer = listAt (now (file .entry)) address «offset_size» «length_size» grid «element_bytes» (length (now (list .entry))) in
+        (r ≡ picked which (listNumbers answer))
+        × (which ≡ 0 → r ≡ 0 → (n : ℕ) × (countedOf answer ≡ Count n))
+        × (now (list .exit) ≡ listContent answer (now (list .entry)))
+        × ((n : ℕ) → countedOf answer ≡ Count n → 0 < rank → (l : List Rec) × (now (list .exit) ≡ sets (now (list .entry)) 0 (listBytes l)) × Judged call l n)) ⌝ }
 {
     let counted = list_at(
         file,
@@ -61,4 +73,49 @@ pub extern "C" fn cellumaq_list(
         list,
     );
     list_number(counted, which)
+}
+
+// One chunk of a dataset by its corner. Answers the number that `which` asks for: 0, where the refusal is asked for, says that the call
+// is accepted. An accepted answer says what the place of the corner's slot holds, and agrees with an accepted list.
+#[no_mangle]
+pub extern "C" fn cellumaq_lookup(
+    file: &[u8],
+    offset_size: u64,
+    length_size: u64,
+    address: u64,
+    element_bytes: u64,
+    order: u64,
+    rank: u64,
+    chunk: &[u8],
+    present: &[u8],
+    has_maximum: u64,
+    maximum: &[u8],
+    corner: &[u8],
+    which: u64,
+) -> u64
+    ensures { λ r. ⌜ (let grid = doorGrid order rank (now (chunk .entry)) (now (present .entry)) «has_maximum» (now (maximum .entry)) in
+        let at = shapeOf rank (now (corner .entry)) in
+        let call = callAt (now (file .entry)) address «offset_size» «length_size» grid «element_bytes» in
+        let answer = lookupAt (now (file .entry)) address «offset_size» «length_size» grid «element_bytes» at in
+        (r ≡ picked which (lookupNumbers answer))
+        × (which ≡ 0 → r ≡ 0 → (x : Option Rec) × (answer ≡ accepted x))
+        × ((x : Option Rec) → answer ≡ accepted x → Answers call at x)
+        × ((room : ℕ) (l : List Rec) → 0 < rank → listAt (now (file .entry)) address «offset_size» «length_size» grid «element_bytes» room ≡ accepted l
+        → isChunk grid at ≡ true → (x : Option Rec) × (r ≡ picked which (lookupNumbers (accepted x))) × Agrees l at x)) ⌝ }
+{
+    let found = lookup_at(
+        file,
+        offset_size,
+        length_size,
+        address,
+        element_bytes,
+        order,
+        rank,
+        chunk,
+        present,
+        has_maximum,
+        maximum,
+        corner,
+    );
+    found_number(found, which)
 }

@@ -6,3 +6,4 @@ pub mod SeenRuns
 pub mod Written
 pub mod Rooms
 pub mod Doors
+pub mod Numbered

@@ -36,11 +36,12 @@ pub fn list_at(
     maximum: &[u8],
     list: &mut [u8],
 ) -> Counted
-    ensures counted { λ r. ⌜ r ≡ countedOf (listAt (now (file .entry)) address «offset_size» «length_size» (doorGrid order rank (now (chunk .entry)) (now (present .entry)) «has_maximum» (now (maximum .entry))) «element_bytes» (length (now (list .entry)))) ⌝ }
-    ensures content { λ _. ⌜ now (list .exit) ≡ listContent (listAt (now (file .entry)) address «offset_size» «length_size» (doorGrid order rank (now (chunk .entry)) (now (present .entry)) «has_maximum» (now (maximum .entry))) «element_bytes» (length (now (list .entry)))) (now (list .entry)) ⌝ }
-    ensures judged { λ r. ⌜ ((n : ℕ) → r ≡ Count n → 0 < rank → (l : List Rec)
-        × (now (list .exit) ≡ sets (now (list .entry)) 0 (listBytes l))
-        × Judged (callAt (now (file .entry)) address «offset_size» «length_size» (doorGrid order rank (now (chunk .entry)) (now (present .entry)) «has_maximum» (now (maximum .entry))) «element_bytes») l n) ⌝ }
+    ensures { λ r. ⌜ (let grid = doorGrid order rank (now (chunk .entry)) (now (present .entry)) «has_maximum» (now (maximum .entry)) in
+        let call = callAt (now (file .entry)) address «offset_size» «length_size» grid «element_bytes» in
+        let answer = listAt (now (file .entry)) address «offset_size» «length_size» grid «element_bytes» (length (now (list .entry))) in
+        (r ≡ countedOf answer)
+        × (now (list .exit) ≡ listContent answer (now (list .entry)))
+        × ((n : ℕ) → r ≡ Count n → 0 < rank → (l : List Rec) × (now (list .exit) ≡ sets (now (list .entry)) 0 (listBytes l)) × Judged call l n)) ⌝ }
 {
     match ExtensibleArrayHeader::parse(file, address, offset_size, length_size) {
         Parsed::Header(header) => {

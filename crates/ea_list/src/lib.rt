@@ -41,11 +41,11 @@ pub fn read_extensible_array_chunks(
     offset_size: u64,
     list: &mut [u8],
 ) -> Counted
-    ensures counted { λ r. ⌜ r ≡ countedOf (listInto (callOf (now (file .entry)) header «offset_size» (gridOf grid) «element_bytes») (length (now (list .entry)))) ⌝ }
-    ensures content { λ _. ⌜ now (list .exit) ≡ listContent (listInto (callOf (now (file .entry)) header «offset_size» (gridOf grid) «element_bytes») (length (now (list .entry)))) (now (list .entry)) ⌝ }
-    ensures judged { λ r. ⌜ ((n : ℕ) → r ≡ Count n → 0 < grid .rank → (l : List Rec)
-        × (now (list .exit) ≡ sets (now (list .entry)) 0 (listBytes l))
-        × Judged (callOf (now (file .entry)) header «offset_size» (gridOf grid) «element_bytes») l n) ⌝ }
+    ensures { λ r. ⌜ (let call = callOf (now (file .entry)) header «offset_size» (gridOf grid) «element_bytes» in
+        let answer = listInto call (length (now (list .entry))) in
+        (r ≡ countedOf answer)
+        × (now (list .exit) ≡ listContent answer (now (list .entry)))
+        × ((n : ℕ) → r ≡ Count n → 0 < grid .rank → (l : List Rec) × (now (list .exit) ≡ sets (now (list .entry)) 0 (listBytes l)) × Judged call l n)) ⌝ }
 {
     let mut counts = [0u64; 32];
     let mut bound = [0u64; 32];
@@ -100,7 +100,7 @@ fn list_walk(
 }
 
 // The bytes of a chunk, the product of its lengths and the element's bytes, or 2^64 - 1 where they are more.
-fn chunk_bytes(chunk: &[u64; 32], rank: usize, element_bytes: u64) -> u64
+pub fn chunk_bytes(chunk: &[u64; 32], rank: usize, element_bytes: u64) -> u64
     requires { ⌜ (rank ≤ 32) × (length (take rank (now chunk)) ≡ rank) ⌝ }
     ensures { λ r. ⌜ r ≡ figure (product (take rank (now (chunk .entry))) * «element_bytes») ⌝ }
 {

@@ -1,2 +1,5 @@
 pub mod Looking
+pub mod Ways
+pub mod Calls
 pub mod Doors
+pub mod Numbered

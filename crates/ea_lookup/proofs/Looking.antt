@@ -1,10 +1,9 @@
 -- What an accepted lookup says, and that it agrees with an accepted list. Assumes nothing.
 use Prim.Native.Nat.{ℕ, _<_, _≤_}
-use mathlib.Core.Path.{_≡_, refl, sym, ap, subst, _∙_}
-use mathlib.Core.Bool.{Bool, true, false, not, cond}
+use mathlib.Core.Path.{_≡_, refl, sym, subst, _∙_}
+use mathlib.Core.Bool.{Bool, true, false, cond}
 use mathlib.Core.List.{List, List·Memᴰ}
 use mathlib.Core.Option.{Option, none, some, Option·some-injective}
-use mathlib.Core.Logic.{⊎-elim}
 use native.Mathlib.Omega.{arith}
 use borrow.Author.Tests.{lt-ltb, ltb-true, not-false}
 use lib.Dec.{ltb}
@@ -12,19 +11,17 @@ use lib.ListN.{length}
 use Rattle.refusal.specs.declared.Checked.{Checked}
 use Rattle.refusal.specs.declared.Checked.the-variants.{Passed}
 use Rattle.refusal.specs.Refusals.{largest64, refuse, _then_}
-use Rattle.refusal.specs.Outcome.{Outcome, accepted, _yields_}
-use Rattle.refusal.proofs.Tests.{by-cond, lt-or-ge, then-inv, refuse-inv}
+use Rattle.refusal.specs.Outcome.{Outcome, accepted}
+use Rattle.refusal.proofs.Tests.{by-cond, then-inv, refuse-inv}
 use Rattle.refusal.proofs.Outcomes.{yields-inv, yields-passed}
-use Rattle.chunk_grid.specs.Grid.{Grid, gridTest, cornerTest, isChunk, slotOf, chunkAt}
+use Rattle.chunk_grid.specs.Grid.{gridTest, cornerTest, isChunk, slotOf, chunkAt}
 use Rattle.chunk_grid.specs.declared.Slot.{Slot}
 use Rattle.chunk_grid.specs.declared.Slot.the-variants.{At, NoSlot}
 use Rattle.chunk_grid.proofs.Grids.{Accepted, accepted as grid-accepted}
 use Rattle.chunk_grid.proofs.Chunks.{slot-chunk-at}
-use Rattle.ea_header.specs.Served.{servedTest}
 use Rattle.ea_blocks.specs.declared.Entry.{Entry}
 use Rattle.ea_blocks.specs.Call.{Call, Rec}
-use Rattle.ea_blocks.specs.Structures.{indexBlock, testOf}
-use Rattle.ea_blocks.specs.Places.{held, recordOf, recordAt, path}
+use Rattle.ea_blocks.specs.Places.{recordOf, recordAt, path}
 use Rattle.ea_blocks.proofs.Elements.{some-is}
 use Rattle.ea_blocks.proofs.Paths.{path-record}
 use Rattle.ea_walk.specs.Walk.{walk}

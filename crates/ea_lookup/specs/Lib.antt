@@ -1,2 +1,3 @@
 pub mod Lookup
+pub mod Found
 pub mod Door

@@ -1,8 +1,9 @@
 -- `cellumaq::cellumaq_list` meets its contract. Assumes nothing.
 use borrow.Author.Needs.{needs}
-use mathlib.Core.Path.{_≡_, sym, ap, _∙_}
+use mathlib.Core.Path.{_≡_, ap, _∙_}
 use Rattle.ea_blocks.specs.declared.Counted.{Counted}
 use Rattle.ea_list.specs.Door.{countedNumbers, picked}
+use Rattle.ea_list.proofs.Numbered.{list-zero}
 use Rattle.cellumaq.proofs.cellumaq_list.Statement.{statement}
 use Rattle.cellumaq.proofs.cellumaq_list.Tie as tie
 
@@ -19,7 +20,8 @@ returns : tie.Need-returns
 returns c =
     let e = c .before .before .before .list-at .ensures in
     let a = c .before .before .before .before .before .before .before .before .before .before .args in
-    (c .list-number .ensures ∙ ap (λ (x : Counted). picked (a .which) (countedNumbers x)) (e .0), (e .1 .0, λ n h. e .1 .1 n (e .0 ∙ h)))
+    let number = c .list-number .ensures ∙ ap (λ (x : Counted). picked (a .which) (countedNumbers x)) (e .0) in
+    (number, list-zero _ _ _ _ _ _ _ _ _ number, e .1, λ n h. e .2 n (e .0 ∙ h))
 
 pub cellumaq-list-spec : {M : Type 1} → statement M
 cellumaq-list-spec = tie.close (tie.spec list-at-requires list-number-requires same-length returns)

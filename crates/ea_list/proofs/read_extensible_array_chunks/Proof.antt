@@ -37,7 +37,7 @@ returns : tie.Need-returns
 returns c =
     let t = sym (c .before .before .before .before .before .before .numbering .ensures .0) ∙ c .before .checked .given .1 in
     let p = into-refused (callOf _ _ _ (gridOf _) _) _ _ _ t in
-    (p .0, (p .1, λ n h. absurd (refused-count _ n h)))
+    (p .0, p .1, λ n h. absurd (refused-count _ n h))
 
 enum-told : tie.Need-enum-told
 enum-told c = search needs
@@ -95,7 +95,7 @@ returns-2 c =
     let i = into-passed (call b) _ (passed (b .before .before .before)) in
     let counted = e .0 ∙ ap countedOf i in
     let content = e .1 ∙ ap (λ (a : Listing). listContent a (start (b .before .before .before) .args .list .now)) i in
-    (counted, (content, λ n h ranked. delivered (call b) ranked (fits (start (b .before .before .before))) _ _ _ _ counted content n h))
+    (counted, content, λ n h ranked. delivered (call b) ranked (fits (start (b .before .before .before))) _ _ _ _ counted content n h)
 
 pub read-extensible-array-chunks-spec : {M : Type 1} → statement M
 read-extensible-array-chunks-spec =

@@ -57,7 +57,7 @@ returns : tie.Need-returns
 returns c =
     let b = c .before .before .before in
     let p = at-no-grid _ _ _ _ (grid b) _ _ _ _ (header (b .before .before) .0) (sym (built b .0) ∙ c .before .checked .given .1) in
-    (p .0, (p .1, λ n h. absurd (refused-count _ n h)))
+    (p .0, p .1, λ n h. absurd (refused-count _ n h))
 
 enum-told : tie.Need-enum-told
 enum-told c = search needs
@@ -82,19 +82,17 @@ returns-2 c =
     let e = l .read-extensible-array-chunks .ensures in
     let i = at-passed _ _ _ _ _ (h .1) (grid b) _ k _ _ (h .0) in (
       e .0 ∙ ap countedOf i,
-      (
-        e .1 .0 ∙ ap (λ (a : Listing). listContent a (start (b .before .before) .args .list .now)) i,
-        λ n j ranked.
-            let d = e .1 .1 n j (rw (ap (λ (x : Grid). x .rank) k) ranked) in
-            (d .0, d .1, subst (λ (x : Call). Judged x (d .0) n) (call-is _ _ _ _ _ (h .1) (grid b) _ k _) (d .2)),
-      ),
+      e .1 ∙ ap (λ (a : Listing). listContent a (start (b .before .before) .args .list .now)) i,
+      λ n j ranked.
+          let d = e .2 n j (rw (ap (λ (x : Grid). x .rank) k) ranked) in
+          (d .0, d .1, subst (λ (x : Call). Judged x (d .0) n) (call-is _ _ _ _ _ (h .1) (grid b) _ k _) (d .2)),
     )
 
 returns-3 : tie.Need-returns-3
 returns-3 c =
     let t = parsed-refused _ _ _ _ _ _ (sym (c .before .r .given .1) ∙ c .before .before .before .parse .ensures) in
     let p = at-no-header _ _ _ _ _ _ _ _ _ t in
-    (p .0, (p .1, λ n h. absurd (refused-count _ n h)))
+    (p .0, p .1, λ n h. absurd (refused-count _ n h))
 
 pub list-at-spec : {M : Type 1} → statement M
 list-at-spec =
