@@ -51,7 +51,7 @@ returns c =
     let told = c .before .before .list-at .ensures in
     let second : 16 * rank - 8 * rank ≡ 8 * rank = omega arith in
     let third : 24 * rank - 16 * rank ≡ 8 * rank = omega arith in
-    (rw (second, third) at (told .0), rw (second, third) at (told .1 .0))
+    (rw (second, third) at (told .0), rw (second, third) at (told .1))
 
 pub list-chunks-spec : {M : Type 1} → statement M
 list-chunks-spec =
