@@ -4,7 +4,7 @@ CC = gcc
 CFLAGS = -std=c11 -O2 -Wall -Wextra -Werror
 VERSION = 0.1.0
 
-C_TESTS = test_checksum test_list test_list_call test_lookup test_spans
+C_TESTS = test_checksum test_list test_list_call test_lookup test_spans test_eals
 BENCHES = bench_checksum bench_list bench_lookup
 
 # A folder with whole lists of questions and answers, of which tests/data has a part.
@@ -45,6 +45,14 @@ build/libcellumaq.a: crates.txt $(shell find crates -name '*.rt' -o -name '*.ant
 build/cellumaq.h: include/cellumaq.h
 	@mkdir -p build
 	@cp include/cellumaq.h $@
+
+# The program, proved before it is built.
+build/eals: crates.txt $(shell find crates -name '*.rt' -o -name '*.antt') | tools
+	@mkdir -p build
+	rt check eals >build/eals.log 2>&1 || { cat build/eals.log; exit 1; }
+	@cp target/bin/eals $@
+
+build/test_eals: build/eals
 
 build/test_%: tests/c/test_%.c $(wildcard tests/c/*.h) build/libcellumaq.a build/cellumaq.h
 	@$(CC) $(CFLAGS) -Ibuild -Itests/c -o $@ $< build/libcellumaq.a

@@ -1,0 +1,138 @@
+-- How much room lengths, records and texts take. Assumes nothing.
+use mathlib.Core.Path.{_≡_, refl, ap}
+use mathlib.Core.Bool.{Bool, true, false}
+use mathlib.Core.List.{List, [], _∷_, _++_}
+use Prim.Native.Nat.{ℕ, zero, suc, _*_, _≤_}
+use native.Mathlib.Nat.{le-div-iff-mul-le}
+use native.Mathlib.Omega.{arith}
+use lib.Dec.{eqb, ltb}
+use lib.ListN.{length, drop, length-append, length-drop}
+use borrow.Author.Tests.{eqb-true, ltb-false}
+use Rattle.refusal.specs.declared.Refusal.{Refusal}
+use Rattle.refusal.specs.declared.Checked.{Checked}
+use Rattle.refusal.specs.declared.Checked.the-variants.{Passed, Refused as CheckedRefused}
+use Rattle.refusal.specs.Refusals.{refuse}
+use Rattle.refusal.specs.Outcome.{refused, accepted, _yields_}
+use Rattle.refusal.proofs.Tests.{by-cond, both}
+use Rattle.chunk_grid.specs.Shapes.{givenBytes}
+use Rattle.chunk_grid.specs.Values.{given}
+use Rattle.chunk_grid.proofs.Shapes.{length-numbers}
+use Rattle.ea_blocks.specs.declared.Counted.{Counted}
+use Rattle.ea_blocks.specs.Records.{recordLength}
+use Rattle.ea_blocks.specs.Runs.{Listing, countedOf}
+use Rattle.ea_list.specs.Listing.{inRoom, listInto}
+use Rattle.ea_list.specs.Door.{doorGrid, callAt, listAt}
+use Rattle.eals.specs.Text.{words, onFirst, decimal}
+use Rattle.eals.specs.Line.{lineOf, fits, lengthsRead, headOf, withLengths, lineReading, readingOf}
+use Rattle.eals.specs.Printed.{spaced, recordLine, recordLines, recordIn, recordsIn, recordsWord, listText, refusedWord, refusalText}
+use Rattle.eals.specs.Program.{listingOf, countOf}
+use Rattle.eals.specs.declared.line.Question.{Question}
+use Rattle.eals.specs.declared.line.Reading.{Reading}
+use Rattle.eals.specs.declared.line.Reading.the-variants.{Asked, Unreadable}
+use Rattle.eals.proofs.Inputs.{line-short}
+use Rattle.eals.proofs.Digits.{length-decimal}
+use Rattle.eals.proofs.Lines.{list-parts}
+
+-- a line has at most one word more than bytes
+on-first-length : (x : ℕ) (ws : List (List ℕ)) → length (onFirst x ws) ≡ length ws
+unfolding onFirst
+on-first-length x [] = refl
+on-first-length x (w ∷ ws) = refl
+
+words-few : (s : List ℕ) → length (words s) ≤ suc (length s)
+unfolding words
+words-few [] = omega arith
+words-few (x ∷ s) =
+    let few = words-few s in
+    by-cond (λ (ws : List (List ℕ)). length ws ≤ suc (suc (length s))) (eqb x 32)
+    (λ _. omega arith)
+    (λ _. omega (arith, on-first-length x (words s)))
+
+-- so a question's lengths have room in 32,768 bytes
+unreadable-asked : (q : Question) → Unreadable ≡ Asked q → ⊥
+unreadable-asked q h = let z : _≡_ {A = ℕ} 0 1 = cc in omega arith
+
+lengths-asked : (a : Reading) (ws : List (List ℕ)) (q : Question) → withLengths a ws ≡ Asked q → 3 * q .rank ≡ length ws
+unfolding withLengths lengthsRead
+lengths-asked Unreadable ws q h = absurd (unreadable-asked q h)
+lengths-asked (Asked p) ws q h =
+    by-cond (λ (x : Reading). x ≡ Asked q → 3 * q .rank ≡ length ws) (lengthsRead (p .rank) ws)
+    (λ t e.
+    let same : p ≡ q = cc in
+    let count = eqb-true (length ws) (3 * p .rank) (both _ _ t .0) in
+    omega (arith, count, ap (λ (x : Question). x .rank) same))
+    (λ _ e. absurd (unreadable-asked q e))
+    h
+
+pub rank-small : (input : List ℕ) (q : Question) → readingOf input ≡ Asked q → 24 * q .rank ≤ 32768
+unfolding readingOf lineReading
+rank-small input q h =
+    by-cond (λ (x : Reading). x ≡ Asked q → 24 * q .rank ≤ 32768) (fits input)
+    (λ t e.
+    let ws = words (lineOf input) in
+    let short = line-short input t in
+    omega (arith, short, words-few (lineOf input), length-drop 6 ws, lengths-asked (headOf ws) (drop 6 ws) q e))
+    (λ _ e. absurd (unreadable-asked q e))
+    h
+
+-- a lent list has room for the records that are counted
+in-room : (a : Listing) (room : ℕ) → countOf (countedOf (inRoom a room)) ≤ room
+unfolding inRoom countedOf countOf refuse _yields_
+in-room (refused r) room = omega arith
+in-room (accepted l) room = go (ltb room (length l)) refl
+  where
+    go : (b : Bool) → ltb room (length l) ≡ b → countOf (countedOf (refuse 9 (length l) 0 b yields accepted l)) ≤ room
+    go true e = omega arith
+    go false e = ltb-false room (length l) e
+
+passed-count : (t : Checked) (a : Listing) (n : ℕ) → countOf (countedOf a) ≤ n → countOf (countedOf (t yields a)) ≤ n
+unfolding _yields_ countedOf countOf
+passed-count Passed a n h = h
+passed-count (CheckedRefused r) a n h = omega arith
+
+pub counted-room : (q : Question) (lengths file : List ℕ) (room : ℕ) (counted : Counted) → counted ≡ countedOf (listingOf q lengths file room)
+    → countOf counted * recordLength (q .rank) ≤ room
+unfolding listingOf listAt listInto callAt doorGrid givenBytes given recordLength
+counted-room q lengths file room counted e =
+    rw e (le-div-iff-mul-le {k = recordLength (q .rank)} (omega arith) .0 (passed-count _ _ _ (in-room _ _)))
+
+-- texts
+length-spaced : (ns : List ℕ) → length (spaced ns) ≤ 21 * length ns
+unfolding spaced
+length-spaced [] = omega arith
+length-spaced (n ∷ ns) = omega (arith, length-decimal n, length-spaced ns, length-append (decimal n) (spaced ns))
+
+length-line : (rank : ℕ) (s : List ℕ) → length (recordLine (recordIn rank s)) ≤ 4 * recordLength rank
+unfolding recordLine recordIn recordLength
+length-line rank s =
+    let r = recordIn rank s in
+    let numbers = r .entry .size ∷ r .entry .mask ∷ r .corner in
+    let address = decimal (r .entry .address) in
+    omega (
+      arith,
+      length-append (address ++ spaced numbers) (10 ∷ []),
+      length-append address (spaced numbers),
+      length-decimal (r .entry .address),
+      length-spaced numbers,
+      length-numbers rank (drop 16 s),
+    )
+
+length-lines : (rank n : ℕ) (s : List ℕ) → length (recordLines (recordsIn rank n s)) ≤ 4 * (n * recordLength rank)
+unfolding recordsIn recordLines
+length-lines rank zero s = omega arith
+length-lines rank (suc n) s =
+    let behind = drop (recordLength rank) s in
+    omega (arith, length-append (recordLine (recordIn rank s)) (recordLines (recordsIn rank n behind)), length-line rank s, length-lines rank n behind)
+
+pub list-text-short : (rank n : ℕ) (s : List ℕ) → n * recordLength rank ≤ 65536 → length (listText (recordsIn rank n s)) ≤ 300000
+list-text-short rank n s h =
+    let lines = recordLines (recordsIn rank n s) in
+    let last = spaced (n ∷ []) ++ 10 ∷ [] in
+    rw (list-parts rank n s)
+    (omega (arith, length-append lines (recordsWord ++ last), length-append recordsWord last, length-append (spaced (n ∷ [])) (10 ∷ []), length-spaced (n ∷ []), length-lines rank n s))
+
+pub refusal-text-short : (r : Refusal) → length (refusalText r) ≤ 300000
+unfolding refusalText
+refusal-text-short r =
+    let numbers = r .number ∷ r .first ∷ r .second ∷ [] in
+    omega (arith, length-append (refusedWord ++ spaced numbers) (10 ∷ []), length-append refusedWord (spaced numbers), length-spaced numbers)

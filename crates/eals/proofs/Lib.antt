@@ -1,0 +1,10 @@
+pub mod Words
+pub mod Numbers
+pub mod Lengths
+pub mod Heads
+pub mod Inputs
+pub mod Digits
+pub mod Puts
+pub mod Lines
+pub mod Bounds
+pub mod Answers

@@ -1,0 +1,76 @@
+// What the program answers.
+ghost use mathlib.Core.Path.{_≡_};
+ghost use Prim.Native.Nat.{_*_, _≤_};
+ghost use lib.ListN.{length};
+ghost use lib.Seq.{sets};
+ghost use Rattle.io.specs.Counts.{Counts};
+ghost use Rattle.ea_blocks.specs.Runs.{countedOf};
+ghost use Rattle.ea_blocks.specs.Records.{recordLength};
+ghost use Rattle.ea_list.specs.Listing.{listContent};
+ghost use Rattle.eals.specs.Line.{storedOf};
+ghost use Rattle.eals.specs.Program.{listingOf, countedText, countOf, programText, programList};
+use crate::line::Question;
+use crate::line::Reading;
+use crate::line::file_of;
+use crate::line::parse;
+use crate::print::put_list;
+use crate::print::put_refusal;
+use crate::print::put_text;
+use ea_blocks::Counted;
+use ea_list::door::list_at;
+
+// Lists the chunks that a question asks for.
+fn list_chunks(list: &mut [u8], lengths: &[u8], file: &[u8], question: Question) -> Counted
+    requires { ⌜ 24 * question .rank ≤ length (now lengths) ⌝ }
+    ensures { λ r. ⌜ r ≡ countedOf (listingOf question (now (lengths .entry)) (now (file .entry)) (length (now (list .entry)))) ⌝ }
+    ensures { λ _. ⌜ now (list .exit) ≡ listContent (listingOf question (now (lengths .entry)) (now (file .entry)) (length (now (list .entry)))) (now (list .entry)) ⌝ }
+{
+    let chunk_end = 8 * question.rank as usize;
+    let present_end = 16 * question.rank as usize;
+    let maximum_end = 24 * question.rank as usize;
+    list_at(
+        file,
+        question.offset_size,
+        question.length_size,
+        question.address,
+        question.element_bytes,
+        question.order,
+        question.rank,
+        &lengths[..chunk_end],
+        &lengths[chunk_end..present_end],
+        1,
+        &lengths[present_end..maximum_end],
+        list,
+    )
+}
+
+// Puts the text of an answer into out, and answers where it ends.
+fn put_counted(out: &mut [u8], list: &[u8], counted: Counted, rank: usize) -> usize
+    requires { ⌜ (countOf counted * recordLength rank ≤ length (now list)) × (length (now list) ≡ 65536) × (300000 ≤ length (now out)) ⌝ }
+    ensures { λ r. ⌜ (r ≡ length (countedText rank counted (now (list .entry)))) × (r ≤ 300000) ⌝ }
+    ensures { λ _. ⌜ now (out .exit) ≡ sets (now (out .entry)) 0 (countedText rank counted (now (list .entry))) ⌝ }
+{
+    match counted {
+        Counted::Count(n) => put_list(out, list, n as usize, rank),
+        Counted::Refused(r) => put_refusal(out, r),
+    }
+}
+
+// Puts what the program prints of an input into out, and answers where it ends.
+pub fn answer(out: &mut [u8], list: &mut [u8], lengths: &mut [u8], input: &[u8]) -> usize
+    requires { ⌜ (length (now list) ≡ 65536) × (32768 ≤ length (now lengths)) × (300000 ≤ length (now out)) ⌝ }
+    ensures { λ r. ⌜ r ≡ length (programText (now (input .entry)) (now (lengths .entry)) (now (list .entry))) ⌝ }
+    ensures { λ r. ⌜ Counts r (now (out .exit)) ⌝ }
+    ensures { λ _. ⌜ now (out .exit) ≡ sets (now (out .entry)) 0 (programText (now (input .entry)) (now (lengths .entry)) (now (list .entry))) ⌝ }
+    ensures { λ _. ⌜ now (list .exit) ≡ programList (now (input .entry)) (now (lengths .entry)) (now (list .entry)) ⌝ }
+    ensures { λ _. ⌜ now (lengths .exit) ≡ storedOf (now (input .entry)) (now (lengths .entry)) ⌝ }
+{
+    match parse(lengths, input) {
+        Reading::Asked(question) => {
+            let file = file_of(input);
+            let counted = list_chunks(list, lengths, file, question);
+            put_counted(out, list, counted, question.rank as usize)
+        }
+        Reading::Unreadable => put_text(out, 0, b"unreadable\n"),
+    }
+}

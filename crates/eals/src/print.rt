@@ -1,0 +1,118 @@
+// The text that the program prints.
+ghost use mathlib.Core.Path.{_≡_};
+ghost use mathlib.Core.List.{[], _∷_};
+ghost use Prim.Native.Nat.{_+_, _*_, _≤_};
+ghost use lib.ListN.{length, drop};
+ghost use lib.Seq.{sets};
+ghost use Rattle.chunk_grid.specs.Shapes.{numbersIn};
+ghost use Rattle.ea_blocks.specs.Records.{recordLength};
+ghost use Rattle.eals.specs.Text.{decimal};
+ghost use Rattle.eals.specs.Printed.{spaced, recordLine, recordLines, listText, refusalText, recordIn, recordsIn};
+use fields::bytes::read_u32_le;
+use fields::bytes::read_u64_le;
+use refusal::Refusal;
+
+// Stores a text from `at` on, and answers where it ends.
+pub fn put_text(out: &mut [u8], at: usize, text: &[u8]) -> usize
+    requires { ⌜ at + length (now text) ≤ length (now out) ⌝ }
+    ensures { λ r. ⌜ r ≡ at + length (now (text .entry)) ⌝ }
+    ensures { λ _. ⌜ now (out .exit) ≡ sets (now (out .entry)) at (now (text .entry)) ⌝ }
+{
+    let mut i = 0;
+    while i < text.len() {
+        out[at + i] = text[i];
+        i += 1;
+    }
+    at + i
+}
+
+// The same of a number's digits.
+fn put_number(out: &mut [u8], at: usize, n: u64) -> usize
+    requires { ⌜ at + length (decimal n) ≤ length (now out) ⌝ }
+    ensures { λ r. ⌜ r ≡ at + length (decimal n) ⌝ }
+    ensures { λ _. ⌜ now (out .exit) ≡ sets (now (out .entry)) at (decimal n) ⌝ }
+{
+    let mut digits = [0u8; 20];
+    let k = io::decimal(n, &mut digits);
+    put_text(out, at, &digits[..k])
+}
+
+// The same, behind a space.
+fn put_spaced(out: &mut [u8], at: usize, n: u64) -> usize
+    requires { ⌜ at + length (spaced (n ∷ [])) ≤ length (now out) ⌝ }
+    ensures { λ r. ⌜ r ≡ at + length (spaced (n ∷ [])) ⌝ }
+    ensures { λ _. ⌜ now (out .exit) ≡ sets (now (out .entry)) at (spaced (n ∷ [])) ⌝ }
+{
+    let next = put_text(out, at, b" ");
+    put_number(out, next, n)
+}
+
+// The same of n numbers of 8 bytes each, which a list holds from `from` on, each behind a space.
+fn put_offsets(out: &mut [u8], at: usize, list: &[u8], from: usize, n: usize) -> usize
+    requires { ⌜ (from + 8 * n ≤ length (now list)) × (at + length (spaced (numbersIn n (drop from (now list)))) ≤ length (now out)) ⌝ }
+    ensures { λ r. ⌜ r ≡ at + length (spaced (numbersIn n (drop from (now (list .entry))))) ⌝ }
+    ensures { λ _. ⌜ now (out .exit) ≡ sets (now (out .entry)) at (spaced (numbersIn n (drop from (now (list .entry))))) ⌝ }
+{
+    let mut to = at;
+    let mut i = 0;
+    while i < n {
+        to = put_spaced(out, to, read_u64_le(list, from + 8 * i));
+        i += 1;
+    }
+    to
+}
+
+// The same of the line of the record that a list holds from `from` on.
+fn put_record(out: &mut [u8], at: usize, list: &[u8], from: usize, rank: usize) -> usize
+    requires { ⌜ (from + recordLength rank ≤ length (now list)) × (at + length (recordLine (recordIn rank (drop from (now list)))) ≤ length (now out)) ⌝ }
+    ensures { λ r. ⌜ r ≡ at + length (recordLine (recordIn rank (drop from (now (list .entry))))) ⌝ }
+    ensures { λ _. ⌜ now (out .exit) ≡ sets (now (out .entry)) at (recordLine (recordIn rank (drop from (now (list .entry))))) ⌝ }
+{
+    let address = put_number(out, at, read_u64_le(list, from));
+    let size = put_spaced(out, address, read_u32_le(list, from + 8) as u64);
+    let mask = put_spaced(out, size, read_u32_le(list, from + 12) as u64);
+    let offsets = put_offsets(out, mask, list, from + 16, rank);
+    put_text(out, offsets, b"\n")
+}
+
+// The lines of the first `count` records of a list.
+fn put_records(out: &mut [u8], list: &[u8], count: usize, rank: usize) -> usize
+    requires { ⌜ (count * recordLength rank ≤ length (now list)) × (length (recordLines (recordsIn rank count (now list))) ≤ length (now out)) ⌝ }
+    ensures { λ r. ⌜ r ≡ length (recordLines (recordsIn rank count (now (list .entry)))) ⌝ }
+    ensures { λ _. ⌜ now (out .exit) ≡ sets (now (out .entry)) 0 (recordLines (recordsIn rank count (now (list .entry)))) ⌝ }
+{
+    let mut to = 0;
+    let mut from = 0;
+    let mut left = count;
+    while 0 < left {
+        to = put_record(out, to, list, from, rank);
+        from += 16 + 8 * rank;
+        left -= 1;
+    }
+    to
+}
+
+// The text of a list of `count` records, from the start of out on; answers where it ends.
+pub fn put_list(out: &mut [u8], list: &[u8], count: usize, rank: usize) -> usize
+    requires { ⌜ (count * recordLength rank ≤ length (now list)) × (length (listText (recordsIn rank count (now list))) ≤ length (now out)) ⌝ }
+    ensures { λ r. ⌜ r ≡ length (listText (recordsIn rank count (now (list .entry)))) ⌝ }
+    ensures { λ _. ⌜ now (out .exit) ≡ sets (now (out .entry)) 0 (listText (recordsIn rank count (now (list .entry)))) ⌝ }
+{
+    let lines = put_records(out, list, count, rank);
+    let word = put_text(out, lines, b"records");
+    let number = put_spaced(out, word, count as u64);
+    put_text(out, number, b"\n")
+}
+
+// The text of a refusal.
+pub fn put_refusal(out: &mut [u8], refusal: Refusal) -> usize
+    requires { ⌜ length (refusalText refusal) ≤ length (now out) ⌝ }
+    ensures { λ r. ⌜ r ≡ length (refusalText refusal) ⌝ }
+    ensures { λ _. ⌜ now (out .exit) ≡ sets (now (out .entry)) 0 (refusalText refusal) ⌝ }
+{
+    let word = put_text(out, 0, b"refused");
+    let number = put_spaced(out, word, refusal.number);
+    let first = put_spaced(out, number, refusal.first);
+    let second = put_spaced(out, first, refusal.second);
+    put_text(out, second, b"\n")
+}
