@@ -2,6 +2,8 @@ pub mod Elements
 pub mod Sized
 pub mod Runs
 pub mod Turns
+pub mod DefinedRuns
+pub mod Skipping
 pub mod Counting
 pub mod Records
 pub mod Corners

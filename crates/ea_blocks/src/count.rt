@@ -13,6 +13,7 @@ ghost use Rattle.ea_blocks.specs.Values.{Reads};
 use crate::Counted;
 use crate::Element;
 use crate::Reading;
+use crate::defined::undefined_run;
 use crate::read::read_sized_element;
 use crate::read::test_element_size;
 use refusal::Checked;
@@ -82,6 +83,7 @@ fn count_sized_elements(
         → r ≡ countedOf (elements c pos n slot (accepted []))) ⌝ }
 {
     let stride = reading.geometry.element_stride() as usize;
+    let width = reading.geometry.offset_size;
     let mut offsets = [0u64; 32];
     let mut count = 0;
     let mut at = pos;
@@ -101,8 +103,9 @@ fn count_sized_elements(
             Element::Chunk(_) => count += 1,
             Element::Refused(r) => return Counted::Refused(r),
         }
-        at += stride;
-        i += 1;
+        let passed = 1 + undefined_run(file, at + stride, n - (i + 1), stride, width);
+        at += passed as usize * stride;
+        i += passed;
     }
     Counted::Count(count)
 }
