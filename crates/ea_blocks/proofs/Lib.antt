@@ -4,6 +4,7 @@ pub mod Runs
 pub mod Turns
 pub mod DefinedRuns
 pub mod Skipping
+pub mod AllChunks
 pub mod Counting
 pub mod Records
 pub mod Corners

@@ -24,7 +24,7 @@ module _ {c : Call} {file : List ℕ} {r : Reading} {chunk bound down : List ℕ
   undefinedFrom pos n = undefinedRun file pos n (strideOf r) (r .geometry .«offset_size»)
 
   -- an undefined one in front
-  skip-one : (pos n s : ℕ) → s < r .geometry .header .«num_elements» → undefinedAt file pos (r .geometry .«offset_size») ≡ true
+  pub skip-one : (pos n s : ℕ) → s < r .geometry .header .«num_elements» → undefinedAt file pos (r .geometry .«offset_size») ≡ true
       → elements c pos (suc n) s rest ≡ elements c (pos + strideOf r) n (s + 1) rest
   unfolding elements alsoElement undefinedAt
   skip-one pos n s l u =
