@@ -177,10 +177,10 @@ module _ (g : Grid) (rank u : ℕ) (chunk down : List ℕ) (n : Numbers rank u c
       abbrev C : List ℕ
       C = toFront (leading g) (g .chunk)
 
-      quotients-are : quotientsBy slot rank down ≡ Q
+      pub quotients-are : quotientsBy slot rank down ≡ Q
       quotients-are = ap (quotients slot) (n .downs)
 
-      bound-are : inOrder rank u bound ≡ toFront (leading g) (pairwise ceilDiv (g .present) (g .chunk))
+      pub bound-are : inOrder rank u bound ≡ toFront (leading g) (pairwise ceilDiv (g .present) (g .chunk))
       bound-are = rw (x .bounds, n .leads) refl
 
       front-offsets : toFront (leading g) (offsets g slot) ≡ pairwise _*_ Q C
@@ -193,7 +193,7 @@ module _ (g : Grid) (rank u : ℕ) (chunk down : List ℕ) (n : Numbers rank u c
           rw (quotients-are, chunk-are) (ap (any (ltb largest64)) (sym front-offsets)
           ∙ any-front (ltb largest64) (leading g) (offsets g slot) (omega (arith, lead g b, length-offsets g b slot)))
 
-      below-is : below (quotientsBy slot rank down) (inOrder rank u bound) ≡ below (offsets g slot) (g .present)
+      pub below-is : below (quotientsBy slot rank down) (inOrder rank u bound) ≡ below (offsets g slot) (g .present)
       unfolding below
       below-is =
           let p = b .presented in

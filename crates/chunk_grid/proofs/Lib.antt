@@ -10,3 +10,4 @@ pub mod Shapes
 pub mod Slots
 pub mod Tried
 pub mod Chunks
+pub mod Reach

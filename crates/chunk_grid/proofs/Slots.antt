@@ -18,7 +18,7 @@ use Rattle.refusal.proofs.Tests.{by-cond, false-true, both, neither}
 use Rattle.chunk_grid.proofs.Grids.{accepted, chunk-inv, slot-offsets, offsets-chunk, offsets-slot}
 
 -- what lies below numbers that 64 bits hold is held by them too
-below-fits : (l m : List ℕ) → below l m ≡ true → overflows m ≡ false → overflows l ≡ false
+pub below-fits : (l m : List ℕ) → below l m ≡ true → overflows m ≡ false → overflows l ≡ false
 unfolding below every overflows any
 below-fits [] m h f = refl
 below-fits (a ∷ l) [] h f = absurd (false-true h)

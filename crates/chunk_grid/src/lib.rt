@@ -1,8 +1,8 @@
 // The chunk grid: which slot of a chunk index is which chunk's.
 ghost use mathlib.Core.Path.{_≡_};
 ghost use mathlib.Core.Bool.{false, not, cond, _&&_};
-ghost use mathlib.Core.List.{[]};
-ghost use Prim.Native.Nat.{_-_, _*_, _/_, _%_, _<_, _≤_, max};
+ghost use mathlib.Core.List.{List, []};
+ghost use Prim.Native.Nat.{ℕ, _-_, _*_, _/_, _%_, _<_, _≤_, max};
 ghost use lib.Dec.{eqb, ltb};
 ghost use lib.ListN.{length, take, drop};
 ghost use lib.Seq.{sets};
@@ -13,6 +13,7 @@ ghost use Rattle.chunk_grid.specs.Grid.{multipliers, hasZero, inExtent, 
 ghost use Rattle.chunk_grid.specs.Grid.{shapesTest, multiplierTest, productTest, gridTest};
 ghost use Rattle.chunk_grid.specs.Values.{isUnlimitedFirst, given, gridOf, whereTested, dimAt};
 ghost use Rattle.chunk_grid.specs.Values.{numberingTest, Made, Numbers, Counted, Extents, handed};
+ghost use Rattle.chunk_grid.specs.Reach.{allInside};
 ghost use Rattle.chunk_grid.specs.Shapes.{shapeOf, givenBytes};
 use fields::bytes::read_u64_le;
 use fields::convert::Exact;
@@ -602,6 +603,37 @@ pub fn offsets_in_extent(
     } else {
         Offsets::Dropped
     }
+}
+
+// Whether the first n slots all lie in the present extents, from the largest quotient at each place. (Once for many elements. Where an
+// extent behind the leading one ends before its maximum, the answer is no.)
+pub fn all_inside(
+    n: u64,
+    rank: usize,
+    rotated: usize,
+    numbers: bool,
+    bound: &[u64; 32],
+    down: &[u64; 32],
+) -> bool
+    requires { ⌜ ((g : Grid) × (chunk : List ℕ) × (Numbers rank rotated chunk (now down) g) × (Extents rank numbers (now bound) g)) ⌝ }
+    ensures { λ r. ⌜ ((g : Grid) (chunk : List ℕ) → Numbers rank rotated chunk (now (down .entry)) g → Extents rank numbers (now (bound .entry)) g
+        → r ≡ allInside g n) ⌝ }
+{
+    if !numbers {
+        return false;
+    }
+    let mut rests = n;
+    let mut i = 0;
+    while i < rank {
+        let d = dim_at(i, rotated);
+        let multiplier = down[i];
+        if bound[d] < ceil_div(rests, multiplier) {
+            return false;
+        }
+        rests = multiplier;
+        i += 1;
+    }
+    true
 }
 
 // The slot of a corner, where it has one.

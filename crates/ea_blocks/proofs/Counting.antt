@@ -1,10 +1,11 @@
 -- The loop that counts a run: what is counted and what is left make the whole. Assumes nothing.
-use Prim.Native.Nat.{ℕ, _+_, _-_, _<_, _≤_}
+use Prim.Native.Nat.{ℕ, _+_, _-_, _*_, _<_, _≤_}
 use mathlib.Core.Path.{_≡_, sym, ap, _∙_}
 use mathlib.Core.List.{List, []}
 use native.Mathlib.Nat.{add-zero, sub-zero}
 use native.Mathlib.Omega.{arith}
 use Rattle.refusal.specs.declared.Refusal.{Refusal}
+use Rattle.refusal.specs.declared.Checked.the-variants.{Passed}
 use Rattle.refusal.specs.Outcome.{accepted}
 use Rattle.chunk_grid.specs.Grid.{offsets}
 use Rattle.ea_blocks.specs.declared.Element.{Element}
@@ -13,10 +14,12 @@ use Rattle.ea_blocks.specs.declared.Entry.{Entry}
 use Rattle.ea_blocks.specs.declared.Counted.the-variants.{Count, Refused as CountedRefused}
 use Rattle.ea_blocks.specs.declared.Reading.{Reading}
 use Rattle.ea_blocks.specs.Call.{Call}
-use Rattle.ea_blocks.specs.Elements.{element}
+use Rattle.ea_blocks.specs.Defined.{undefinedRun}
+use Rattle.ea_blocks.specs.Elements.{elementSizeTest, element}
 use Rattle.ea_blocks.specs.Runs.{alsoElement, elements, countedOf}
 use Rattle.ea_blocks.specs.Values.{Reads}
 use Rattle.ea_blocks.proofs.Turns.{strideOf, same-stride}
+use Rattle.ea_blocks.proofs.Skipping.{skip-behind}
 use Rattle.ea_blocks.proofs.Runs.{plus, plus-zero, plus-none, plus-also, run-more, run-done}
 
 -- i of n elements from pos on are passed, and `count` records of them counted; the next is at `at`
@@ -31,6 +34,9 @@ counting-first file r chunk bound down pos n slot = record { few = omega arith; 
 module _ {file : List ℕ} {r : Reading} {chunk bound down : List ℕ} {pos n slot at i count : ℕ} (k : Counting file r chunk bound down pos n slot at i count) where
   pub counting-done : n ≤ i → (c : Call) → Reads c file r chunk bound down → Count count ≡ countedOf (elements c pos n slot (accepted []))
   counting-done h c reads = sym (ap (plus count) (run-done c n i at slot _ h) ∙ plus-none count) ∙ k .whole c reads
+
+  pub counting-same : (count′ : ℕ) → count′ ≡ count → Counting file r chunk bound down pos n slot at i count′
+  counting-same count′ e = rw e k
 
   module _ (h : i < n) (l : slot + i < r .geometry .header .«num_elements») {e : Element}
       (is : (c : Call) → Reads c file r chunk bound down → e ≡ element c at (slot + i)) where
@@ -53,3 +59,14 @@ module _ {file : List ℕ} {r : Reading} {chunk bound down : List ℕ} {pos n sl
     pub counting-chunk : (x : Entry) → e ≡ Chunk x → Counting file r chunk bound down pos n slot (at + strideOf r) (i + 1) (count + 1)
     unfolding alsoElement
     counting-chunk x f = record { few = omega (arith, k .few); whole = λ c reads. sym (plus-also count _ _) ∙ (rw f at (turned c reads)) }
+
+-- behind element i undefined ones are stepped over, m of them
+pub counting-skip : {file : List ℕ} {r : Reading} {chunk bound down : List ℕ} {pos n slot count : ℕ} (at i : ℕ)
+    → Counting file r chunk bound down pos n slot (at + strideOf r) (i + 1) count
+    → elementSizeTest (r .geometry .header) (r .geometry .«offset_size») ≡ Passed → slot + n ≤ r .geometry .header .«num_elements» → i < n
+    → (m : ℕ) → m ≡ undefinedRun file (at + strideOf r) (n - (i + 1)) (strideOf r) (r .geometry .«offset_size»)
+    → Counting file r chunk bound down pos n slot (at + (1 + m) * strideOf r) (i + (1 + m)) count
+counting-skip {r = r} {n = n} {slot = slot} {count = count} at i k t b h m e = record {
+  few = omega (arith, k .few);
+  whole = λ c reads. ap (plus count) (skip-behind reads t (accepted []) n i at slot b h m e) ∙ k .whole c reads;
+}

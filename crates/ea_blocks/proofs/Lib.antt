@@ -2,6 +2,9 @@ pub mod Elements
 pub mod Sized
 pub mod Runs
 pub mod Turns
+pub mod DefinedRuns
+pub mod Skipping
+pub mod AllChunks
 pub mod Counting
 pub mod Records
 pub mod Corners

@@ -1,6 +1,6 @@
 -- A run as code walks it: its elements below the count, and where each lies. Assumes nothing.
 use Prim.Native.Nat.{ℕ, _+_, _-_, _*_, _<_, _≤_, min}
-use mathlib.Core.Path.{_≡_, refl, _∙_}
+use mathlib.Core.Path.{_≡_, refl, ap, _∙_}
 use mathlib.Core.List.{List}
 use native.Mathlib.Nat.{sub-zero, mul-le-mul-right}
 use native.Mathlib.Omega.{arith}
@@ -43,6 +43,13 @@ module _ {file : List ℕ} {stride n i at : ℕ} (w : Within file stride n i at)
 
   pub within-more : Within file stride n (i + 1) (at + stride)
   within-more = record { passed = omega arith; left = omega (arith, w .left, turn) }
+
+  -- behind it and m more, too
+  pub within-skip : (m : ℕ) → m ≤ n - (i + 1) → Within file stride n (i + (1 + m)) (at + (1 + m) * stride)
+  within-skip m l =
+      let f : n - (i + 1) ≡ m + (n - (i + (1 + m))) = omega arith in
+      let e : (n - (i + 1)) * stride ≡ m * stride + (n - (i + (1 + m))) * stride = ap (λ (k : ℕ). k * stride) f ∙ omega arith in
+      record { passed = omega arith; left = omega (arith, w .left, turn) }
 
 -- where fewer lie in the file, too
 pub fewer-lie : (stride pos n left m : ℕ) → left ≤ n → pos + n * stride ≤ m → pos + left * stride ≤ m

@@ -1,5 +1,5 @@
 -- The loop that writes a run: what is written, and the records that are left stored behind it, make the whole. Assumes nothing.
-use Prim.Native.Nat.{ℕ, _+_, _-_, _<_, _≤_, min}
+use Prim.Native.Nat.{ℕ, _+_, _-_, _*_, _<_, _≤_, min}
 use mathlib.Core.Path.{_≡_, refl, sym, ap, _∙_}
 use mathlib.Core.List.{List, [], _∷_}
 use native.Mathlib.Nat.{add-zero, sub-zero}
@@ -15,12 +15,14 @@ use Rattle.ea_blocks.specs.declared.Element.{Element}
 use Rattle.ea_blocks.specs.declared.Element.the-variants.{Absent, Chunk, Refused as ElementRefused}
 use Rattle.ea_blocks.specs.declared.Reading.{Reading}
 use Rattle.ea_blocks.specs.Call.{Call, Rec}
+use Rattle.ea_blocks.specs.Defined.{undefinedRun}
 use Rattle.ea_blocks.specs.Elements.{elementSizeTest, element}
 use Rattle.ea_blocks.specs.Records.{recordLength, recordBytes, listBytes}
 use Rattle.ea_blocks.specs.Runs.{Listing, alsoElement, elements}
 use Rattle.ea_blocks.specs.Values.{Reads, offsetsLeft}
 use Rattle.ea_blocks.proofs.Sized.{same-test}
 use Rattle.ea_blocks.proofs.Runs.{also-inv, run-more, run-done}
+use Rattle.ea_blocks.proofs.Skipping.{skip-behind}
 use Rattle.ea_blocks.proofs.Turns.{strideOf, same-stride, left-run}
 use Rattle.ea_blocks.proofs.Records.{sets-append, length-record}
 use Rattle.ea_blocks.proofs.Corners.{reads-rank, element-sized, length-left, chunk-corner, corner-rank}
@@ -73,6 +75,9 @@ module _ {file : List ℕ} {r : Reading} {chunk bound down : List ℕ} {pos n sl
       let m = z .makes in
       let f = z .ends in
       (rw e at m, omega (arith, ap (λ (x : List Rec). length (listBytes x)) e))
+
+  pub writing-same : (out′ : List ℕ) → out′ ≡ out → (to′ : ℕ) → to′ ≡ to → Writing file r chunk bound down pos n slot out₀ at out′ from i to′
+  writing-same out′ e to′ f = rw (e, f) w
 
   module _ (k : i < n) (b : slot + i < r .geometry .header .«num_elements») where
     -- the element that is next, and what is left behind it
@@ -150,3 +155,15 @@ module _ {file : List ℕ} {r : Reading} {chunk bound down : List ℕ} {pos n sl
         writing-chunk out′ q = rw q (record {
           whole = λ c l h. record { records = chunk-next c l h .0; is = chunk-next c l h .1; makes = chunk-makes c l h; ends = lengths c l h };
         })
+
+-- behind element i undefined ones are stepped over, m of them
+pub writing-skip : {file : List ℕ} {r : Reading} {chunk bound down : List ℕ} {pos n slot : ℕ} {out₀ : List ℕ} {at : ℕ} {out : List ℕ} {to : ℕ} (from i : ℕ)
+    → Writing file r chunk bound down pos n slot out₀ at out (from + strideOf r) (i + 1) to
+    → elementSizeTest (r .geometry .header) (r .geometry .«offset_size») ≡ Passed → slot + n ≤ r .geometry .header .«num_elements» → i < n
+    → (m : ℕ) → m ≡ undefinedRun file (from + strideOf r) (n - (i + 1)) (strideOf r) (r .geometry .«offset_size»)
+    → Writing file r chunk bound down pos n slot out₀ at out (from + (1 + m) * strideOf r) (i + (1 + m)) to
+writing-skip {r = r} {n = n} {slot = slot} from i w t b h m e = record {
+  whole = λ c l q.
+      let z = w .whole c l q in
+      record { records = z .records; is = skip-behind (q .reads) t (accepted []) n i from slot b h m e ∙ z .is; makes = z .makes; ends = z .ends };
+}

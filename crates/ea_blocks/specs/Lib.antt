@@ -6,3 +6,4 @@ pub mod Runs
 pub mod Records
 pub mod Values
 pub mod Entered
+pub mod Defined

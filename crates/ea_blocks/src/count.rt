@@ -1,20 +1,24 @@
 // A run of elements tested, and its records counted.
 ghost use mathlib.Core.Path.{_≡_};
-ghost use mathlib.Core.List.{[]};
-ghost use Prim.Native.Nat.{_+_, _-_, _*_, _≤_, min};
+ghost use mathlib.Core.List.{List, []};
+ghost use Prim.Native.Nat.{ℕ, _+_, _-_, _*_, _≤_, min};
 ghost use lib.ListN.{length};
 ghost use Rattle.refusal.specs.declared.Checked.the-variants.{Passed};
 ghost use Rattle.refusal.specs.Outcome.{accepted};
 ghost use Rattle.ea_geometry.specs.Extents.{elementStride};
 ghost use Rattle.ea_blocks.specs.Call.{Call};
+ghost use Rattle.ea_blocks.specs.Defined.{sizesFit, allChunks};
 ghost use Rattle.ea_blocks.specs.Elements.{elementSizeTest};
 ghost use Rattle.ea_blocks.specs.Runs.{elements, countedOf};
 ghost use Rattle.ea_blocks.specs.Values.{Reads};
 use crate::Counted;
 use crate::Element;
 use crate::Reading;
+use crate::defined::count_defined;
+use crate::defined::undefined_run;
 use crate::read::read_sized_element;
 use crate::read::test_element_size;
+use chunk_grid::all_inside;
 use refusal::Checked;
 
 // Tests and counts n elements from pos on, whose slots begin at `slot`, up to the published count.
@@ -81,7 +85,60 @@ fn count_sized_elements(
     ensures { λ r. ⌜ ((c : Call) → Reads c (now (file .entry)) reading (now (chunk .entry)) (now (bound .entry)) (now (down .entry))
         → r ≡ countedOf (elements c pos n slot (accepted []))) ⌝ }
 {
+    if all_chunks(slot + n, reading, bound, down) {
+        let stride = reading.geometry.element_stride() as usize;
+        let width = reading.geometry.offset_size;
+        return Counted::Count(count_defined(file, pos, n, stride, width));
+    }
+    count_each_element(file, pos, n, slot, reading, chunk, bound, down)
+}
+
+// Whether every defined element of the first n slots is a chunk's.
+fn all_chunks(n: u64, reading: Reading, bound: &[u64; 32], down: &[u64; 32]) -> bool
+    requires { ⌜ ((c : Call) × (file : List ℕ) × (chunk : List ℕ) × Reads c file reading chunk (now bound) (now down))
+        × (elementSizeTest (reading .geometry .header) (reading .geometry .«offset_size») ≡ Passed) ⌝ }
+    ensures { λ r. ⌜ ((c : Call) (file chunk : List ℕ) → Reads c file reading chunk (now (bound .entry)) (now (down .entry)) → r ≡ allChunks c n) ⌝ }
+{
+    if !sizes_fit(reading) {
+        return false;
+    }
+    let rank = reading.rank as usize;
+    let rotated = reading.rotated as usize;
+    all_inside(n, rank, rotated, reading.numbers, bound, down)
+}
+
+// Whether no size passes 2^32 - 1.
+fn sizes_fit(reading: Reading) -> bool
+    requires { ⌜ elementSizeTest (reading .geometry .header) (reading .geometry .«offset_size») ≡ Passed ⌝ }
+    ensures { λ r. ⌜ ((c : Call) (file chunk bound down : List ℕ) → Reads c file reading chunk bound down → r ≡ sizesFit c) ⌝ }
+{
+    let header = reading.geometry.header;
+    if header.client_id == 0 {
+        return reading.chunk_bytes <= 0xffff_ffff;
+    }
+    header.element_size as u64 - 4 - reading.geometry.offset_size <= 4
+}
+
+// A run of such elements, one by one.
+fn count_each_element(
+    file: &[u8],
+    pos: usize,
+    n: u64,
+    slot: u64,
+    reading: Reading,
+    chunk: &[u64; 32],
+    bound: &[u64; 32],
+    down: &[u64; 32],
+) -> Counted
+    requires { ⌜ ((c : Call) × Reads c (now file) reading (now chunk) (now bound) (now down))
+        × (elementSizeTest (reading .geometry .header) (reading .geometry .«offset_size») ≡ Passed)
+        × (slot + n ≤ reading .geometry .header .«num_elements»)
+        × (pos + n * elementStride (reading .geometry .header) (reading .geometry .«offset_size») ≤ length (now file)) ⌝ }
+    ensures { λ r. ⌜ ((c : Call) → Reads c (now (file .entry)) reading (now (chunk .entry)) (now (bound .entry)) (now (down .entry))
+        → r ≡ countedOf (elements c pos n slot (accepted []))) ⌝ }
+{
     let stride = reading.geometry.element_stride() as usize;
+    let width = reading.geometry.offset_size;
     let mut offsets = [0u64; 32];
     let mut count = 0;
     let mut at = pos;
@@ -101,8 +158,9 @@ fn count_sized_elements(
             Element::Chunk(_) => count += 1,
             Element::Refused(r) => return Counted::Refused(r),
         }
-        at += stride;
-        i += 1;
+        let passed = 1 + undefined_run(file, at + stride, n - (i + 1), stride, width);
+        at += passed as usize * stride;
+        i += passed;
     }
     Counted::Count(count)
 }

@@ -13,6 +13,7 @@ use refusal::Checked;
 use refusal::Refusal;
 
 pub mod count;
+pub mod defined;
 pub mod enter;
 pub mod read;
 pub mod structures;

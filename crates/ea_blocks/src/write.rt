@@ -14,6 +14,7 @@ use crate::Element;
 use crate::Entry;
 use crate::Reading;
 use crate::count::below_count;
+use crate::defined::undefined_run;
 use crate::read::read_sized_element;
 use fields::bytes::put_le;
 
@@ -67,6 +68,7 @@ pub fn write_elements(
 {
     let left = below_count(n, slot, reading.geometry.header.num_elements);
     let stride = reading.geometry.element_stride() as usize;
+    let width = reading.geometry.offset_size;
     let rank = reading.rank as usize;
     let mut offsets = [0u64; 32];
     let mut to = at;
@@ -87,8 +89,9 @@ pub fn write_elements(
             put_record(out, to, entry, rank, &offsets);
             to += 16 + 8 * rank;
         }
-        from += stride;
-        i += 1;
+        let passed = 1 + undefined_run(file, from + stride, left - (i + 1), stride, width);
+        from += passed as usize * stride;
+        i += passed;
     }
     to
 }

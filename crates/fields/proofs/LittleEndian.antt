@@ -4,9 +4,11 @@ use mathlib.Core.List.{List}
 use Prim.Native.Nat.{ℕ, zero, suc, _+_, _*_, _^_, _<_, _≤_, _-_}
 use native.Mathlib.Nat.{mul-suc, zero-add, sub-self, sub-zero, add-zero}
 use native.Mathlib.Omega.{arith}
+use mathlib.Core.Logic.{⊎-elim}
+use Rattle.refusal.proofs.Tests.{lt-or-ge}
 use lib.ListN.{length, getD, drop, length-drop, drop-of-length-le}
 use lib.Seq.{drop-cons, take-nil, take-all}
-use lib.Pow.{pow-add, pow-mono}
+use lib.Pow.{pow-add, pow-mono, pow-pos}
 use Rattle.fields.specs.LittleEndian.{leValue, leAt}
 
 -- k bytes take 8 * k bits
@@ -68,3 +70,11 @@ le-past s j k h = rw (drop-of-length-le s h, take-nil)
 pub le-short : (s : List ℕ) (j k m : ℕ) → length s ≤ j + k → k ≤ m → leAt s j k ≡ leAt s j m
 unfolding leAt
 le-short s j k m h le = rw (take-all k (drop j s) (rw length-drop (omega arith)), take-all m (drop j s) (rw length-drop (omega arith)))
+
+-- w bytes hold no more than 8 * w bits
+pub le-small : (s : List ℕ) → ((i : ℕ) → getD s i 0 < 256) → (w pos : ℕ) → leAt s pos w < 2 ^ (8 * w)
+unfolding leValue leAt
+le-small s b zero pos = omega arith
+le-small s b (suc w) pos =
+    ⊎-elim (λ (h : pos < length s). rw (bits-suc w) (omega (arith, le-cons s pos w h, b pos, le-small s b w (suc pos))))
+    (λ (h : length s ≤ pos). rw (drop-of-length-le s {i = pos} h) (pow-pos (8 * suc w))) (lt-or-ge pos (length s))

@@ -1,27 +1,30 @@
 -- `ea_blocks::write::write_elements` meets its contract. Assumes nothing.
 use borrow.Author.Needs.{needs}
-use Prim.Native.Nat.{ℕ, _+_, _-_, _<_, _≤_}
+use Prim.Native.Nat.{ℕ, _+_, _-_, _*_, _<_, _≤_}
 use mathlib.Core.Path.{_≡_, refl, ap, _∙_}
 use mathlib.Core.Logic.{⊎-elim}
 use native.Mathlib.Omega.{arith}
 use mathlib.Core.List.{List}
 use lib.ListN.{length}
 use lib.Seq.{length-sets}
+use Rattle.refusal.specs.declared.Checked.the-variants.{Passed}
 use Rattle.ea_blocks.specs.declared.Entry.{Entry}
 use Rattle.ea_blocks.specs.declared.Element.the-variants.{Chunk}
 use Rattle.ea_blocks.specs.Call.{Call, Rec}
+use Rattle.ea_blocks.specs.Elements.{elementSizeTest}
 use Rattle.ea_blocks.specs.Records.{recordLength, listBytes}
-use Rattle.ea_blocks.proofs.Turns.{strideOf, Within, within-first, within-here, within-more, fewer-lie}
-use Rattle.ea_blocks.proofs.Writing.{Listed, listed-left, Writing, writing-first, writing-done, writing-sized, writing-array, writing-other, writing-fits, writing-chunk}
+use Rattle.ea_blocks.proofs.Sized.{sized-width, sized-stride}
+use Rattle.ea_blocks.proofs.Turns.{strideOf, Within, within-first, within-here, within-more, within-skip, fewer-lie}
+use Rattle.ea_blocks.proofs.Writing.{Listed, listed-left, Writing, writing-first, writing-done, writing-sized, writing-array, writing-other, writing-fits, writing-chunk, writing-same, writing-skip}
 use Rattle.ea_blocks.proofs.write.write_elements.Statement.{statement}
 use Rattle.ea_blocks.proofs.write.write_elements.Tie as tie
 
 abbrev Inv-loop : tie.InvT-loop
-Inv-loop out₀ at file pos n slot reading chunk bound down left stride rank offsets₀ to₀ from₀ i₀ out offsets to from i =
+Inv-loop out₀ at file pos n slot reading chunk bound down left stride width rank offsets₀ to₀ from₀ i₀ out offsets to from i =
     Within file (strideOf reading) left i from × Writing file reading chunk bound down pos left slot out₀ at out from i to × (length out ≡ length out₀) × (length offsets ≡ 32)
 
 abbrev μ-loop : tie.MeasureT-loop
-μ-loop out₀ at file pos n slot reading chunk bound down left stride rank offsets₀ to₀ from₀ i₀ out offsets to from i =
+μ-loop out₀ at file pos n slot reading chunk bound down left stride width rank offsets₀ to₀ from₀ i₀ out offsets to from i =
     left - i
 
 below-count-requires : tie.Need-below-count-requires Inv-loop μ-loop
@@ -98,10 +101,66 @@ add-to-2 c =
     let r = c .before .before .before .before .before .before .before .before in
     omega (arith, fits r _ (c .before .before .before .before .before .before .element .given .1))
 
+-- behind the element that was read
+abbrev loopOf : tie.At-match-came Inv-loop μ-loop → tie.At-loop Inv-loop μ-loop
+loopOf c = c .before .before .before .before
+
+abbrev args : (c : tie.At-match-came Inv-loop μ-loop) → tie.Start Inv-loop μ-loop
+args c = start (loopOf c .before .before)
+
+inside : (c : tie.At-match-came Inv-loop μ-loop)
+    → Within (args c .args .file .now) (strideOf (args c .args .reading)) (loopOf c .before .before .below-count .result) (loopOf c .loop .i + 1)
+    (loopOf c .loop .from + strideOf (args c .args .reading))
+inside c = within-more (loopOf c .loop .inv .0) (c .before .before .before .loop-test .taken)
+
+sized : (c : tie.At-match-came Inv-loop μ-loop) → elementSizeTest (args c .args .reading .geometry .header) (args c .args .reading .geometry .«offset_size») ≡ Passed
+sized c =
+    let d = given (loopOf c .before .before) in
+    writing-sized (loopOf c .loop .inv .1) (c .before .before .before .loop-test .taken) (below (c .before .before .before)) _ _ (d .2)
+
+written : (c : tie.At-match-came Inv-loop μ-loop)
+    → Writing (args c .args .file .now) (args c .args .reading) (args c .args .chunk .now) (args c .args .bound .now) (args c .args .down .now)
+    (args c .args .pos) (loopOf c .before .before .below-count .result) (args c .args .slot) (args c .args .out .now) (args c .args .at)
+    (c .match .out) (loopOf c .loop .from + strideOf (args c .args .reading)) (loopOf c .loop .i + 1) (c .match .to)
+unfolding recordLength
+written c =
+    let r = c .before in
+    let l = loopOf c in
+    let t = r .before .before .loop-test .taken in
+    let b = below (r .before .before) in
+    ⊎-elim
+    (λ w. writing-same (writing-chunk (l .loop .inv .1) t b _ (l .loop .inv .3) (r .read-sized-element .ensures) (w .1 .given .1) _ (w .5 .ensures)) _ (w .8) _ (w .9))
+    (λ w. writing-same (writing-other (l .loop .inv .1) t b _ (l .loop .inv .3) (r .read-sized-element .ensures) (λ x q. ⊎-elim (λ z. omega arith) (λ z. omega arith) (rw q at (w .0 .keys2)))) _ (w .1) _ (w .2))
+    (c .match .came)
+
+add-undefined-run : tie.Need-add-undefined-run Inv-loop μ-loop
+add-undefined-run c = omega (arith, loopOf c .before .element-stride .ensures, inside c)
+
+add-undefined-run-2 : tie.Need-add-undefined-run-2 Inv-loop μ-loop
+add-undefined-run-2 c = search needs
+
+sub-undefined-run : tie.Need-sub-undefined-run Inv-loop μ-loop
+sub-undefined-run c = search needs
+
+undefined-run-requires : tie.Need-undefined-run-requires Inv-loop μ-loop
+undefined-run-requires c κs =
+    rw (loopOf c .before .element-stride .ensures) (sized-width _ _ (sized c), sized-stride _ _ (sized c), inside c .left)
+
+-- and behind the undefined ones
+skipped : (c : tie.After-undefined-run Inv-loop μ-loop)
+    → Within (args (c .before) .args .file .now) (strideOf (args (c .before) .args .reading)) (loopOf (c .before) .before .before .below-count .result)
+    (loopOf (c .before) .loop .i + (1 + c .undefined-run .result)) (loopOf (c .before) .loop .from + (1 + c .undefined-run .result) * strideOf (args (c .before) .args .reading))
+skipped c =
+    within-skip (loopOf (c .before) .loop .inv .0) (c .before .before .before .before .loop-test .taken) _ (c .undefined-run .ensures .1)
+
+add-passed : tie.Need-add-passed Inv-loop μ-loop
+add-passed c = search needs
+
+mul-from : tie.Need-mul-from Inv-loop μ-loop
+mul-from c = let l = skipped c .left in rw (loopOf (c .before) .before .element-stride .ensures) (omega arith)
+
 add-from : tie.Need-add-from Inv-loop μ-loop
-add-from c =
-    let l = c .before .before .before .before in
-    omega (arith, l .before .element-stride .ensures, within-here (l .loop .inv .0) (c .before .before .before .loop-test .taken))
+add-from c = let l = skipped c .left in rw (loopOf (c .before) .before .element-stride .ensures) (omega arith)
 
 add-i : tie.Need-add-i Inv-loop μ-loop
 add-i c = search needs
@@ -110,21 +169,20 @@ loop-less : tie.Need-loop-less Inv-loop μ-loop
 loop-less c = search needs
 
 loop-again : tie.Need-loop-again Inv-loop μ-loop
-unfolding recordLength
 loop-again c =
-    let r = c .before in
-    let l = r .before .before .before in
+    let m = c .before in
+    let r = m .before in
+    let l = loopOf m in
     let t = r .before .before .loop-test .taken in
-    let b = below (r .before .before) in
     let d = given (l .before .before) in
-    rw (l .before .element-stride .ensures) (
-      within-more (l .loop .inv .0) t,
-      ⊎-elim
-          (λ w. rw (w .8, w .9) (writing-chunk (l .loop .inv .1) t b _ (l .loop .inv .3) (r .read-sized-element .ensures) (w .1 .given .1) _ (w .5 .ensures)))
-          (λ w. rw (w .1, w .2) (writing-other (l .loop .inv .1) t b _ (l .loop .inv .3) (r .read-sized-element .ensures) (λ x q. ⊎-elim (λ z. omega arith) (λ z. omega arith) (rw q at (w .0 .keys2)))))
-          (c .match .came),
-      ⊎-elim (λ w. rw (w .8) (ap length (w .5 .ensures) ∙ simp length-sets (l .loop .inv .2))) (λ w. rw (w .1) (l .loop .inv .2)) (c .match .came),
-      writing-array (l .loop .inv .1) t b _ (l .loop .inv .3) (r .read-sized-element .ensures) (d .0) (d .2 .reads),
+    let e = l .before .element-stride .ensures in
+    let u = c .undefined-run .ensures .0 in
+    let n = l .before .before .below-count .ensures in
+    rw e (
+      skipped c,
+      writing-skip _ _ (written m) (sized m) (omega arith) t _ (rw e at u),
+      ⊎-elim (λ w. ap length (w .8 ∙ w .5 .ensures) ∙ simp length-sets (l .loop .inv .2)) (λ w. ap length (w .1) ∙ l .loop .inv .2) (m .match .came),
+      writing-array (l .loop .inv .1) t (below (r .before .before)) _ (l .loop .inv .3) (r .read-sized-element .ensures) (d .0) (d .2 .reads),
     )
 
 same-length : tie.Need-same-length Inv-loop μ-loop
@@ -150,6 +208,12 @@ write-elements-spec =
     mul-to
     add-to
     add-to-2
+    add-undefined-run
+    add-undefined-run-2
+    sub-undefined-run
+    undefined-run-requires
+    add-passed
+    mul-from
     add-from
     add-i
     loop-less

@@ -1,0 +1,117 @@
+-- Runs whose defined elements are all chunks': their records are as many. Assumes nothing.
+use Prim.Native.Nat.{ℕ, zero, suc, _+_, _-_, _*_, _^_, _<_, _≤_}
+use mathlib.Core.Path.{_≡_, refl, sym, ap, _∙_}
+use mathlib.Core.Bool.{Bool, true, false}
+use mathlib.Core.List.{List, []}
+use mathlib.Core.Logic.{⊎-elim}
+use native.Mathlib.Omega.{arith}
+use borrow.Author.Tests.{le-ltb, lt-leb, leb-true}
+use lib.Dec.{leb}
+use lib.ListN.{getD}
+use lib.Pow.{pow-mono}
+use Rattle.refusal.specs.declared.Checked.the-variants.{Passed}
+use Rattle.refusal.specs.Refusals.{figure, refuse, _then_}
+use Rattle.refusal.specs.Outcome.{accepted}
+use Rattle.refusal.proofs.Tests.{by-cond, both, lt-or-ge}
+use Rattle.fields.specs.LittleEndian.{leAt}
+use Rattle.fields.specs.Fields.{undefinedAt}
+use Rattle.fields.specs.Numbers.{sizeTest}
+use Rattle.fields.proofs.LittleEndian.{le-small}
+use Rattle.chunk_grid.specs.declared.Offsets.the-variants.{Inside}
+use Rattle.chunk_grid.specs.Grid.{inExtent}
+use Rattle.chunk_grid.specs.Reach.{allInside}
+use Rattle.chunk_grid.proofs.Reach.{all-inside}
+use Rattle.ea_blocks.specs.declared.Reading.{Reading}
+use Rattle.ea_blocks.specs.declared.Element.the-variants.{Chunk}
+use Rattle.ea_blocks.specs.declared.Counted.the-variants.{Count}
+use Rattle.ea_blocks.specs.Call.{Call}
+use Rattle.ea_blocks.specs.Defined.{definedCount, sizesFit, allChunks}
+use Rattle.ea_blocks.specs.Elements.{filtered, chunkBytes, sizeBytes, sizeAt, entryAt, elementSizeTest, entryTest, insideOnly, element}
+use Rattle.ea_blocks.specs.Runs.{alsoElement, elements, countedOf}
+use Rattle.ea_blocks.specs.Values.{Reads}
+use Rattle.ea_blocks.proofs.Sized.{plain, with-filter, same-test, gives-passed}
+use Rattle.ea_blocks.proofs.Turns.{strideOf, same-stride}
+use Rattle.ea_blocks.proofs.Skipping.{skip-one}
+use Rattle.ea_blocks.proofs.Runs.{plus, plus-zero, plus-none, plus-also}
+
+-- a size that passes its test
+small-size : (n : ℕ) → n < 2 ^ 32 → sizeTest n ≡ Passed
+unfolding sizeTest refuse
+small-size n h = rw (le-ltb (2 ^ 32 - 1) n (omega arith)) refl
+
+-- a number and its figure are compared alike
+figure-leb : (n : ℕ) → leb (figure n) (2 ^ 32 - 1) ≡ leb n (2 ^ 32 - 1)
+unfolding figure
+figure-leb n =
+    ⊎-elim (λ (h : 2 ^ 32 - 1 < n). lt-leb (figure n) (2 ^ 32 - 1) (omega arith) ∙ sym (lt-leb n (2 ^ 32 - 1) h))
+    (λ (h : n ≤ 2 ^ 32 - 1). let e : figure n ≡ n = omega arith in ap (λ (k : ℕ). leb k (2 ^ 32 - 1)) e) (lt-or-ge (2 ^ 32 - 1) n)
+
+module _ {c : Call} {file : List ℕ} {r : Reading} {chunk bound down : List ℕ} (reads : Reads c file r chunk bound down) where
+  -- whether sizes fit, as it is tested
+  pub fit-plain : r .geometry .header .«client_id» ≡ 0 → leb (r .«chunk_bytes») (2 ^ 32 - 1) ≡ sizesFit c
+  unfolding sizesFit
+  fit-plain p = rw (reads .header, plain (r .geometry .header) p, reads .chunked) (figure-leb (chunkBytes (c .grid) (c .elementBytes)))
+
+  pub fit-filtered : (r .geometry .header .«client_id» ≡ 0 → ⊥) → leb (r .geometry .header .«element_size» - 4 - r .geometry .«offset_size») 4 ≡ sizesFit c
+  unfolding sizesFit sizeBytes
+  fit-filtered p =
+      let e : r .geometry .header .«element_size» - 4 - r .geometry .«offset_size» ≡ r .geometry .header .«element_size» - (r .geometry .«offset_size» + 4) = omega arith in
+      rw (reads .header, reads .offset, with-filter (r .geometry .header) p, e) refl
+
+  module _ (bytes : (i : ℕ) → getD file i 0 < 256) (t : elementSizeTest (r .geometry .header) (r .geometry .«offset_size») ≡ Passed) (n : ℕ) (all : allChunks c n ≡ true) where
+    fits : sizesFit c ≡ true
+    unfolding allChunks
+    fits = both (sizesFit c) (allInside (c .grid) n) all .0
+
+    reached : (s : ℕ) → s < n → inExtent (c .grid) s ≡ Inside
+    unfolding allChunks
+    reached = all-inside (c .grid) _ _ _ _ (reads .numbered) _ _ (reads .extended) n (both (sizesFit c) (allInside (c .grid) n) all .1)
+
+    -- every entry passes its test
+    size-small : (pos : ℕ) → sizeBytes (c .header) (c .offsetSize) ≤ 4 → leAt (c .file) (pos + c .offsetSize) (sizeBytes (c .header) (c .offsetSize)) < 2 ^ 32
+    size-small pos l =
+        let w = sizeBytes (c .header) (c .offsetSize) in
+        let k : 2 ^ (8 * w) ≤ 2 ^ 32 = pow-mono {j = 32} (omega arith) in
+        let m : leAt (c .file) (pos + c .offsetSize) w < 2 ^ (8 * w) = rw (reads .bytes) (le-small file bytes w (pos + c .offsetSize)) in
+        omega arith
+
+    passes-by : (b : Bool) → filtered (c .header) ≡ b → (pos : ℕ) → entryTest c pos ≡ Passed
+    unfolding entryTest sizeAt sizesFit refuse _then_
+    passes-by true e pos =
+        let l : sizeBytes (c .header) (c .offsetSize) ≤ 4 = leb-true (sizeBytes (c .header) (c .offsetSize)) 4 (rw e at fits) in
+        rw (e, le-ltb 8 (sizeBytes (c .header) (c .offsetSize)) (omega arith)) (small-size _ (size-small pos l))
+    passes-by false e pos =
+        let l : chunkBytes (c .grid) (c .elementBytes) ≤ 2 ^ 32 - 1 = leb-true (chunkBytes (c .grid) (c .elementBytes)) (2 ^ 32 - 1) (rw e at fits) in
+        rw e (small-size _ (omega arith))
+
+    passes : (pos : ℕ) → entryTest c pos ≡ Passed
+    passes = passes-by (filtered (c .header)) refl
+
+    -- a defined element
+    chunk-is : (pos s : ℕ) → s < n → undefinedAt file pos (r .geometry .«offset_size») ≡ false → element c pos s ≡ Chunk (entryAt c pos)
+    unfolding element insideOnly
+    chunk-is pos s l u =
+        let v : undefinedAt (c .file) pos (c .offsetSize) ≡ false = rw (reads .bytes, reads .offset) u in
+        gives-passed _ _ (same-test reads ∙ t) ∙ rw (v, reached s l) (gives-passed _ _ (passes pos))
+
+    defined-one : (pos j s k : ℕ) → s < n → s < r .geometry .header .«num_elements» → undefinedAt file pos (r .geometry .«offset_size») ≡ false
+        → plus k (elements c pos (suc j) s (accepted [])) ≡ plus (k + 1) (elements c (pos + strideOf r) j (s + 1) (accepted []))
+    unfolding elements alsoElement
+    defined-one pos j s k h l u =
+        rw (lt-leb (c .header .«num_elements») s (rw (reads .header) l), chunk-is pos s h u, ← same-stride reads) (plus-also k _ _)
+
+    counted : (pos j s k : ℕ) → s + j ≤ n → s + j ≤ r .geometry .header .«num_elements»
+        → plus k (elements c pos j s (accepted [])) ≡ Count (k + definedCount file pos j (strideOf r) (r .geometry .«offset_size»))
+    unfolding definedCount elements
+    counted pos zero s k h l = plus-none k ∙ ap Count (omega arith)
+    counted pos (suc j) s k h l =
+        let d = definedCount file (pos + strideOf r) j (strideOf r) (r .geometry .«offset_size») in
+        let same : plus k (elements c (pos + strideOf r) j (s + 1) (accepted [])) ≡ Count (k + d) = counted (pos + strideOf r) j (s + 1) k (omega arith) (omega arith) in
+        let more : plus (k + 1) (elements c (pos + strideOf r) j (s + 1) (accepted [])) ≡ Count (k + 1 + d) = counted (pos + strideOf r) j (s + 1) (k + 1) (omega arith) (omega arith) in
+        by-cond (λ (m : ℕ). plus k (elements c pos (suc j) s (accepted [])) ≡ Count (k + (m + d))) (undefinedAt file pos (r .geometry .«offset_size»))
+        (λ u. ap (plus k) (skip-one reads t (accepted []) pos j s (omega arith) u) ∙ same ∙ ap Count (omega arith))
+        (λ u. defined-one pos j s k (omega arith) (omega arith) u ∙ more ∙ ap Count (omega arith))
+
+    pub all-counted : (pos j s : ℕ) → s + j ≤ n → s + j ≤ r .geometry .header .«num_elements»
+        → Count (definedCount file pos j (strideOf r) (r .geometry .«offset_size»)) ≡ countedOf (elements c pos j s (accepted []))
+    all-counted pos j s h l = ap Count (omega arith) ∙ sym (counted pos j s 0 h l) ∙ plus-zero _
