@@ -5,16 +5,14 @@ ghost use mathlib.Core.List.{List};
 ghost use mathlib.Core.Option.{Option};
 ghost use Prim.Native.Nat.{ℕ, _<_};
 ghost use lib.ListN.{length};
-ghost use lib.Seq.{sets};
 ghost use Rattle.checksum.specs.Lookup3.{lookup3};
 ghost use Rattle.refusal.specs.Outcome.{accepted};
 ghost use Rattle.chunk_grid.specs.Grid.{isChunk};
 ghost use Rattle.chunk_grid.specs.Shapes.{shapeOf};
 ghost use Rattle.ea_blocks.specs.declared.Counted.the-variants.{Count};
 ghost use Rattle.ea_blocks.specs.Call.{Rec};
-ghost use Rattle.ea_blocks.specs.Records.{listBytes};
 ghost use Rattle.ea_blocks.specs.Runs.{countedOf};
-ghost use Rattle.ea_list.specs.Listing.{listContent};
+ghost use Rattle.ea_list.specs.Listing.{listContent, recordsIn};
 ghost use Rattle.ea_list.specs.Judged.{Judged};
 ghost use Rattle.ea_list.specs.Door.{doorGrid, callAt, listAt, listNumbers, picked};
 ghost use Rattle.ea_lookup.specs.Lookup.{Answers, Agrees};
@@ -56,7 +54,7 @@ pub extern "C" fn cellumaq_list(
         (r ≡ picked which (listNumbers answer))
         × (which ≡ 0 → r ≡ 0 → (n : ℕ) × (countedOf answer ≡ Count n))
         × (now (list .exit) ≡ listContent answer (now (list .entry)))
-        × ((n : ℕ) → countedOf answer ≡ Count n → 0 < rank → (l : List Rec) × (now (list .exit) ≡ sets (now (list .entry)) 0 (listBytes l)) × Judged call l n)) ⌝ }
+        × ((n : ℕ) → countedOf answer ≡ Count n → 0 < rank → Judged call (recordsIn rank n (now (list .exit))) n)) ⌝ }
 {
     let counted = list_at(
         file,

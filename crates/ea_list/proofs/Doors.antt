@@ -1,6 +1,6 @@
 -- The list of a call that reads the header first. Assumes nothing.
 use Prim.Native.Nat.{ℕ}
-use mathlib.Core.Path.{_≡_, refl, sym, _∙_}
+use mathlib.Core.Path.{_≡_, refl, sym, subst, _∙_}
 use mathlib.Core.List.{List}
 use native.Mathlib.Omega.{arith}
 use Rattle.refusal.specs.declared.Refusal.{Refusal}
@@ -13,9 +13,10 @@ use Rattle.ea_header.specs.declared.ExtensibleArrayHeader.{ExtensibleArrayHeade
 use Rattle.ea_header.specs.declared.Parsed.the-variants.{Header, Refused as ParsedRefused}
 use Rattle.ea_header.specs.Header.{headerAt, headerTest, parsedAfter, parsedAt}
 use Rattle.ea_blocks.specs.declared.Counted.the-variants.{Refused as CountedRefused}
-use Rattle.ea_blocks.specs.Call.{callOf}
+use Rattle.ea_blocks.specs.Call.{Call, callOf}
 use Rattle.ea_blocks.specs.Runs.{Listing, countedOf}
-use Rattle.ea_list.specs.Listing.{list, inRoom, listInto, listContent}
+use Rattle.ea_list.specs.Listing.{list, inRoom, listInto, listContent, recordsIn}
+use Rattle.ea_list.specs.Judged.{Judged}
 use Rattle.ea_list.specs.Door.{callAt, listAt}
 
 -- what a header that is read says of its test
@@ -59,3 +60,7 @@ module _ (f : List ℕ) (address o l : ℕ) (h : ExtensibleArrayHeader) (k : h �
   pub at-passed : (room : ℕ) → headerTest lookup3 f address o l ≡ Passed → listInto (callOf f h o g′ n) room ≡ listAt f address o l g n room
   unfolding listAt _yields_
   at-passed room t = rw (t, call-is) refl
+
+  pub judged-at : (out : List ℕ) (m : ℕ) → Judged (callOf f h o g′ n) (recordsIn (g′ .rank) m out) m → Judged (callAt f address o l g n) (recordsIn (g .rank) m out) m
+  judged-at out m j =
+      subst (λ (x : Grid). Judged (callAt f address o l g n) (recordsIn (x .rank) m out) m) e (subst (λ (x : Call). Judged x (recordsIn (g′ .rank) m out) m) call-is j)

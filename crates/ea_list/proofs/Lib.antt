@@ -7,3 +7,4 @@ pub mod Written
 pub mod Rooms
 pub mod Doors
 pub mod Numbered
+pub mod ReadBack

@@ -6,15 +6,15 @@ use mathlib.Core.List.{List}
 use mathlib.Core.Option.{Option, none, some, Option·some-injective}
 use native.Mathlib.Nat.{le-div-iff-mul-le}
 use native.Mathlib.Omega.{arith}
-use borrow.Author.Tests.{lt-ltb, le-ltb}
+use borrow.Author.Tests.{lt-ltb, le-ltb, ltb-false}
 use lib.Dec.{ltb}
-use lib.ListN.{length}
+use lib.ListN.{length, getD}
 use lib.Seq.{sets}
 use Rattle.refusal.specs.declared.Refusal.{Refusal}
 use Rattle.refusal.specs.declared.Checked.the-variants.{Passed, Refused}
 use Rattle.refusal.specs.Refusals.{largest64, figure, refuse}
 use Rattle.refusal.specs.Outcome.{refused, accepted, _yields_}
-use Rattle.refusal.proofs.Tests.{by-cond}
+use Rattle.refusal.proofs.Tests.{by-cond, refuse-inv}
 use Rattle.refusal.proofs.Outcomes.{never, yields-inv, yields-passed}
 use Rattle.chunk_grid.specs.Grid.{Grid, numbersNothing, below, offsets, chunkAt, gridTest}
 use Rattle.chunk_grid.specs.Values.{Numbers, Extents}
@@ -30,9 +30,10 @@ use Rattle.ea_blocks.specs.Runs.{Listing, countedOf}
 use Rattle.ea_blocks.proofs.Records.{Ranked, length-list}
 use Rattle.ea_walk.specs.Walk.{walk}
 use Rattle.ea_walk.specs.Values.{Walks}
-use Rattle.ea_walk.proofs.Walks.{walk-records}
-use Rattle.ea_list.specs.Listing.{list, inRoom, listInto, listContent}
+use Rattle.ea_walk.proofs.Walks.{walk-right, walk-records}
+use Rattle.ea_list.specs.Listing.{list, inRoom, listInto, listContent, recordsIn}
 use Rattle.ea_list.specs.Judged.{Judged}
+use Rattle.ea_list.proofs.ReadBack.{AllFit, records-fit, list-back}
 use Rattle.ea_list.proofs.Judging.{none-some, record-at, list-judged}
 
 -- what a call is walked by
@@ -99,6 +100,14 @@ module _ (a : Listing) (room : ℕ) (out : List ℕ) (l : List Rec) (e : a ≡ a
   room-fits le out′ w = rw (e, k, w, le-ltb room (length l) (omega arith)) (refl, refl)
 
 -- an accepted listing had room
+room-had : (a : Listing) (room : ℕ) (l : List Rec) → inRoom a room ≡ accepted l → length l ≤ room
+unfolding inRoom
+room-had (refused r) room l h = absurd (never r l h)
+room-had (accepted m) room l h =
+    let y = yields-inv _ _ l h in
+    let z : m ≡ l = cc in
+    subst (λ (k : List Rec). length k ≤ room) z (ltb-false room (length m) (refuse-inv _ _ _ _ (y .0)))
+
 room-inv : (a : Listing) (room : ℕ) (l : List Rec) → inRoom a room ≡ accepted l → a ≡ accepted l
 unfolding inRoom
 room-inv (refused r) room l h = absurd (never r l h)
@@ -122,11 +131,38 @@ into-passed c n t = rw t refl
 pub refused-count : (r : Refusal) (n : ℕ) → CountedRefused r ≡ Count n → ⊥
 refused-count r n h = let z : _≡_ {A = ℕ} 0 1 = cc in omega arith
 
--- The answer and the content of an accepted call, chunk by chunk.
-pub delivered : (c : Call) → 0 < c .grid .rank → c .header .«num_elements» ≤ largest64 → (room : ℕ) (out out′ : List ℕ) (a : Counted)
-    → a ≡ countedOf (listInto c room) → out′ ≡ listContent (listInto c room) out → (n : ℕ) → a ≡ Count n
-    → (l : List Rec) × (out′ ≡ sets out 0 (listBytes l)) × Judged c l n
+-- what an accepted call has passed
+module _ (c : Call) (n : ℕ) (l : List Rec) (a : listInto c n ≡ accepted l) where
+  passed-grid : gridTest (c .grid) ≡ Passed
+  unfolding list
+  passed-grid = yields-inv _ _ l (into-inv c n l a) .0
+
+  passed-walk : walk c ≡ accepted l
+  unfolding list
+  passed-walk = yields-inv _ _ l (into-inv c n l a) .1
+
+  had-room : length (listBytes l) ≤ n
+  unfolding listInto
+  had-room = list-fits c passed-grid l passed-walk n (room-had (list c) (n / recordLength (c .grid .rank)) l a)
+
+  -- so the lent list's bytes hold the records
+  records-held : ((i : ℕ) → getD (c .file) i 0 < 256) → (out : List ℕ) → n ≡ length out → recordsIn (c .grid .rank) (length l) (sets out 0 (listBytes l)) ≡ l
+  records-held bytes out k =
+      let is = walk-records c l passed-walk in
+      let count = c .header .«num_elements» in
+      let ranks = subst (Ranked (c .grid .rank)) (sym is) (records-ranked c passed-grid count 0) in
+      let fit = subst AllFit (sym is) (records-fit c bytes count 0 (λ s le lt. walk-right c l passed-walk .paths s le (omega arith))) in
+      list-back (c .grid .rank) l out ranks fit (omega (arith, had-room))
+
+-- The answer and the content of an accepted call, chunk by chunk: of the records that the lent list's bytes hold.
+pub delivered : (c : Call) → ((i : ℕ) → getD (c .file) i 0 < 256) → 0 < c .grid .rank → c .header .«num_elements» ≤ largest64 → (out out′ : List ℕ) (a : Counted)
+    → a ≡ countedOf (listInto c (length out)) → out′ ≡ listContent (listInto c (length out)) out → (n : ℕ) → a ≡ Count n
+    → Judged c (recordsIn (c .grid .rank) n out′) n
 unfolding listContent
-delivered c ranked fits room out out′ a e w n h =
+delivered c bytes ranked fits out out′ a e w n h =
     let i = counted-inv _ n (sym h ∙ e) in
-    (i .0, rw (i .1) at w, subst (Judged c (i .0)) (sym (i .2)) (list-judged c (i .0) ranked fits (into-inv c room (i .0) (i .1))))
+    go (i .0) (i .1) (i .2) (rw (i .1) at w)
+  where
+    go : (l : List Rec) → listInto c (length out) ≡ accepted l → n ≡ length l → out′ ≡ sets out 0 (listBytes l) → Judged c (recordsIn (c .grid .rank) n out′) n
+    go l k m o =
+        rw (m, o, records-held c (length out) l k bytes out refl) (list-judged c l ranked fits (into-inv c (length out) l k))

@@ -1,13 +1,15 @@
 -- The list: its order of refusals, its answer, and the bytes that it writes.
-use Prim.Native.Nat.{ℕ, _/_}
-use mathlib.Core.List.{List}
+use Prim.Native.Nat.{ℕ, zero, suc, _/_}
+use mathlib.Core.List.{List, [], _∷_}
 use lib.Dec.{ltb}
-use lib.ListN.{length}
+use lib.ListN.{length, drop}
 use lib.Seq.{sets}
 use Rattle.refusal.specs.Refusals.{refuse}
 use Rattle.refusal.specs.Outcome.{refused, accepted, _yields_}
+use Rattle.fields.specs.LittleEndian.{leAt}
 use Rattle.chunk_grid.specs.Grid.{gridTest}
-use Rattle.ea_blocks.specs.Call.{Call}
+use Rattle.chunk_grid.specs.Shapes.{numbersIn}
+use Rattle.ea_blocks.specs.Call.{Call, Rec}
 use Rattle.ea_blocks.specs.Runs.{Listing}
 use Rattle.ea_blocks.specs.Records.{recordLength, listBytes}
 use Rattle.ea_walk.specs.Walk.{walk}
@@ -29,3 +31,14 @@ listInto c n = inRoom (list c) (n / recordLength (c .grid .rank))
 unfoldable pub listContent : Listing → List ℕ → List ℕ
 listContent (refused r) out = out
 listContent (accepted l) out = sets out 0 (listBytes l)
+
+-- The records that bytes hold, one behind the other: address 8, size 4, mask 4, offsets 8 each.
+unfoldable pub recordIn : ℕ → List ℕ → Rec
+recordIn rank s = record {
+  entry = record { address = leAt s 0 8; size = leAt s 8 4; mask = leAt s 12 4 };
+  corner = numbersIn rank (drop 16 s);
+}
+
+unfoldable pub recordsIn : ℕ → ℕ → List ℕ → List Rec
+recordsIn rank zero s = []
+recordsIn rank (suc n) s = recordIn rank s ∷ recordsIn rank n (drop (recordLength rank) s)

@@ -1,15 +1,10 @@
 // The list as it is called from C: on numbers and bytes, with the header read first, and with one number as its answer.
 ghost use mathlib.Core.Path.{_≡_};
-ghost use mathlib.Core.List.{List};
 ghost use Prim.Native.Nat.{ℕ, _<_};
 ghost use lib.ListN.{length};
-ghost use lib.Seq.{sets};
-ghost use Rattle.chunk_grid.specs.Shapes.{givenBytes};
 ghost use Rattle.ea_blocks.specs.declared.Counted.the-variants.{Count};
-ghost use Rattle.ea_blocks.specs.Call.{Rec, callOf};
-ghost use Rattle.ea_blocks.specs.Records.{listBytes};
 ghost use Rattle.ea_blocks.specs.Runs.{countedOf};
-ghost use Rattle.ea_list.specs.Listing.{listInto, listContent};
+ghost use Rattle.ea_list.specs.Listing.{listContent, recordsIn};
 ghost use Rattle.ea_list.specs.Judged.{Judged};
 ghost use Rattle.ea_list.specs.Door.{orderOf, doorGrid, callAt, listAt, countedNumbers, picked};
 use crate::read_extensible_array_chunks;
@@ -41,7 +36,7 @@ pub fn list_at(
         let answer = listAt (now (file .entry)) address «offset_size» «length_size» grid «element_bytes» (length (now (list .entry))) in
         (r ≡ countedOf answer)
         × (now (list .exit) ≡ listContent answer (now (list .entry)))
-        × ((n : ℕ) → r ≡ Count n → 0 < rank → (l : List Rec) × (now (list .exit) ≡ sets (now (list .entry)) 0 (listBytes l)) × Judged call l n)) ⌝ }
+        × ((n : ℕ) → r ≡ Count n → 0 < rank → Judged call (recordsIn rank n (now (list .exit))) n)) ⌝ }
 {
     match ExtensibleArrayHeader::parse(file, address, offset_size, length_size) {
         Parsed::Header(header) => {

@@ -1,19 +1,17 @@
 // The chunk list.
 ghost use mathlib.Core.Path.{_≡_};
-ghost use mathlib.Core.List.{List};
 ghost use Prim.Native.Nat.{ℕ, _*_, _/_, _<_, _≤_};
 ghost use lib.ListN.{length, take};
-ghost use lib.Seq.{sets};
 ghost use Rattle.refusal.specs.Refusals.{figure};
 ghost use Rattle.chunk_grid.specs.Values.{gridOf};
 ghost use Rattle.ea_blocks.specs.declared.Counted.the-variants.{Count};
-ghost use Rattle.ea_blocks.specs.Call.{Call, Rec, callOf};
+ghost use Rattle.ea_blocks.specs.Call.{Call, callOf};
 ghost use Rattle.ea_blocks.specs.Elements.{product};
-ghost use Rattle.ea_blocks.specs.Records.{recordLength, listBytes};
+ghost use Rattle.ea_blocks.specs.Records.{recordLength};
 ghost use Rattle.ea_blocks.specs.Runs.{countedOf};
 ghost use Rattle.ea_walk.specs.Walk.{walk};
 ghost use Rattle.ea_walk.specs.Values.{Walks};
-ghost use Rattle.ea_list.specs.Listing.{inRoom, listInto, listContent};
+ghost use Rattle.ea_list.specs.Listing.{inRoom, listInto, listContent, recordsIn};
 ghost use Rattle.ea_list.specs.Judged.{Judged};
 use crate::walk::count_walk;
 use crate::write::write_walk;
@@ -45,7 +43,7 @@ pub fn read_extensible_array_chunks(
         let answer = listInto call (length (now (list .entry))) in
         (r ≡ countedOf answer)
         × (now (list .exit) ≡ listContent answer (now (list .entry)))
-        × ((n : ℕ) → r ≡ Count n → 0 < grid .rank → (l : List Rec) × (now (list .exit) ≡ sets (now (list .entry)) 0 (listBytes l)) × Judged call l n)) ⌝ }
+        × ((n : ℕ) → r ≡ Count n → 0 < grid .rank → Judged call (recordsIn (grid .rank) n (now (list .exit))) n)) ⌝ }
 {
     let mut counts = [0u64; 32];
     let mut bound = [0u64; 32];

@@ -24,7 +24,8 @@ use Rattle.ea_list.specs.Listing.{inRoom, listInto}
 use Rattle.ea_list.specs.Door.{doorGrid, callAt, listAt}
 use Rattle.eals.specs.Text.{words, onFirst, decimal}
 use Rattle.eals.specs.Line.{lineOf, fits, lengthsRead, headOf, withLengths, lineReading, readingOf}
-use Rattle.eals.specs.Printed.{spaced, recordLine, recordLines, recordIn, recordsIn, recordsWord, listText, refusedWord, refusalText}
+use Rattle.ea_list.specs.Listing.{recordIn, recordsIn}
+use Rattle.eals.specs.Printed.{spaced, recordLine, recordLines, recordsWord, listText, refusedWord, refusalText}
 use Rattle.eals.specs.Program.{listingOf, countOf}
 use Rattle.eals.specs.declared.line.Question.{Question}
 use Rattle.eals.specs.declared.line.Reading.{Reading}

@@ -10,7 +10,8 @@ use Rattle.fields.specs.LittleEndian.{leAt}
 use Rattle.chunk_grid.specs.Shapes.{numbersIn}
 use Rattle.ea_blocks.specs.Records.{recordLength}
 use Rattle.eals.specs.Text.{decimal}
-use Rattle.eals.specs.Printed.{spaced, recordLine, recordLines, recordIn, recordsIn, recordsWord, listText, refusedWord, refusalText}
+use Rattle.ea_list.specs.Listing.{recordIn, recordsIn}
+use Rattle.eals.specs.Printed.{spaced, recordLine, recordLines, recordsWord, listText, refusedWord, refusalText}
 
 -- a number in a part of a list
 pub at-part : (s : List ℕ) (from pos w : ℕ) → leAt (drop from s) pos w ≡ leAt s (from + pos) w

@@ -1,12 +1,9 @@
 -- What the program prints.
-use Prim.Native.Nat.{ℕ, zero, suc}
+use Prim.Native.Nat.{ℕ}
 use mathlib.Core.List.{List, [], _∷_, _++_}
-use lib.ListN.{length, drop}
+use lib.ListN.{length}
 use Rattle.refusal.specs.declared.Refusal.{Refusal}
-use Rattle.fields.specs.LittleEndian.{leAt}
-use Rattle.chunk_grid.specs.Shapes.{numbersIn}
 use Rattle.ea_blocks.specs.Call.{Rec}
-use Rattle.ea_blocks.specs.Records.{recordLength}
 use Rattle.eals.specs.Text.{decimal}
 
 -- numbers in decimal digits, each behind a space (32)
@@ -39,15 +36,3 @@ refusalText r = refusedWord ++ spaced (r .number ∷ r .first ∷ r .second ∷ 
 -- for a line of another form, or too long a file, `unreadable`.
 abbrev pub unreadableText : List ℕ
 unreadableText = 117 ∷ 110 ∷ 114 ∷ 101 ∷ 97 ∷ 100 ∷ 97 ∷ 98 ∷ 108 ∷ 101 ∷ 10 ∷ []
-
--- the record that bytes hold: address 8, size 4, mask 4, offsets 8 each
-unfoldable pub recordIn : ℕ → List ℕ → Rec
-recordIn rank s = record {
-  entry = record { address = leAt s 0 8; size = leAt s 8 4; mask = leAt s 12 4 };
-  corner = numbersIn rank (drop 16 s);
-}
-
--- that many records, one behind the other
-unfoldable pub recordsIn : ℕ → ℕ → List ℕ → List Rec
-recordsIn rank zero s = []
-recordsIn rank (suc n) s = recordIn rank s ∷ recordsIn rank n (drop (recordLength rank) s)

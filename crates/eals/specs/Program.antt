@@ -5,10 +5,10 @@ use lib.ListN.{length, take, drop}
 use Rattle.ea_blocks.specs.declared.Counted.{Counted}
 use Rattle.ea_blocks.specs.declared.Counted.the-variants.{Count, Refused}
 use Rattle.ea_blocks.specs.Runs.{Listing, countedOf}
-use Rattle.ea_list.specs.Listing.{listContent}
 use Rattle.ea_list.specs.Door.{doorGrid, listAt}
 use Rattle.eals.specs.Line.{fileOf, readingOf, storedOf}
-use Rattle.eals.specs.Printed.{recordsIn, listText, refusalText, unreadableText}
+use Rattle.ea_list.specs.Listing.{listContent, recordsIn}
+use Rattle.eals.specs.Printed.{listText, refusalText, unreadableText}
 use Rattle.eals.specs.declared.line.Question.{Question}
 use Rattle.eals.specs.declared.line.Reading.{Reading}
 use Rattle.eals.specs.declared.line.Reading.the-variants.{Asked, Unreadable}

@@ -1,9 +1,10 @@
 -- `ea_list::read_extensible_array_chunks` meets its contract. Assumes nothing.
 use borrow.Author.Needs.{needs}
-use Prim.Native.Nat.{_≤_}
+use Prim.Native.Nat.{ℕ, _<_, _≤_}
 use mathlib.Core.Path.{_≡_, refl, sym, ap, _∙_}
 use mathlib.Core.List.{List}
 use native.Mathlib.Omega.{arith}
+use lib.ListN.{getD}
 use Rattle.refusal.specs.declared.Checked.the-variants.{Passed}
 use Rattle.refusal.specs.Refusals.{largest64}
 use Rattle.chunk_grid.specs.Grid.{gridTest}
@@ -80,6 +81,9 @@ walks c =
 list-walk-requires : tie.Need-list-walk-requires
 list-walk-requires c κs = let b = c .before .before .before .before in (call b, walks b)
 
+bytes : (c : tie.After-shared-slice-known) (i : ℕ) → getD (c .before .args .file .now) i 0 < 256
+bytes c i = omega (arith, c .shared-slice-known .given i)
+
 fits : (c : tie.Start) → c .args .header .«num_elements» ≤ largest64
 fits c = omega arith
 
@@ -95,7 +99,7 @@ returns-2 c =
     let i = into-passed (call b) _ (passed (b .before .before .before)) in
     let counted = e .0 ∙ ap countedOf i in
     let content = e .1 ∙ ap (λ (a : Listing). listContent a (start (b .before .before .before) .args .list .now)) i in
-    (counted, content, λ n h ranked. delivered (call b) ranked (fits (start (b .before .before .before))) _ _ _ _ counted content n h)
+    (counted, content, λ n h ranked. delivered (call b) (bytes (b .before .before .before .before .before .before .before .before .before .before .before .before .before)) ranked (fits (start (b .before .before .before))) (start (b .before .before .before) .args .list .now) _ _ counted content n h)
 
 pub read-extensible-array-chunks-spec : {M : Type 1} → statement M
 read-extensible-array-chunks-spec =

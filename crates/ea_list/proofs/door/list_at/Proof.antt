@@ -1,19 +1,17 @@
 -- `ea_list::door::list_at` meets its contract. Assumes nothing.
 use borrow.Author.Needs.{needs}
-use mathlib.Core.Path.{_≡_, refl, sym, ap, subst, _∙_}
+use mathlib.Core.Path.{_≡_, refl, sym, ap, _∙_}
 use Rattle.refusal.specs.declared.Checked.the-variants.{Passed}
 use Rattle.checksum.specs.Lookup3.{lookup3}
 use Rattle.chunk_grid.specs.Grid.{Grid, gridTest}
 use Rattle.chunk_grid.specs.Shapes.{givenBytes}
 use Rattle.chunk_grid.specs.Values.{given, gridOf, whereTested}
 use Rattle.ea_header.specs.Header.{headerAt, headerTest}
-use Rattle.ea_blocks.specs.Call.{Call}
 use Rattle.ea_blocks.specs.Runs.{Listing, countedOf}
 use Rattle.ea_list.specs.Listing.{listContent}
-use Rattle.ea_list.specs.Judged.{Judged}
 use Rattle.ea_list.specs.Door.{doorGrid}
 use Rattle.ea_list.proofs.Rooms.{refused-count}
-use Rattle.ea_list.proofs.Doors.{parsed-header, parsed-refused, at-no-header, at-no-grid, call-is, at-passed}
+use Rattle.ea_list.proofs.Doors.{parsed-header, parsed-refused, at-no-header, at-no-grid, at-passed, judged-at}
 use Rattle.ea_list.proofs.door.list_at.Statement.{statement}
 use Rattle.ea_list.proofs.door.list_at.Tie as tie
 
@@ -83,9 +81,7 @@ returns-2 c =
     let i = at-passed _ _ _ _ _ (h .1) (grid b) _ k _ _ (h .0) in (
       e .0 ∙ ap countedOf i,
       e .1 ∙ ap (λ (a : Listing). listContent a (start (b .before .before) .args .list .now)) i,
-      λ n j ranked.
-          let d = e .2 n j (rw (ap (λ (x : Grid). x .rank) k) ranked) in
-          (d .0, d .1, subst (λ (x : Call). Judged x (d .0) n) (call-is _ _ _ _ _ (h .1) (grid b) _ k _) (d .2)),
+      λ n j ranked. judged-at _ _ _ _ _ (h .1) (grid b) _ k _ _ n (e .2 n j (rw (ap (λ (x : Grid). x .rank) k) ranked)),
     )
 
 returns-3 : tie.Need-returns-3

@@ -5,7 +5,8 @@ use native.Mathlib.Omega.{arith}
 use lib.ListN.{length}
 use Rattle.ea_blocks.specs.declared.Counted.the-variants.{Count}
 use Rattle.ea_blocks.specs.Records.{recordLength}
-use Rattle.eals.specs.Printed.{recordsIn, listText}
+use Rattle.ea_list.specs.Listing.{recordsIn}
+use Rattle.eals.specs.Printed.{listText}
 use Rattle.eals.specs.Program.{countOf, countedText}
 use Rattle.eals.proofs.Bounds.{list-text-short, refusal-text-short}
 use borrow.Author.Needs.{needs}

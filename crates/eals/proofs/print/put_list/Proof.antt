@@ -2,7 +2,8 @@
 use mathlib.Core.List.{List, [], _∷_, _++_}
 use Prim.Native.Nat.{ℕ}
 use native.Mathlib.Omega.{arith}
-use Rattle.eals.specs.Printed.{spaced, recordLines, recordsIn, recordsWord, listText}
+use Rattle.ea_list.specs.Listing.{recordsIn}
+use Rattle.eals.specs.Printed.{spaced, recordLines, recordsWord, listText}
 use Rattle.eals.proofs.Puts.{Putting, put-none, put-more, put-room, put-all}
 use Rattle.eals.proofs.Lines.{list-parts, recordsLine}
 use borrow.Author.Needs.{needs}

@@ -7,7 +7,8 @@ use Rattle.fields.specs.LittleEndian.{leAt}
 use Rattle.chunk_grid.specs.Shapes.{numbersIn}
 use Rattle.ea_blocks.specs.Records.{recordLength}
 use Rattle.eals.specs.Text.{decimal}
-use Rattle.eals.specs.Printed.{spaced, recordLine, recordIn}
+use Rattle.ea_list.specs.Listing.{recordIn}
+use Rattle.eals.specs.Printed.{spaced, recordLine}
 use Rattle.eals.proofs.Puts.{Putting, put-none, put-more, put-room, put-all}
 use Rattle.eals.proofs.Lines.{record-parts, fromSize, fromMask, fromOffsets}
 use borrow.Author.Needs.{needs}

@@ -6,7 +6,8 @@ use Prim.Native.Nat.{_+_, _-_, _*_, _≤_}
 use native.Mathlib.Omega.{arith}
 use lib.ListN.{length, drop}
 use Rattle.ea_blocks.specs.Records.{recordLength}
-use Rattle.eals.specs.Printed.{recordLine, recordLines, recordIn, recordsIn}
+use Rattle.ea_list.specs.Listing.{recordIn, recordsIn}
+use Rattle.eals.specs.Printed.{recordLine, recordLines}
 use Rattle.eals.proofs.Puts.{Putting, put-none, put-more, put-room, put-all}
 use Rattle.eals.proofs.Lines.{records-on, records-none, room-on}
 use Rattle.eals.proofs.print.put_records.Statement.{statement}
