@@ -4,7 +4,7 @@ CC = gcc
 CFLAGS = -std=c11 -O2 -Wall -Wextra -Werror
 VERSION = 0.1.0
 
-C_TESTS = test_checksum test_list test_list_call test_lookup
+C_TESTS = test_checksum test_list test_list_call test_lookup test_fuzz
 BENCHES = bench_checksum bench_list bench_lookup
 
 # A folder with whole lists of questions and answers, of which tests/data has a part.
@@ -13,7 +13,11 @@ VECTORS = ../shared/vectors
 # The folder with the Rust's extensible_array.rs, to measure beside it.
 RUST_SOURCES = ../shared/docs/src/src
 
-.PHONY: test vectors demo lib bench install clean tools kit
+# `make fuzz` tries random inputs for so many seconds; the same seed tries the same ones.
+SECONDS = 60
+SEED = 1
+
+.PHONY: test vectors demo lib bench fuzz install clean tools kit
 
 test: tools kit
 	@CC='$(CC)' tests/run $(C_TESTS)
@@ -46,8 +50,11 @@ build/cellumaq.h: include/cellumaq.h
 	@mkdir -p build
 	@cp include/cellumaq.h $@
 
-build/test_%: tests/c/test_%.c $(wildcard tests/c/*.h) build/libcellumaq.a build/cellumaq.h
+build/test_%: tests/c/test_%.c $(wildcard tests/c/*.h tests/fuzz/*.h) build/libcellumaq.a build/cellumaq.h
 	@$(CC) $(CFLAGS) -Ibuild -Itests/c -o $@ $< build/libcellumaq.a
+
+build/fuzz: $(wildcard tests/fuzz/*) $(wildcard tests/c/*.h) build/libcellumaq.a build/cellumaq.h
+	@$(CC) $(CFLAGS) -g -fsanitize=address,undefined -fno-sanitize-recover=all -Ibuild -Itests/c -o $@ tests/fuzz/fuzz.c build/libcellumaq.a
 
 build/bench_%: bench/bench_%.c $(wildcard bench/*.h tests/c/*.h) build/libcellumaq.a build/cellumaq.h
 	@$(CC) $(CFLAGS) -Ibuild -Itests/c -o $@ $< build/libcellumaq.a
@@ -66,6 +73,9 @@ demo: build/demo_checksum build/demo_list build/demo_lookup
 bench: $(BENCHES:%=build/%)
 	@bench/rust $(RUST_SOURCES)
 	@for b in $(BENCHES); do build/$$b || exit 1; done
+
+fuzz: build/fuzz
+	@build/fuzz $(SEED) $(SECONDS)
 
 install: lib
 	mkdir -p $(DESTDIR)$(PREFIX)/lib/pkgconfig $(DESTDIR)$(PREFIX)/include
