@@ -4,7 +4,7 @@ CC = gcc
 CFLAGS = -std=c11 -O2 -Wall -Wextra -Werror
 VERSION = 0.1.0
 
-C_TESTS = test_checksum test_list test_list_call test_lookup test_fuzz
+C_TESTS = test_checksum test_list test_list_call test_lookup test_fuzz test_example
 BENCHES = bench_checksum bench_list bench_lookup bench_worst
 
 # A folder with whole lists of questions and answers, of which tests/data has a part.
@@ -58,6 +58,11 @@ build/fuzz: $(wildcard tests/fuzz/*) $(wildcard tests/c/*.h) build/libcellumaq.a
 
 build/bench_%: bench/bench_%.c $(wildcard bench/*.h tests/c/*.h) build/libcellumaq.a build/cellumaq.h
 	@$(CC) $(CFLAGS) -Ibuild -Itests/c -o $@ $< build/libcellumaq.a
+
+build/example_%: examples/%.c build/libcellumaq.a build/cellumaq.h
+	@$(CC) $(CFLAGS) -Ibuild -o $@ $< build/libcellumaq.a
+
+build/test_example: build/example_matcher
 
 build/demo_%: demo/%.c $(wildcard demo/*.h) build/libcellumaq.a build/cellumaq.h
 	@$(CC) $(CFLAGS) -Ibuild -o $@ $< build/libcellumaq.a
