@@ -4,7 +4,7 @@ CC = gcc
 CFLAGS = -std=c11 -O2 -Wall -Wextra -Werror
 VERSION = 0.1.0
 
-C_TESTS = test_checksum test_list test_list_call test_lookup test_fuzz test_example
+C_TESTS = test_checksum test_list test_list_call test_lookup test_stack test_fuzz test_example
 BENCHES = bench_checksum bench_list bench_lookup bench_worst
 
 # A folder with whole lists of questions and answers, of which tests/data has a part.
@@ -52,6 +52,8 @@ build/cellumaq.h: include/cellumaq.h
 
 build/test_%: tests/c/test_%.c $(wildcard tests/c/*.h tests/fuzz/*.h) build/libcellumaq.a build/cellumaq.h
 	@$(CC) $(CFLAGS) -Ibuild -Itests/c -o $@ $< build/libcellumaq.a
+
+build/test_stack: CFLAGS += -pthread
 
 build/fuzz: $(wildcard tests/fuzz/*) $(wildcard tests/c/*.h) build/libcellumaq.a build/cellumaq.h
 	@$(CC) $(CFLAGS) -g -fsanitize=address,undefined -fno-sanitize-recover=all -Ibuild -Itests/c -o $@ tests/fuzz/fuzz.c build/libcellumaq.a
