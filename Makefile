@@ -17,7 +17,7 @@ RUST_SOURCES = ../shared/docs/src/src
 SECONDS = 60
 SEED = 1
 
-.PHONY: test vectors demo lib bench fuzz install clean tools kit
+.PHONY: test test-real vectors demo lib bench fuzz install clean tools kit
 
 test: tools kit
 	@CC='$(CC)' tests/run $(C_TESTS)
@@ -80,6 +80,12 @@ demo: build/demo_checksum build/demo_list build/demo_lookup
 bench: $(BENCHES:%=build/%)
 	@bench/rust $(RUST_SOURCES)
 	@for b in $(BENCHES); do build/$$b || exit 1; done
+
+# Files that the HDF5 library writes, where it is installed.
+test-real: lib
+	@if pkg-config --exists hdf5; then \
+	  $(CC) $(CFLAGS) -Ibuild -Itests/c -o build/real tests/real/real.c build/libcellumaq.a $$(pkg-config --cflags --libs hdf5) && build/real build; \
+	else echo "skipped: the HDF5 library (Debian: libhdf5-dev) isn't installed, or pkg-config doesn't know it."; fi
 
 fuzz: build/fuzz
 	@build/fuzz $(SEED) $(SECONDS)
