@@ -95,8 +95,11 @@ static int write_one(const struct archive *a, hid_t dataset, const hsize_t corne
     }
     for (size_t i = 0; i < length; i++)
         bytes[i] = (uint8_t)random_below(256);
-    if (random_below(2) == 0)
-        return H5Dwrite_chunk(dataset, H5P_DEFAULT, a->filtered ? random_below(4) : 0, corner, a->filtered ? 1 + random_below((uint32_t)length) : length, bytes) >= 0;
+    if (random_below(2) == 0) {
+        size_t stored = a->filtered ? 1 + random_below((uint32_t)length) : length;
+
+        return H5Dwrite_chunk(dataset, H5P_DEFAULT, a->filtered ? random_below(4) : 0, corner, stored, bytes) >= 0;
+    }
     hid_t space = H5Dget_space(dataset), memory = H5Screate_simple(a->rank, count, NULL);
     H5Sselect_hyperslab(space, H5S_SELECT_SET, corner, NULL, count, NULL);
     done = H5Dwrite(dataset, H5T_STD_I32LE, memory, space, H5P_DEFAULT, bytes) >= 0;
@@ -221,8 +224,8 @@ static void compare_lookup(const struct archive *a, hid_t dataset, const struct 
     CHECK(call_lookup(c, offsets, 8 * c->rank, CELLUMAQ_REFUSAL) == 0, "%s: a refused lookup", a->name);
     if (H5Dget_chunk_storage_size(dataset, corner, &size) < 0)
         size = 0;
-    CHECK(call_lookup(c, offsets, 8 * c->rank, CELLUMAQ_FOUND_SIZE) == size && found == (size != 0), "%s: the library has %" PRIu64 " bytes of a chunk", a->name,
-          (uint64_t)size);
+    CHECK(call_lookup(c, offsets, 8 * c->rank, CELLUMAQ_FOUND_SIZE) == size && found == (size != 0), "%s: the library has %" PRIu64 " bytes of a chunk",
+          a->name, (uint64_t)size);
     if (size == 0 || found == 0 || size > sizeof bytes)
         return;
     CHECK(H5Dread_chunk(dataset, H5P_DEFAULT, corner, &mask, bytes) >= 0, "%s: the library can't read a chunk", a->name);
