@@ -65,17 +65,17 @@ int main(int argc, char **argv)
         return 1;
     }
     uint64_t round = 0;
-    double seconds = strtod(argv[2], NULL), begin = seconds_now(), told = begin, now = begin;
+    double seconds = strtod(argv[2], NULL), begin = seconds_of(CLOCK_MONOTONIC), told = begin, now = begin;
 
     seed = strtoull(argv[1], NULL, 10);
     signal(SIGALRM, hangs);
     __sanitizer_set_death_callback(tell_round);
     if (argc == 4) {
         run_round(strtoull(argv[3], NULL, 10));
-        report(1, seconds_now() - begin);
+        report(1, seconds_of(CLOCK_MONOTONIC) - begin);
         return 0;
     }
-    for (; now - begin < seconds; round++, now = seconds_now()) {
+    for (; now - begin < seconds; round++, now = seconds_of(CLOCK_MONOTONIC)) {
         run_round(round);
         if (now - told >= REPORT_SECONDS) {
             report(round + 1, now - begin);

@@ -18,17 +18,17 @@ struct tally {
     uint64_t found, absent;                     /* of lookups */
     uint64_t refused[ROUND_REFUSALS];           /* inputs whose list was refused, by number */
     uint64_t lookup_refused[ROUND_REFUSALS];
-    double slowest; /* the seconds of the slowest list, and its round */
+    double slowest; /* the processor's seconds for the slowest list, and its round */
     uint64_t slowest_round;
 };
 
 static struct tally tally;
 
-static inline double seconds_now(void)
+static inline double seconds_of(clockid_t clock)
 {
     struct timespec t;
 
-    clock_gettime(CLOCK_MONOTONIC, &t);
+    clock_gettime(clock, &t);
     return (double)t.tv_sec + 1e-9 * (double)t.tv_nsec;
 }
 
@@ -161,9 +161,9 @@ static inline void check_sound(const struct input *in, const struct answer *a, c
 /* How many records the list has, from a call without a list. It is timed. */
 static inline uint64_t needed_records(const struct call *c)
 {
-    double begin = seconds_now();
+    double begin = seconds_of(CLOCK_PROCESS_CPUTIME_ID);
     uint64_t refusal = call_list(c, NULL, 0, CELLUMAQ_REFUSAL);
-    double taken = seconds_now() - begin;
+    double taken = seconds_of(CLOCK_PROCESS_CPUTIME_ID) - begin;
 
     if (taken > tally.slowest) {
         tally.slowest = taken;
