@@ -13,7 +13,7 @@ VECTORS = ../shared/vectors
 # The folder with the Rust's extensible_array.rs, to measure beside it.
 RUST_SOURCES = ../shared/docs/src/src
 
-# `make fuzz` tries random inputs for so many seconds; the same seed tries the same ones.
+# `make fuzz` tries random inputs for so many seconds; built by the same compiler, the same seed tries the same ones.
 SECONDS = 60
 SEED = 1
 
