@@ -1,33 +1,12 @@
-/* The time of hostile files: a super block names one data block again and again, and lies in that block's elements, so that both can be large. Elements
- * have addresses, but no corner of the present shape: each is read twice, and the list needs no room. Of a file of 1 MiB a part is measured, up to a pointer
- * that leads nowhere; a smaller file is measured whole, beside what its parts make. */
+/* The time of hostile files (hostile.h). Their elements have addresses, but no corner of the present shape: each is read twice, and the list needs no room.
+ * Of a file of half a MiB a part is measured, up to a pointer that leads elsewhere; a smaller file is measured whole, beside what its parts make. */
 #define _DEFAULT_SOURCE
-#include "array.h"
 #include "calls.h"
 #include "clock.h"
+#include "hostile.h"
 
-/* Blocks that are measured, and where in its data block the super block begins. */
-enum { MEASURED = 48, RANK_MOST = 32, SUPER_AT = 64 };
-
-/* A file whose super block u has 2^(u/2) pointers to the same block, u odd. Where `last` is less, that pointer leads nowhere. */
-static struct array hostile(unsigned u, uint64_t count, uint64_t last)
-{
-    struct array a = {.of = {2, 8, 0, 2, (uint8_t)u, 0, 1, 0, 32}, .count = count};
-    const struct array_parameters *p = &a.of;
-    size_t head = array_block_head(p), block_length = head + array_block_elements(p, u) * 2 + 4, super_length = head + array_blocks(u) * 2 + 4;
-
-    array_build(&a);
-    size_t index = a.structures[1].start, block = array_structure(&a, "EADB", block_length, 0), super = block + SUPER_AT;
-    memset(a.bytes + block + head, 1, block_length - head);
-    memcpy(a.bytes + super, "EASB", 4);
-    for (uint64_t k = 0; k < array_blocks(u); k++)
-        array_put(a.bytes + super + head + 2 * k, k == last ? 0 : block, 2);
-    array_seal(&a, super, super_length);
-    array_seal(&a, block, block_length);
-    array_put(a.bytes + index + array_head(p) + 2 * u, super, 2);
-    array_seal(&a, index, a.structures[1].length);
-    return a;
-}
+/* Blocks that are measured. */
+enum { MEASURED = 48, RANK_MOST = 32 };
 
 /* The call for a dataset of a rank whose leading length is 0 at present. */
 static struct call call_of(const struct array *a, uint64_t rank, uint8_t shapes[3][8 * RANK_MOST])
@@ -58,12 +37,12 @@ static double seconds(const struct call *c, uint64_t refusal)
 }
 
 /* The seconds of a list whose published count and wrong pointer are given. */
-static double hostile_seconds(unsigned u, uint64_t count, uint64_t last, uint64_t rank)
+static double hostile_seconds(unsigned u, uint64_t count, uint64_t wrong, uint64_t rank)
 {
-    struct array a = hostile(u, count, last);
+    struct array a = hostile_array(u, count, wrong).array;
     uint8_t shapes[3][8 * RANK_MOST];
     struct call c = call_of(&a, rank, shapes);
-    double taken = seconds(&c, last < array_blocks(u) ? CELLUMAQ_DATA_BLOCK_SIGNATURE : 0);
+    double taken = seconds(&c, wrong < array_blocks(u) ? CELLUMAQ_DATA_BLOCK_SIGNATURE : 0);
 
     array_free(&a);
     return taken;
@@ -72,7 +51,7 @@ static double hostile_seconds(unsigned u, uint64_t count, uint64_t last, uint64_
 /* A hostile file: what each byte of a tested block and each element takes, and what they make for the whole list. */
 static void measure(unsigned u, uint64_t rank, int whole)
 {
-    struct array a = hostile(u, 0, 0);
+    struct array a = hostile_array(u, 0, 0).array;
     double each = (double)array_block_elements(&a.of, u), blocks = (double)array_blocks(u);
     double checksum = hostile_seconds(u, (uint64_t)1 << u, MEASURED, rank) / MEASURED;
     double elements = hostile_seconds(u, UINT64_MAX, MEASURED, rank) / MEASURED - checksum;
@@ -86,24 +65,12 @@ static void measure(unsigned u, uint64_t rank, int whole)
     array_free(&a);
 }
 
-/* The same with 2^22 pages of one element in blocks of 2^11 pages, none of them set. */
 static void measure_clear_pages(void)
 {
-    struct array a = {.of = {2, 8, 0, 2, 22, 0, 1, 0, 0}, .count = UINT64_MAX};
-    const struct array_parameters *p = &a.of;
-    uint64_t u = 22, blocks = array_blocks(u);
-    size_t head = array_block_head(p), bits = blocks * array_pages(p, u) / 8, length = head + bits + 2 * blocks + 4;
+    struct array a = clear_pages_array();
     uint8_t shapes[3][8 * RANK_MOST];
-
-    array_build(&a);
-    size_t block = array_structure(&a, "EADB", head + 4, 0), super = array_structure(&a, "EASB", length, 0), index = a.structures[1].start;
-    for (uint64_t k = 0; k < blocks; k++)
-        array_put(a.bytes + super + head + bits + 2 * k, block, 2);
-    array_seal(&a, block, head + 4);
-    array_seal(&a, super, length);
-    array_put(a.bytes + index + array_head(p) + 2 * u, super, 2);
-    array_seal(&a, index, a.structures[1].length);
     struct call c = call_of(&a, 1, shapes);
+
     printf("%zu bytes with 2^22 clear pages: %.3f s\n", a.length, seconds(&c, 0));
     array_free(&a);
 }
