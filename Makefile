@@ -4,8 +4,8 @@ CC = gcc
 CFLAGS = -std=c11 -O2 -Wall -Wextra -Werror
 VERSION = 0.1.0
 
-C_TESTS = test_checksum test_list test_list_call test_lookup test_spans test_eals
-BENCHES = bench_checksum bench_list bench_lookup
+C_TESTS = test_checksum test_list test_list_call test_lookup test_spans test_eals test_hostile test_stack test_symbols test_fuzz test_example
+BENCHES = bench_checksum bench_list bench_lookup bench_worst
 
 # A folder with whole lists of questions and answers, of which tests/data has a part.
 VECTORS = ../shared/vectors
@@ -13,7 +13,11 @@ VECTORS = ../shared/vectors
 # The folder with the Rust's extensible_array.rs, to measure beside it.
 RUST_SOURCES = ../shared/docs/src/src
 
-.PHONY: test vectors demo lib bench install clean tools kit
+# `make fuzz` tries random inputs for so many seconds; built by the same compiler, the same seed tries the same ones.
+SECONDS = 60
+SEED = 1
+
+.PHONY: test test-real vectors demo lib bench fuzz install clean tools kit
 
 test: tools kit
 	@CC='$(CC)' tests/run $(C_TESTS)
@@ -54,8 +58,13 @@ build/eals: crates.txt $(shell find crates -name '*.rt' -o -name '*.antt') | too
 
 build/test_eals: build/eals
 
-build/test_%: tests/c/test_%.c $(wildcard tests/c/*.h) build/libcellumaq.a build/cellumaq.h
+build/test_%: tests/c/test_%.c $(wildcard tests/c/*.h tests/fuzz/*.h) build/libcellumaq.a build/cellumaq.h
 	@$(CC) $(CFLAGS) -Ibuild -Itests/c -o $@ $< build/libcellumaq.a
+
+build/test_stack: CFLAGS += -pthread
+
+build/fuzz: $(wildcard tests/fuzz/*) $(wildcard tests/c/*.h) build/libcellumaq.a build/cellumaq.h
+	@$(CC) $(CFLAGS) -g -fsanitize=address,undefined -fno-sanitize-recover=all -Ibuild -Itests/c -o $@ tests/fuzz/fuzz.c build/libcellumaq.a
 
 # The span listing is called from C in its test only.
 build/libspans_door.a: crates.txt $(shell find crates -name '*.rt' -o -name '*.antt') | tools
@@ -68,6 +77,11 @@ build/test_spans: tests/c/test_spans.c tests/c/test.h build/libspans_door.a
 
 build/bench_%: bench/bench_%.c $(wildcard bench/*.h tests/c/*.h) build/libcellumaq.a build/cellumaq.h
 	@$(CC) $(CFLAGS) -Ibuild -Itests/c -o $@ $< build/libcellumaq.a
+
+build/example_%: examples/%.c build/libcellumaq.a build/cellumaq.h
+	@$(CC) $(CFLAGS) -Ibuild -o $@ $< build/libcellumaq.a
+
+build/test_example: build/example_matcher
 
 build/demo_%: demo/%.c $(wildcard demo/*.h) build/libcellumaq.a build/cellumaq.h
 	@$(CC) $(CFLAGS) -Ibuild -o $@ $< build/libcellumaq.a
@@ -83,6 +97,15 @@ demo: build/demo_checksum build/demo_list build/demo_lookup
 bench: $(BENCHES:%=build/%)
 	@bench/rust $(RUST_SOURCES)
 	@for b in $(BENCHES); do build/$$b || exit 1; done
+
+# Files that the HDF5 library writes, where it is installed.
+test-real: lib
+	@if pkg-config --exists hdf5; then \
+	  $(CC) $(CFLAGS) -Ibuild -Itests/c -o build/real tests/real/real.c build/libcellumaq.a $$(pkg-config --cflags --libs hdf5) && build/real build; \
+	else echo "skipped: the HDF5 library (Debian: libhdf5-dev) isn't installed, or pkg-config doesn't know it."; fi
+
+fuzz: build/fuzz
+	@build/fuzz $(SEED) $(SECONDS)
 
 install: lib
 	mkdir -p $(DESTDIR)$(PREFIX)/lib/pkgconfig $(DESTDIR)$(PREFIX)/include

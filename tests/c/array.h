@@ -273,7 +273,9 @@ static inline size_t array_index_block(struct array *a)
             array_data_blocks(a, at, 0, u, slot);
             at += array_blocks(u) * p->offset_size;
         } else {
-            array_put(a->bytes + at, array_has(a, slot, elements) ? array_super_block(a, u, slot) : UINT64_MAX, p->offset_size);
+            uint64_t address = array_has(a, slot, elements) ? array_super_block(a, u, slot) : UINT64_MAX;
+
+            array_put(a->bytes + at, address, p->offset_size);
             at += p->offset_size;
         }
         slot += elements;

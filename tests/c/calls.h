@@ -3,10 +3,26 @@
 #ifndef CALLS_H
 #define CALLS_H
 
+#include <inttypes.h>
+
 #include "call.h"
 #include "cellumaq.h"
 #include "lent.h"
 #include "test.h"
+
+static inline uint64_t call_list(const struct call *c, uint8_t *list, size_t list_length, uint64_t which)
+{
+    return cellumaq_list(c->file.bytes, c->file.length, c->offset_size, c->length_size, c->address, c->element_bytes, c->order, c->rank, c->chunk.bytes,
+                         c->chunk.length, c->present.bytes, c->present.length, c->has_maximum, c->maximum.bytes, c->maximum.length, list, list_length,
+                         which);
+}
+
+static inline uint64_t call_lookup(const struct call *c, const uint8_t *corner, size_t corner_length, uint64_t which)
+{
+    return cellumaq_lookup(c->file.bytes, c->file.length, c->offset_size, c->length_size, c->address, c->element_bytes, c->order, c->rank,
+                           c->chunk.bytes, c->chunk.length, c->present.bytes, c->present.length, c->has_maximum, c->maximum.bytes, c->maximum.length,
+                           corner, corner_length, which);
+}
 
 struct answer {
     uint64_t refusal, first, second, count, address, size, mask;
@@ -25,11 +41,19 @@ static inline const struct slice *call_slice(const struct call *c, int i)
     return i == CALL_FILE ? &c->file : i == CALL_CHUNK ? &c->chunk : i == CALL_PRESENT ? &c->present : &c->maximum;
 }
 
-/* Lends the slices of a call, each turn elsewhere. */
-static inline void call_lend(const struct call *c, int turn, uint8_t *at[CALL_LAST])
+/* The same call on slices that are lent, each turn elsewhere. */
+static inline struct call call_lend(const struct call *c, int turn)
 {
+    struct call lent = *c;
+    const uint8_t *at[CALL_LAST];
+
     for (int i = 0; i < CALL_LAST; i++)
         at[i] = lent_put(&call_lent[i], call_slice(c, i)->bytes, call_slice(c, i)->length, (enum lent_where)((turn + i) % 3));
+    lent.file.bytes = at[CALL_FILE];
+    lent.chunk.bytes = at[CALL_CHUNK];
+    lent.present.bytes = at[CALL_PRESENT];
+    lent.maximum.bytes = at[CALL_MAXIMUM];
+    return lent;
 }
 
 static inline int call_slices_stay(const struct call *c)
@@ -61,18 +85,16 @@ static inline uint8_t call_fill(size_t i, int turn)
 static inline struct answer ask_list(const struct call *c, size_t list_length, uint8_t *records, const char *what)
 {
     size_t record = cellumaq_record_size(c->rank), fit = c->rank <= 32 ? list_length / record : 0, written = 0;
-    uint8_t *before = malloc(list_length + 1), *at[CALL_LAST];
+    uint8_t *before = malloc(list_length + 1);
     uint64_t picked[CALL_PICKS];
 
     for (int turn = 0; turn < CALL_PICKS; turn++) {
         for (size_t i = 0; i < list_length; i++)
             before[i] = call_fill(i, turn);
         uint8_t *list = lent_put(&call_lent[CALL_LAST], before, list_length, (enum lent_where)((turn + CALL_LAST) % 3));
+        struct call lent = call_lend(c, turn);
 
-        call_lend(c, turn, at);
-        picked[turn] = cellumaq_list(at[CALL_FILE], c->file.length, c->offset_size, c->length_size, c->address, c->element_bytes, c->order, c->rank,
-                                     at[CALL_CHUNK], c->chunk.length, at[CALL_PRESENT], c->present.length, c->has_maximum, at[CALL_MAXIMUM],
-                                     c->maximum.length, list, list_length, call_picks[turn]);
+        picked[turn] = call_list(&lent, list, list_length, call_picks[turn]);
         CHECK(call_slices_stay(c), "%s: a slice that is only read was written", what);
         CHECK(lent_marks_stay(&call_lent[CALL_LAST]), "%s: bytes beside the list were written", what);
         if (turn == 0) {
@@ -88,6 +110,23 @@ static inline struct answer ask_list(const struct call *c, size_t list_length, u
     free(before);
     struct answer a = call_answer(picked, what);
     CHECK(a.address == 0 && a.size == 0 && a.mask == 0, "%s: a list has no such number", what);
+    return a;
+}
+
+/* Asks for one chunk. */
+static inline struct answer ask_lookup(const struct call *c, struct slice corner, const char *what)
+{
+    uint64_t picked[CALL_PICKS];
+
+    for (int turn = 0; turn < CALL_PICKS; turn++) {
+        uint8_t *corner_at = lent_put(&call_lent[CALL_LAST], corner.bytes, corner.length, (enum lent_where)((turn + CALL_LAST) % 3));
+        struct call lent = call_lend(c, turn);
+
+        picked[turn] = call_lookup(&lent, corner_at, corner.length, call_picks[turn]);
+        CHECK(call_slices_stay(c) && lent_stays(&call_lent[CALL_LAST], corner.bytes), "%s: a slice was written", what);
+    }
+    struct answer a = call_answer(picked, what);
+    CHECK(a.count <= 1, "%s: %" PRIu64 " records of one corner", what, a.count);
     return a;
 }
 

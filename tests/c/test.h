@@ -20,7 +20,7 @@ static unsigned long test_checks, test_failures, test_failed;
     } while (0)
 
 /* A test without a check has failed. */
-static void test_run(const char *name, void (*test)(void))
+static inline void test_run(const char *name, void (*test)(void))
 {
     test_checks = test_failures = 0;
     test();
@@ -33,7 +33,7 @@ static void test_run(const char *name, void (*test)(void))
     fflush(stdout);
 }
 
-static int test_summary(void)
+static inline int test_summary(void)
 {
     return test_failed != 0;
 }

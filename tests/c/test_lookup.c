@@ -8,35 +8,6 @@
 #include "test.h"
 #include "vectors.h"
 
-static uint64_t one_number(const struct call *c, const uint8_t *corner, size_t corner_length, uint64_t which)
-{
-    return cellumaq_lookup(c->file.bytes, c->file.length, c->offset_size, c->length_size, c->address, c->element_bytes, c->order, c->rank,
-                           c->chunk.bytes, c->chunk.length, c->present.bytes, c->present.length, c->has_maximum, c->maximum.bytes, c->maximum.length,
-                           corner, corner_length, which);
-}
-
-/* Asks with every `which`, on slices that are lent elsewhere at each turn. */
-static struct answer ask_lookup(const struct call *c, struct slice corner, const char *what)
-{
-    uint64_t picked[CALL_PICKS];
-
-    for (int turn = 0; turn < CALL_PICKS; turn++) {
-        uint8_t *at[CALL_LAST], *corner_at = lent_put(&call_lent[CALL_LAST], corner.bytes, corner.length, (enum lent_where)((turn + CALL_LAST) % 3));
-        struct call lent = *c;
-
-        call_lend(c, turn, at);
-        lent.file.bytes = at[CALL_FILE];
-        lent.chunk.bytes = at[CALL_CHUNK];
-        lent.present.bytes = at[CALL_PRESENT];
-        lent.maximum.bytes = at[CALL_MAXIMUM];
-        picked[turn] = one_number(&lent, corner_at, corner.length, call_picks[turn]);
-        CHECK(call_slices_stay(c) && lent_stays(&call_lent[CALL_LAST], corner.bytes), "%s: a slice was written", what);
-    }
-    struct answer a = call_answer(picked, what);
-    CHECK(a.count <= 1, "%s: %" PRIu64 " records of one corner", what, a.count);
-    return a;
-}
-
 static void check_refusal(const struct call *c, struct slice corner, uint64_t refusal, uint64_t first, uint64_t second, const char *what)
 {
     struct answer a = ask_lookup(c, corner, what);
@@ -75,11 +46,11 @@ static void check_found(const struct call *c, const uint8_t *corner, const uint8
     size_t length = 8 * c->rank;
 
     if (record == NULL) {
-        CHECK(one_number(c, corner, length, 3) == 0 && one_number(c, corner, length, 0) == 0, "%s: a chunk that the list hasn't", what);
+        CHECK(call_lookup(c, corner, length, 3) == 0 && call_lookup(c, corner, length, 0) == 0, "%s: a chunk that the list hasn't", what);
         return;
     }
-    CHECK(one_number(c, corner, length, 3) == 1 && one_number(c, corner, length, 4) == cellumaq_get(record, 8) &&
-          one_number(c, corner, length, 5) == cellumaq_get(record + 8, 4) && one_number(c, corner, length, 6) == cellumaq_get(record + 12, 4),
+    CHECK(call_lookup(c, corner, length, 3) == 1 && call_lookup(c, corner, length, 4) == cellumaq_get(record, 8) &&
+          call_lookup(c, corner, length, 5) == cellumaq_get(record + 8, 4) && call_lookup(c, corner, length, 6) == cellumaq_get(record + 12, 4),
           "%s: another record than the list's", what);
 }
 
@@ -114,9 +85,7 @@ static void check_agreement(const struct question *q, const char *answer, const 
     size_t rank = c->rank, record = cellumaq_record_size(rank), room = 4096 * record;
     uint8_t *list = malloc(room), corner[8 * VECTOR_RANK] = {0};
     uint64_t chunks = 1;
-    uint64_t count = cellumaq_list(c->file.bytes, c->file.length, c->offset_size, c->length_size, c->address, c->element_bytes, c->order, rank,
-                                   c->chunk.bytes, c->chunk.length, c->present.bytes, c->present.length, c->has_maximum, c->maximum.bytes,
-                                   c->maximum.length, list, room, 3);
+    uint64_t count = call_list(c, list, room, CELLUMAQ_COUNT);
 
     if (strncmp(answer, "ok ", 3) == 0)
         CHECK(count == strtoull(answer + 3, NULL, 10), "%s: %" PRIu64 " records", what, count);
@@ -346,7 +315,7 @@ static void corners_without_slots(void)
     uint8_t corner[16] = {0};
 
     cellumaq_put_length(corner, 0, 5);
-    CHECK(one_number(&c, corner, 16, 4) == 8192, "slot 2");
+    CHECK(call_lookup(&c, corner, 16, 4) == 8192, "slot 2");
     cellumaq_put_length(corner, 0, 0);
     cellumaq_put_length(corner, 1, 4);
     check_found(&c, corner, NULL, "slot 2 if the second dimension had no count");
@@ -355,7 +324,7 @@ static void corners_without_slots(void)
     s.grid.maximum[1] = (uint64_t)1 << 40;
     c = dataset_call(&s);
     memset(corner, 0, sizeof corner);
-    CHECK(one_number(&c, corner, 16, 4) == 4096, "slot 0");
+    CHECK(call_lookup(&c, corner, 16, 4) == 4096, "slot 0");
     cellumaq_put_length(corner, 0, (uint64_t)1 << 24);
     check_found(&c, corner, NULL, "slot 2^64");
     cellumaq_put_length(corner, 1, 2);

@@ -1,0 +1,103 @@
+/* The time of hostile files (hostile.h). Their elements have addresses, but no corner of the present shape: each is read twice, and the list needs no room.
+ * Of a file of half a MiB a part is measured, up to a pointer that leads elsewhere; a smaller file is measured whole, beside what its parts make. */
+#define _DEFAULT_SOURCE
+#include "calls.h"
+#include "clock.h"
+#include "hostile.h"
+
+/* Blocks that are measured. */
+enum { MEASURED = 48, RANK_MOST = 32 };
+
+/* The call for a dataset of a rank whose leading length is 0 at present. */
+static struct call call_of(const struct array *a, uint64_t rank, uint8_t shapes[3][8 * RANK_MOST])
+{
+    struct call c = {.file = {a->bytes, a->length}, .offset_size = 2, .length_size = 8, .element_bytes = 1, .order = 1, .rank = rank, .has_maximum = 1,
+                     .chunk = {shapes[0], 8 * rank}, .present = {shapes[1], 8 * rank}, .maximum = {shapes[2], 8 * rank}};
+
+    for (size_t d = 0; d < rank; d++) {
+        cellumaq_put_length(shapes[0], d, 1);
+        cellumaq_put_length(shapes[1], d, d == 0 ? 0 : 3);
+        cellumaq_put_length(shapes[2], d, d == 0 ? CELLUMAQ_UNLIMITED : 3);
+    }
+    return c;
+}
+
+/* The seconds of a list that is accepted without a record, or refused with an expected number. */
+static double seconds(const struct call *c, uint64_t refusal)
+{
+    double begin = now();
+    uint64_t given = call_list(c, NULL, 0, CELLUMAQ_REFUSAL);
+    double end = now();
+
+    if (given != refusal) {
+        printf("refusal %" PRIu64 ", not %" PRIu64 "\n", given, refusal);
+        exit(1);
+    }
+    return end - begin;
+}
+
+/* The seconds of a list whose published count and wrong pointer are given. */
+static double hostile_seconds(unsigned u, uint64_t count, uint64_t wrong, uint64_t rank)
+{
+    struct array a = hostile_array(u, count, wrong).array;
+    uint8_t shapes[3][8 * RANK_MOST];
+    struct call c = call_of(&a, rank, shapes);
+    double taken = seconds(&c, wrong < array_blocks(u) ? CELLUMAQ_DATA_BLOCK_SIGNATURE : 0);
+
+    array_free(&a);
+    return taken;
+}
+
+/* A hostile file: what each byte of a tested block and each element takes, and what they make for the whole list. */
+static void measure(unsigned u, uint64_t rank, int whole)
+{
+    struct array a = hostile_array(u, 0, 0).array;
+    double each = (double)array_block_elements(&a.of, u), blocks = (double)array_blocks(u);
+    double checksum = hostile_seconds(u, (uint64_t)1 << u, MEASURED, rank) / MEASURED;
+    double elements = hostile_seconds(u, UINT64_MAX, MEASURED, rank) / MEASURED - checksum;
+
+    printf("%10zu %8.0f %10.0f %6" PRIu64 " %12.3f %16.1f %12.2f", a.length, blocks, each, rank, 1e9 * checksum / (2 * each), 1e9 * elements / each,
+           blocks * (checksum + 2 * elements));
+    if (whole)
+        printf(" %12.2f", hostile_seconds(u, UINT64_MAX, UINT64_MAX, rank));
+    printf("\n");
+    fflush(stdout);
+    array_free(&a);
+}
+
+static void measure_clear_pages(void)
+{
+    struct array a = clear_pages_array();
+    uint8_t shapes[3][8 * RANK_MOST];
+    struct call c = call_of(&a, 1, shapes);
+
+    printf("%zu bytes with 2^22 clear pages: %.3f s\n", a.length, seconds(&c, 0));
+    array_free(&a);
+}
+
+/* No pointer is defined, and the count is the largest. */
+static void measure_undefined(void)
+{
+    struct array a = {.of = {8, 8, 0, 8, 62, 255, 1, 32, 32}, .count = UINT64_MAX};
+    uint8_t shapes[3][8 * RANK_MOST];
+
+    array_build(&a);
+    struct call c = call_of(&a, 32, shapes);
+    c.offset_size = 8;
+    printf("%zu bytes with undefined pointers, count 2^64 - 1: %.6f s\n", a.length, seconds(&c, 0));
+    array_free(&a);
+}
+
+int main(void)
+{
+    static const uint64_t ranks[] = {1, 3, 32};
+
+    printf("%10s %8s %10s %6s %12s %16s %12s %12s\n", "hostile", "blocks", "elements", "rank", "ns per byte", "ns per element", "s computed", "s measured");
+    for (size_t i = 0; i < sizeof ranks / sizeof *ranks; i++) {
+        measure(23, ranks[i], 1);
+        measure(35, ranks[i], 0);
+    }
+    measure_clear_pages();
+    measure_undefined();
+    return 0;
+}

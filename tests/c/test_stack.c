@@ -1,0 +1,95 @@
+/* List and lookup in a thread with a small stack between pages that may not be touched: the answers are those of the main thread. */
+#define _DEFAULT_SOURCE
+#include <pthread.h>
+
+#include "list_checks.h"
+
+enum { STACK = 64 * 1024, PAINT = 0xa5, RECORDS = 1000 };
+
+/* The list of a call, and the lookup of each listed corner. */
+struct answers {
+    const struct call *call;
+    uint64_t count, refusal;
+    uint8_t list[RECORDS * (16 + 8 * DATASET_RANK)];
+    uint64_t found[RECORDS][3];
+};
+
+static void *answer(void *data)
+{
+    struct answers *a = data;
+    const struct call *c = a->call;
+    size_t record = cellumaq_record_size(c->rank);
+
+    a->count = call_list(c, a->list, sizeof a->list, CELLUMAQ_COUNT);
+    a->refusal = call_list(c, NULL, 0, CELLUMAQ_REFUSAL);
+    for (size_t i = 0; i < a->count && i < RECORDS; i++)
+        for (int k = 0; k < 3; k++)
+            a->found[i][k] = call_lookup(c, a->list + i * record + 16, 8 * c->rank, CELLUMAQ_FOUND_ADDRESS + (uint64_t)k);
+    return NULL;
+}
+
+/* Runs in a thread on that stack; how many of its bytes were used. */
+static size_t answer_on(uint8_t *stack, struct answers *a)
+{
+    pthread_attr_t attributes;
+    pthread_t thread;
+    size_t free_bytes = 0;
+
+    memset(stack, PAINT, STACK);
+    pthread_attr_init(&attributes);
+    if (pthread_attr_setstack(&attributes, stack, STACK) != 0 || pthread_create(&thread, &attributes, answer, a) != 0)
+        return 0;
+    pthread_join(thread, NULL);
+    pthread_attr_destroy(&attributes);
+    while (free_bytes < STACK && stack[free_bytes] == PAINT)
+        free_bytes++;
+    return STACK - free_bytes;
+}
+
+static void check_call(const struct call *c, uint8_t *stack, const char *what)
+{
+    static struct answers here, there;
+
+    memset(&here, 0, sizeof here);
+    memset(&there, 0, sizeof there);
+    here.call = there.call = c;
+    answer(&here);
+    CHECK(answer_on(stack, &there) != 0, "%s: no thread with a stack of %d bytes", what, STACK);
+    CHECK(memcmp(&here, &there, sizeof here) == 0, "%s: other answers on a small stack", what);
+    CHECK(here.count != 0 || here.refusal != 0, "%s: nothing was asked", what);
+}
+
+/* Arrays of all layouts, of rank 1 and of rank 32, and the same with a wrong checksum at the end. */
+static void small_stack(void)
+{
+    static struct entry entries[SLOTS];
+    struct lent memory = {0};
+    char what[64];
+
+    lent_reserve(&memory, STACK);
+    for (int l = 0; l < LAYOUTS; l++) {
+        struct dataset s = {.array = {.of = layouts[l], .count = SLOTS, .entries = entries}, .grid = grids[2]};
+
+        s.array.entry_count = random_entries(entries, slots_of(&layouts[l]), 16);
+        array_build(&s.array);
+        for (uint64_t rank = 1; rank <= DATASET_RANK; rank += DATASET_RANK - 1) {
+            s.grid.rank = rank;
+            for (uint64_t d = 1; d < rank; d++)
+                s.grid.chunk[d] = s.grid.present[d] = 1;
+            struct call c = dataset_call(&s);
+            snprintf(what, sizeof what, "layout %d, rank %" PRIu64, l, rank);
+            check_call(&c, memory.low, what);
+            const struct structure *last = &s.array.structures[s.array.structure_count - 1];
+            s.array.bytes[last->start + last->length - 1] ^= 1;
+            check_call(&c, memory.low, what);
+            s.array.bytes[last->start + last->length - 1] ^= 1;
+        }
+        array_free(&s.array);
+    }
+}
+
+int main(void)
+{
+    test_run("list and lookup on a stack of 64 KiB", small_stack);
+    return test_summary();
+}
