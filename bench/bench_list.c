@@ -29,6 +29,25 @@ static size_t few(void)
     return n;
 }
 
+/* All of 1,000,000, with sizes. */
+static size_t with_sizes(void)
+{
+    for (uint64_t slot = 0; slot < SLOTS_MOST; slot++)
+        entries[slot] = (struct entry){slot, 4096 + 700 * slot, 300 + random_below(400), 0};
+    return SLOTS_MOST;
+}
+
+/* Rows of 400 in a grid whose maximum has 401. */
+static size_t plane(void)
+{
+    size_t n = 0;
+
+    for (uint64_t slot = 0; slot < SLOTS_MOST; slot++)
+        if (slot % 401 != 400)
+            entries[n++] = (struct entry){slot, 4096 + 4000 * slot, 0, 0};
+    return n;
+}
+
 /* A sum that is another for other records. */
 static uint64_t digest(const uint8_t *list, size_t rank, uint64_t count)
 {
@@ -157,11 +176,24 @@ int main(void)
     array_free(&s.array);
 
     s.array.of = layouts[1];
+    s.array.entry_count = with_sizes();
+    array_build(&s.array);
+    failed |= measured("filtered", &s, rust != NULL);
+    array_free(&s.array);
+
     s.grid = (struct grid){.element_bytes = 4, .order = 1, .rank = 3, .chunk = {4, 8, 8}, .present = {4 * 10000, 80, 80}, .has_maximum = 1,
                            .maximum = {CELLUMAQ_UNLIMITED, 80, 80}};
     s.array.entry_count = sparse();
     array_build(&s.array);
     failed |= measured("sparse", &s, rust != NULL);
+    array_free(&s.array);
+
+    s.array.of = layouts[0];
+    s.grid = (struct grid){.element_bytes = 4, .order = 1, .rank = 2, .chunk = {10, 10}, .present = {10 * 2494, 4000}, .has_maximum = 1,
+                           .maximum = {CELLUMAQ_UNLIMITED, 4010}};
+    s.array.entry_count = plane();
+    array_build(&s.array);
+    failed |= measured("plane", &s, rust != NULL);
     array_free(&s.array);
     return failed;
 }

@@ -64,6 +64,13 @@ pub enum Offsets {
     Refused(Refusal),
 }
 
+// Slots in a line: how many, the dimension in which their offsets differ, and the first one's quotient there.
+pub struct Line {
+    pub slots: u64,
+    pub dim: u64,
+    pub first: u64,
+}
+
 // The slot of a chunk.
 pub enum Slot {
     At(u64),
