@@ -52,6 +52,28 @@ quotientsBy slot rank down = quotients slot (take rank down)
 abbrev pub valueAt : List ℕ → ℕ → List ℕ → List ℕ → ℕ → ℕ
 valueAt qs u chunk bound j = cond (ltb (getD qs j 0) (getD bound (dimAt u j) 0)) (getD qs j 0 * getD chunk (dimAt u j) 0) 0
 
+-- A place's quotient of a number, and those behind it.
+module _ (slot rank : ℕ) (down : List ℕ) (room : rank ≤ length down) where
+  size-down : length (take rank down) ≡ rank
+  size-down = length-take rank down ∙ omega arith
+
+  pub size-quotients : length (quotientsBy slot rank down) ≡ rank
+  size-quotients = length-quotients slot (take rank down) ∙ size-down
+
+  module _ (i : ℕ) (h : i < rank) where
+    pub quotients-split : (n : ℕ) → quotients n (drop i (take rank down)) ≡ n / getD down i 0 ∷ quotients (n % getD down i 0) (drop (suc i) (take rank down))
+    unfolding quotients
+    quotients-split n = rw (drop-cons (take rank down) i 0 (omega (arith, size-down)), getD-take rank down i 0 h) refl
+
+    -- where n is what is left of the slot there
+    pub quotient-at : (n : ℕ) → quotients n (drop i (take rank down)) ≡ drop i (quotientsBy slot rank down)
+        → (n / getD down i 0 ≡ getD (quotientsBy slot rank down) i 0) × (quotients (n % getD down i 0) (drop (suc i) (take rank down)) ≡ drop (suc i) (quotientsBy slot rank down))
+    quotient-at n e =
+        let f = sym (quotients-split n) ∙ e ∙ drop-cons (quotientsBy slot rank down) i 0 (omega (arith, size-quotients)) in
+        let head : n / getD down i 0 ≡ getD (quotientsBy slot rank down) i 0 = cc f in
+        let tail : quotients (n % getD down i 0) (drop (suc i) (take rank down)) ≡ drop (suc i) (quotientsBy slot rank down) = cc f in
+        (head, tail)
+
 -- What the loop of a slot's offsets has before place i.
 module _ (slot rank u : ℕ) (chunk bound down : List ℕ) where
   abbrev qs : List ℕ
@@ -68,23 +90,8 @@ module _ (slot rank u : ℕ) (chunk bound down : List ℕ) where
   turn-first l = record { within = omega arith; left = refl; lies = refl; past = refl; stored = stored-none u (valueAt qs u chunk bound) l }
 
   module _ (leads : u ≤ rank - 1) (rooms : (rank ≤ length chunk) × (rank ≤ length bound) × (rank ≤ length down)) where
-    size-down : length (take rank down) ≡ rank
-    size-down = length-take rank down ∙ omega arith
-
-    size-quotients : length qs ≡ rank
-    size-quotients = length-quotients slot (take rank down) ∙ size-down
-
-    -- a place's quotient, and what is left of the slot behind it
-    quotient-at : (rest i : ℕ) → i < rank → quotients rest (drop i (take rank down)) ≡ drop i qs
-        → (rest / getD down i 0 ≡ getD qs i 0) × (quotients (rest % getD down i 0) (drop (suc i) (take rank down)) ≡ drop (suc i) qs)
-    unfolding quotients
-    quotient-at rest i h e =
-        let d = drop-cons (take rank down) i 0 (omega (arith, size-down)) in
-        let q = drop-cons qs i 0 (omega (arith, size-quotients)) in
-        let f = ap (quotients rest) (sym (d ∙ ap (λ (m : ℕ). m ∷ drop (suc i) (take rank down)) (getD-take rank down i 0 h))) ∙ e ∙ q in
-        let head : rest / getD down i 0 ≡ getD qs i 0 = cc f in
-        let tail : quotients (rest % getD down i 0) (drop (suc i) (take rank down)) ≡ drop (suc i) qs = cc f in
-        (head, tail)
+    abbrev many : length qs ≡ rank
+    many = size-quotients slot rank down (rooms .2)
 
     module _ (l out : List ℕ) (rest : ℕ) (inside over : Bool) (i : ℕ) (t : Turn l out rest inside over i) (h : i < rank) where
       abbrev q : ℕ
@@ -94,8 +101,8 @@ module _ (slot rank u : ℕ) (chunk bound down : List ℕ) where
           (inside && ltb q (getD bound (dimAt u i) 0)) (over || ltb largest64 (q * getD chunk (dimAt u i) 0)) (i + 1)
       unfolding below every overflows any pairwise
       turn-more =
-          let z = quotient-at rest i h (t .left) in
-          let dq = drop-cons qs i 0 (omega (arith, size-quotients)) in
+          let z = quotient-at slot rank down (rooms .2) i h rest (t .left) in
+          let dq = drop-cons qs i 0 (omega (arith, many)) in
           let db = drop-cons (inOrder rank u bound) i 0 (omega (arith, length-order rank u bound leads (rooms .1))) in
           let dc = drop-cons (inOrder rank u chunk) i 0 (omega (arith, length-order rank u chunk leads (rooms .0))) in
           let b = order-at rank u bound leads (rooms .1) i h in

@@ -11,3 +11,4 @@ pub mod Slots
 pub mod Tried
 pub mod Chunks
 pub mod Reach
+pub mod Lines

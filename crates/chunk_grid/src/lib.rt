@@ -1,19 +1,21 @@
 // The chunk grid: which slot of a chunk index is which chunk's.
 ghost use mathlib.Core.Path.{_≡_};
-ghost use mathlib.Core.Bool.{false, not, cond, _&&_};
+ghost use mathlib.Core.Bool.{Bool, false, not, cond, _&&_};
 ghost use mathlib.Core.List.{List, []};
-ghost use Prim.Native.Nat.{ℕ, _-_, _*_, _/_, _%_, _<_, _≤_, max};
+ghost use Prim.Native.Nat.{ℕ, _-_, _*_, _/_, _%_, _<_, _≤_, min, max};
 ghost use lib.Dec.{eqb, ltb};
 ghost use lib.ListN.{length, take, drop};
 ghost use lib.Seq.{sets};
 ghost use Rattle.refusal.specs.declared.Checked.the-variants.{Passed, Refused};
 ghost use Rattle.refusal.specs.Refusals.{largest64, refuse, _then_};
+ghost use Rattle.chunk_grid.specs.declared.Offsets.the-variants.{Inside};
 ghost use Rattle.chunk_grid.specs.Grid.{Grid, pairwise, ceilDiv, countOf, firstUnlimited, leadingIn, toFront};
 ghost use Rattle.chunk_grid.specs.Grid.{multipliers, hasZero, inExtent, cornerTest, slotOf};
 ghost use Rattle.chunk_grid.specs.Grid.{shapesTest, multiplierTest, productTest, gridTest};
 ghost use Rattle.chunk_grid.specs.Values.{isUnlimitedFirst, given, gridOf, whereTested, dimAt};
 ghost use Rattle.chunk_grid.specs.Values.{numberingTest, Made, Numbers, Counted, Extents, handed};
 ghost use Rattle.chunk_grid.specs.Reach.{allInside};
+ghost use Rattle.chunk_grid.specs.Lines.{InLine};
 ghost use Rattle.chunk_grid.specs.Shapes.{shapeOf, givenBytes};
 use fields::bytes::read_u64_le;
 use fields::convert::Exact;
@@ -609,6 +611,50 @@ pub fn offsets_in_extent(
         Offsets::Inside
     } else {
         Offsets::Dropped
+    }
+}
+
+fn lesser(a: u64, b: u64) -> u64
+    ensures { λ r. ⌜ r ≡ min a b ⌝ }
+{
+    if a < b { a } else { b }
+}
+
+// The line that a slot in the present extents begins. At the first place whose multiplier is 1 the quotient grows from slot to slot,
+// until it comes to its bound or the quotient of a place before it changes.
+pub fn line_from(
+    slot: u64,
+    rank: usize,
+    rotated: usize,
+    bound: &[u64; 32],
+    down: &[u64; 32],
+) -> Line
+    requires { ⌜ ((g : Grid) × (chunk : List ℕ) × (numbers : Bool) × (Numbers rank rotated chunk (now down) g) × (Extents rank numbers (now bound) g) × (inExtent g slot ≡ Inside)) ⌝ }
+    ensures { λ r. ⌜ ((g : Grid) (chunk : List ℕ) (numbers : Bool) → Numbers rank rotated chunk (now (down .entry)) g → Extents rank numbers (now (bound .entry)) g
+        → inExtent g slot ≡ Inside → InLine g chunk slot r) ⌝ }
+{
+    let mut slots = u64::MAX;
+    let mut rest = slot;
+    let mut i = 0;
+    while i < rank {
+        let multiplier = down[i];
+        if multiplier == 1 {
+            let d = dim_at(i, rotated);
+            let left = bound[d] - rest;
+            return Line {
+                slots: lesser(slots, left),
+                dim: d as u64,
+                first: rest,
+            };
+        }
+        rest = rest % multiplier;
+        slots = lesser(slots, multiplier - rest);
+        i += 1;
+    }
+    Line {
+        slots: 1,
+        dim: 0,
+        first: 0,
     }
 }
 
