@@ -98,7 +98,7 @@ static void sizes_are_not_cut(void)
     struct dataset s = made(inline_only, 2);
     struct call c;
 
-    array_more(&s.array, 300, 0);
+    array_more(&s.array, 238, 0);
     c = dataset_call(&s);
     c.offset_size = 258;
     expect_call(&c, "R 1 258 0");
@@ -282,12 +282,13 @@ static void sizes_from_4_gib(void)
     expect_on((struct grid){.element_bytes = 1, .rank = 2, .chunk = {65536, 65536}, .present = {1, 1}}, "R 30 4294967296 0");
 }
 
-/* Max bits below log2 m; a minimum of 3; more inline elements than a page has. */
+/* Max bits below log2 m; a minimum of 3; more inline elements than a page has; more elements than that in the first data block of a super block. */
 static void parameters_that_do_not_fit(void)
 {
     expect(made((struct array_parameters){2, 2, 0, 2, 0, 0, 2, 0, 1}, 2), "A 7:1:0:0;8:1:0:1");
     expect(made((struct array_parameters){2, 2, 0, 2, 2, 0, 1, 3, 1}, 4), "A 7:1:0:0;8:1:0:1;9:1:0:2;10:1:0:3");
     expect(made(inline_only, 2), "A 7:1:0:0;8:1:0:1");
+    expect(made((struct array_parameters){2, 2, 0, 2, 2, 0, 1, 2, 0}, 4), "A 7:1:0:0;8:1:0:1;9:1:0:2;10:1:0:3");
 }
 
 static void shapes_that_no_dataset_has(void)
@@ -304,10 +305,8 @@ static void chunks_outside_the_present_shape(void)
 static void other_widths(void)
 {
     struct dataset s = made(inline_only, 2);
-    struct call c;
+    struct call c = dataset_call(&s);
 
-    array_more(&s.array, 16, 0);
-    c = dataset_call(&s);
     c.offset_size = 16;
     expect_call(&c, "R 1 16 0");
     array_free(&s.array);
