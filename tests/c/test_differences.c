@@ -178,8 +178,11 @@ static void chunk_bytes_are_exact(void)
 
 static void fields_that_are_not_looked_at(void)
 {
-    struct dataset s = made(blocks_only, 7);
+    struct dataset s = made(inline_only, 2);
 
+    set(&s, INDEX, 4, 1);
+    expect(s, "A 7:1:0:0;8:1:0:1");
+    s = made(blocks_only, 7);
     for (size_t i = INDEX; i <= BLOCK_1; i++)
         for (size_t at = 4; at < (i == INDEX ? array_head(&blocks_only) : array_block_head(&blocks_only)); at++)
             set(&s, i, at, 0xee);
