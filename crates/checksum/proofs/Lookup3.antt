@@ -1,5 +1,5 @@
 -- Laws of lookup3's blocks. Assumes nothing.
-use mathlib.Core.Path.{_≡_, refl, ap}
+use mathlib.Core.Path.{_≡_, refl, ap, sym, _∙_}
 use mathlib.Core.List.{List, [], _∷_}
 use Prim.Native.Nat.{ℕ, suc, _+_, _-_, _/_, _%_, _^_, _<_, _≤_}
 use native.Mathlib.Nat.{not-suc-le-zero}
@@ -23,22 +23,33 @@ of-none [] i e = refl
 of-none (x ∷ s) i e = absurd (omega arith)
 
 -- before the first block
-pub begun : (s : List ℕ) (i : ℕ) → 0 < length s → blocks ((length s - 0 - 1) / 12) (seeded (seed (length s) i)) (drop 0 s) ≡ hashlittle s i
+pub begun : (s : List ℕ) (i : ℕ) → 0 < length s → blocks ((length s - 1) / 12) (seeded (seed (length s) i)) s ≡ hashlittle s i
 unfolding hashlittle
 begun [] i h = absurd (not-suc-le-zero h)
 begun (x ∷ s) i h = ap (λ (n : ℕ). blocks (n / 12) (seeded (seed (length (x ∷ s)) i)) (x ∷ s)) (omega arith)
 
+-- nothing of s is behind
+pub from-first : (s : List ℕ) (w : Words) → blocks ((length s - 0 - 1) / 12) w (drop 0 s) ≡ blocks ((length s - 1) / 12) w s
+from-first s w = ap (λ (n : ℕ). blocks (n / 12) w s) (omega arith)
+
+pub opened : (s : List ℕ) (i : ℕ) → 0 < length s → (w : Words) → w ≡ seeded (seed (length s) i) → blocks ((length s - 0 - 1) / 12) w (drop 0 s) ≡ hashlittle s i
+opened s i h w is = rw is (from-first s (seeded (seed (length s) i)) ∙ begun s i h)
+
 module _ (s : List ℕ) (at : ℕ) (w : Words) where
+  -- the hash of the part of s that is left
+  pub of-part : blocks ((length (take (length s - at) (drop at s)) - 1) / 12) w (take (length s - at) (drop at s)) ≡ blocks ((length s - at - 1) / 12) w (drop at s)
+  of-part = rw (take-rest s at, length-drop)
+
   -- one block more
-  pub turned : 12 < length s - at → blocks ((length s - at - 1) / 12) w (drop at s) ≡ blocks ((length s - (at + 12) - 1) / 12) (mixed (added w (drop at s))) (drop (at + 12) s)
+  pub turned : 12 < length s - at → (v : Words) → v ≡ mixed (added w (take (length s - at) (drop at s))) → blocks ((length s - (at + 12) - 1) / 12) v (drop (at + 12) s) ≡ blocks ((length s - at - 1) / 12) w (drop at s)
   unfolding blocks
-  turned h =
+  turned h v is =
       let e : (length s - at - 1) / 12 ≡ suc ((length s - (at + 12) - 1) / 12) = omega arith in
-      rw e (ap (λ (l : List ℕ). blocks ((length s - (at + 12) - 1) / 12) (mixed (added w (drop at s))) l) (drop-drop 12 at s))
+      rw (is, take-rest s at, e) (ap (λ (l : List ℕ). blocks ((length s - (at + 12) - 1) / 12) (mixed (added w (drop at s))) l) (sym (drop-drop 12 at s)))
 
   -- the tail
-  pub ended : length s - at ≤ 12 → blocks ((length s - at - 1) / 12) w (drop at s) ≡ finalMixed (added w (drop at s)) .c
+  pub ended : length s - at ≤ 12 → (v : Words) → v ≡ finalMixed (added w (take (length s - at) (drop at s))) → v .c ≡ blocks ((length s - at - 1) / 12) w (drop at s)
   unfolding blocks
-  ended h =
+  ended h v is =
       let e : (length s - at - 1) / 12 ≡ 0 = omega arith in
-      rw e
+      rw (is, take-rest s at, e)

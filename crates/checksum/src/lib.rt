@@ -1,9 +1,9 @@
 // HDF5's metadata checksum: Bob Jenkins' lookup3, hashlittle with start value 0.
 ghost use mathlib.Core.Path.{_≡_};
-ghost use Prim.Native.Nat.{_<_, _≤_};
+ghost use Prim.Native.Nat.{_<_, _≤_, _-_, _/_, min};
 ghost use lib.ListN.{length};
 ghost use Rattle.checksum.specs.Lookup3.{rotated, mixLine, mixed, finalLine, finalMixed, added};
-ghost use Rattle.checksum.specs.Lookup3.{hashlittle, lookup3};
+ghost use Rattle.checksum.specs.Lookup3.{seed, seeded, blocks, hashlittle, lookup3};
 ghost use Rattle.checksum.specs.Trailing.{bodyOf, trailingTest};
 use fields::bytes::read_u32_le;
 use fields::bytes::read_u32_le_padded;
@@ -19,6 +19,18 @@ pub struct Words {
     pub c: u32,
 }
 
+// What the tests of two structures answer.
+pub struct TwoChecked {
+    pub first: Checked,
+    pub second: Checked,
+}
+
+// The checksums of two slices.
+struct TwoHashes {
+    first: u32,
+    second: u32,
+}
+
 // The checksum of s.
 pub fn jenkins_lookup3(s: &[u8]) -> u32
     ensures { λ r. ⌜ r ≡ lookup3 (now (s .entry)) ⌝ }
@@ -30,6 +42,25 @@ pub fn jenkins_lookup3(s: &[u8]) -> u32
 pub fn verify_trailing(block: &[u8]) -> Checked
     ensures { λ r. ⌜ r ≡ trailingTest lookup3 (now (block .entry)) ⌝ }
 {
+    compared(block, jenkins_lookup3(body(block)))
+}
+
+// Tests the checksums of two structures, side by side. (One hash is a chain of dependent steps: two take little longer than one.)
+pub fn verify_trailing_two(one: &[u8], other: &[u8]) -> TwoChecked
+    ensures { λ r. ⌜ (r .first ≡ trailingTest lookup3 (now (one .entry))) × (r .second ≡ trailingTest lookup3 (now (other .entry))) ⌝ }
+{
+    let computed = hashlittle_two(body(one), body(other), 0);
+    TwoChecked {
+        first: compared(one, computed.first),
+        second: compared(other, computed.second),
+    }
+}
+
+// The stored checksum of a structure against the one computed of its body.
+fn compared(block: &[u8], sum: u32) -> Checked
+    requires { ⌜ sum ≡ lookup3 (bodyOf (now block)) ⌝ }
+    ensures { λ r. ⌜ r ≡ trailingTest lookup3 (now (block .entry)) ⌝ }
+{
     if block.len() < 4 {
         return Checked::Refused(Refusal {
             number: Refusal::PAST_END,
@@ -37,15 +68,15 @@ pub fn verify_trailing(block: &[u8]) -> Checked
             second: block.len() as u64,
         });
     }
-    let stored = read_u32_le(block, block.len() - 4);
-    let computed = jenkins_lookup3(body(block));
+    let stored = read_u32_le(block, block.len() - 4) as u64;
+    let computed = sum as u64;
     if stored == computed {
         return Checked::Passed;
     }
     Checked::Refused(Refusal {
         number: Refusal::CHECKSUM,
-        first: stored as u64,
-        second: computed as u64,
+        first: stored,
+        second: computed,
     })
 }
 
@@ -131,22 +162,24 @@ fn add_tail(w: Words, s: &[u8]) -> Words
     Words { a, b, c }
 }
 
-fn hashlittle(s: &[u8], initval: u32) -> u32
-    ensures { λ r. ⌜ r ≡ hashlittle (now (s .entry)) initval ⌝ }
+// The words before the first block of n bytes.
+fn start(n: usize, initval: u32) -> Words
+    ensures { λ r. ⌜ r ≡ seeded (seed n initval) ⌝ }
 {
-    let n = s.len();
-    let start = wrapping_add_u32(
+    let x = wrapping_add_u32(
         wrapping_add_u32(0xdead_beef, (n % 0x1_0000_0000) as u32),
         initval,
     );
-    if n == 0 {
-        return start;
-    }
-    let mut w = Words {
-        a: start,
-        b: start,
-        c: start,
-    };
+    Words { a: x, b: x, c: x }
+}
+
+// The hash from the words so far and the bytes that are left.
+fn hash_from(from: Words, s: &[u8]) -> u32
+    requires { ⌜ 0 < length (now s) ⌝ }
+    ensures { λ r. ⌜ r ≡ blocks ((length (now (s .entry)) - 1) / 12) from (now (s .entry)) ⌝ }
+{
+    let n = s.len();
+    let mut w = from;
     let mut at = 0;
     while 12 < n - at {
         w = mix(add_block(w, &s[at..]));
@@ -154,4 +187,48 @@ fn hashlittle(s: &[u8], initval: u32) -> u32
     }
     let u = final_mix(add_tail(w, &s[at..]));
     u.c
+}
+
+fn hashlittle(s: &[u8], initval: u32) -> u32
+    ensures { λ r. ⌜ r ≡ hashlittle (now (s .entry)) initval ⌝ }
+{
+    let w = start(s.len(), initval);
+    if s.len() == 0 {
+        return w.c;
+    }
+    hash_from(w, s)
+}
+
+fn lesser(n: usize, m: usize) -> usize
+    ensures { λ r. ⌜ r ≡ min n m ⌝ }
+{
+    if n < m {
+        return n;
+    }
+    m
+}
+
+// The hashes of s and t, block by block in turn while both have more than 12 bytes left.
+fn hashlittle_two(s: &[u8], t: &[u8], initval: u32) -> TwoHashes
+    ensures { λ r. ⌜ (r .first ≡ hashlittle (now (s .entry)) initval) × (r .second ≡ hashlittle (now (t .entry)) initval) ⌝ }
+{
+    let both = lesser(s.len(), t.len());
+    if both == 0 {
+        return TwoHashes {
+            first: hashlittle(s, initval),
+            second: hashlittle(t, initval),
+        };
+    }
+    let mut v = start(s.len(), initval);
+    let mut w = start(t.len(), initval);
+    let mut at = 0;
+    while 12 < both - at {
+        v = mix(add_block(v, &s[at..]));
+        w = mix(add_block(w, &t[at..]));
+        at += 12;
+    }
+    TwoHashes {
+        first: hash_from(v, &s[at..]),
+        second: hash_from(w, &t[at..]),
+    }
 }
