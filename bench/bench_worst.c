@@ -42,7 +42,7 @@ static double hostile_seconds(unsigned u, uint64_t count, uint64_t wrong, uint64
     struct array a = hostile_array(u, count, wrong).array;
     uint8_t shapes[3][8 * RANK_MOST];
     struct call c = call_of(&a, rank, shapes);
-    double taken = seconds(&c, wrong < array_blocks(u) ? CELLUMAQ_DATA_BLOCK_SIGNATURE : 0);
+    double taken = seconds(&c, wrong < array_blocks(u) ? CELLUMAQ_REFUSED_DATA_BLOCK_SIGNATURE : 0);
 
     array_free(&a);
     return taken;

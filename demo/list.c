@@ -25,7 +25,7 @@ int main(int argc, char **argv)
     struct dataset s = read_dataset(argv + 1);
 
     /* A list without room is refused; the refusal says how much it needs. */
-    uint64_t needed = listed(&s, NULL, 0, CELLUMAQ_REFUSAL) == CELLUMAQ_LIST_TOO_SMALL ? listed(&s, NULL, 0, CELLUMAQ_FIRST_FIGURE) : 0;
+    uint64_t needed = listed(&s, NULL, 0, CELLUMAQ_REFUSAL) == CELLUMAQ_REFUSED_LIST_TOO_SMALL ? listed(&s, NULL, 0, CELLUMAQ_FIRST_FIGURE) : 0;
     size_t length = needed * cellumaq_record_size(s.rank);
     uint8_t *list = malloc(length + 1);
     if (list == NULL)

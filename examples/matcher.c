@@ -39,29 +39,29 @@ static uint64_t lookup(const struct dataset *s, const uint8_t corner[8 * RANK], 
 static const char *words(uint64_t refusal)
 {
     switch (refusal) {
-    case CELLUMAQ_OFFSET_SIZE: return "offsets of that many bytes are not read";
-    case CELLUMAQ_LENGTH_SIZE: return "lengths of that many bytes are not read";
-    case CELLUMAQ_RANK: return "the rank is over 32, or the chunk shape has another";
-    case CELLUMAQ_PRESENT_RANK: return "the present shape has another rank";
-    case CELLUMAQ_MAXIMUM_RANK: return "the maximum shape has another rank";
-    case CELLUMAQ_CHUNK_LENGTH: return "a chunk has length 0";
-    case CELLUMAQ_UNLIMITED_COUNT: return "a second dimension is unlimited";
-    case CELLUMAQ_TOO_MANY_CHUNKS: return "the shapes have more chunks than can be numbered";
-    case CELLUMAQ_LIST_TOO_SMALL: return "the list is too small for so many records";
-    case CELLUMAQ_CORNER: return "no chunk of the present shape begins there";
-    case CELLUMAQ_PAST_END: return "a structure ends behind the file; its end, the file's length";
-    case CELLUMAQ_HEADER_SIGNATURE: return "no index begins at the address";
-    case CELLUMAQ_HEADER_VERSION: return "the index has a version that is not read";
-    case CELLUMAQ_INDEX_BLOCK_SIGNATURE: return "there is no index block where the header names it";
-    case CELLUMAQ_DATA_BLOCK_SIGNATURE: return "there is no data block where one is named";
-    case CELLUMAQ_SUPER_BLOCK_SIGNATURE: return "there is no super block where one is named";
-    case CELLUMAQ_CHECKSUM: return "the index is damaged; the checksum stored, the one computed";
-    case CELLUMAQ_HEADER_NOT_SERVED: return "the index has parameters that are not read";
-    case CELLUMAQ_ELEMENT_SIZE: return "the index has too short elements";
-    case CELLUMAQ_SIZE_FIELD: return "the index has too long elements";
-    case CELLUMAQ_CHUNK_SIZE: return "a chunk has too many bytes";
-    case CELLUMAQ_NUMBERS_NOTHING: return "the index has a chunk, the shapes have none";
-    case CELLUMAQ_OFFSET_OVERFLOW: return "a chunk lies beyond all offsets";
+    case CELLUMAQ_REFUSED_OFFSET_SIZE: return "offsets of that many bytes are not read";
+    case CELLUMAQ_REFUSED_LENGTH_SIZE: return "lengths of that many bytes are not read";
+    case CELLUMAQ_REFUSED_RANK: return "the rank is over 32, or the chunk shape has another";
+    case CELLUMAQ_REFUSED_PRESENT_RANK: return "the present shape has another rank";
+    case CELLUMAQ_REFUSED_MAXIMUM_RANK: return "the maximum shape has another rank";
+    case CELLUMAQ_REFUSED_CHUNK_LENGTH: return "a chunk has length 0";
+    case CELLUMAQ_REFUSED_UNLIMITED: return "a second dimension is unlimited";
+    case CELLUMAQ_REFUSED_TOO_MANY_CHUNKS: return "the shapes have more chunks than can be numbered";
+    case CELLUMAQ_REFUSED_LIST_TOO_SMALL: return "the list is too small for so many records";
+    case CELLUMAQ_REFUSED_CORNER: return "no chunk of the present shape begins there";
+    case CELLUMAQ_REFUSED_PAST_END: return "a structure ends behind the file; its end, the file's length";
+    case CELLUMAQ_REFUSED_HEADER_SIGNATURE: return "no index begins at the address";
+    case CELLUMAQ_REFUSED_HEADER_VERSION: return "the index has a version that is not read";
+    case CELLUMAQ_REFUSED_INDEX_BLOCK_SIGNATURE: return "there is no index block where the header names it";
+    case CELLUMAQ_REFUSED_DATA_BLOCK_SIGNATURE: return "there is no data block where one is named";
+    case CELLUMAQ_REFUSED_SUPER_BLOCK_SIGNATURE: return "there is no super block where one is named";
+    case CELLUMAQ_REFUSED_CHECKSUM: return "the index is damaged; the checksum stored, the one computed";
+    case CELLUMAQ_REFUSED_HEADER_NOT_SERVED: return "the index has parameters that are not read";
+    case CELLUMAQ_REFUSED_ELEMENT_SIZE: return "the index has too short elements";
+    case CELLUMAQ_REFUSED_SIZE_FIELD: return "the index has too long elements";
+    case CELLUMAQ_REFUSED_CHUNK_SIZE: return "a chunk has too many bytes";
+    case CELLUMAQ_REFUSED_NUMBERS_NOTHING: return "the index has a chunk, the shapes have none";
+    case CELLUMAQ_REFUSED_OFFSET_OVERFLOW: return "a chunk lies beyond all offsets";
     default: return "another reason";
     }
 }
@@ -89,7 +89,7 @@ static uint8_t *list_chunks(const struct dataset *s, uint64_t *count)
         if (refusal == CELLUMAQ_ACCEPTED)
             return records;
         uint64_t first = list(s, records, length, CELLUMAQ_FIRST_FIGURE);
-        if (refusal != CELLUMAQ_LIST_TOO_SMALL || first > RECORDS_MOST) {
+        if (refusal != CELLUMAQ_REFUSED_LIST_TOO_SMALL || first > RECORDS_MOST) {
             tell("list", refusal, first, list(s, records, length, CELLUMAQ_SECOND_FIGURE));
             break;
         }

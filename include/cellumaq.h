@@ -26,32 +26,34 @@ enum cellumaq_refusal {
     CELLUMAQ_ACCEPTED = 0, /* no refusal */
 
     /* What the caller gave. */
-    CELLUMAQ_OFFSET_SIZE = 1,     /* the offset size isn't 2, 4 or 8; first figure: it */
-    CELLUMAQ_LENGTH_SIZE = 2,     /* the length size isn't 2, 4 or 8; first figure: it */
-    CELLUMAQ_RANK = 3,            /* the rank is over 32, or the chunk shape isn't of 8 * rank bytes */
-    CELLUMAQ_PRESENT_RANK = 4,    /* the present shape isn't of 8 * rank bytes */
-    CELLUMAQ_MAXIMUM_RANK = 5,    /* a maximum shape is given that isn't of 8 * rank bytes */
-    CELLUMAQ_CHUNK_LENGTH = 6,    /* a chunk has length 0 in some dimension */
-    CELLUMAQ_UNLIMITED_COUNT = 7, /* a dimension is unlimited whose number of chunks is needed: all but the leading one's are */
-    CELLUMAQ_TOO_MANY_CHUNKS = 8, /* the shapes have more chunks than 2^64 - 1 can number */
-    CELLUMAQ_LIST_TOO_SMALL = 9,  /* the list has no room for all records; first figure: how many there are */
-    CELLUMAQ_CORNER = 10,         /* the corner isn't of 8 * rank bytes, no multiple of the chunk's lengths, or not below the present ones */
+    CELLUMAQ_REFUSED_OFFSET_SIZE = 1,     /* the offset size isn't 2, 4 or 8; first figure: it */
+    CELLUMAQ_REFUSED_LENGTH_SIZE = 2,     /* the length size isn't 2, 4 or 8; first figure: it */
+    CELLUMAQ_REFUSED_RANK = 3,            /* the rank is over 32, or the chunk shape isn't of 8 * rank bytes */
+    CELLUMAQ_REFUSED_PRESENT_RANK = 4,    /* the present shape isn't of 8 * rank bytes */
+    CELLUMAQ_REFUSED_MAXIMUM_RANK = 5,    /* a maximum shape is given that isn't of 8 * rank bytes */
+    CELLUMAQ_REFUSED_CHUNK_LENGTH = 6,    /* a chunk has length 0 in some dimension */
+    CELLUMAQ_REFUSED_UNLIMITED = 7,       /* another dimension than the leading one is unlimited: with the unlimited dimension first a second
+                                           * one, in row-major order any but the first */
+    CELLUMAQ_REFUSED_TOO_MANY_CHUNKS = 8, /* the shapes have more chunks than 2^64 - 1 can number */
+    CELLUMAQ_REFUSED_LIST_TOO_SMALL = 9,  /* the list has no room for all records; first figure: how many there are */
+    CELLUMAQ_REFUSED_CORNER = 10,         /* the corner isn't of 8 * rank bytes, no multiple of the chunk's lengths, or not below the present ones */
 
     /* What the file's writer wrote. */
-    CELLUMAQ_PAST_END = 20,              /* a structure ends behind the file; figures: its end, the file's length */
-    CELLUMAQ_HEADER_SIGNATURE = 21,      /* no "EAHD" at the address */
-    CELLUMAQ_HEADER_VERSION = 22,        /* the header's version isn't 0; first figure: it */
-    CELLUMAQ_INDEX_BLOCK_SIGNATURE = 23, /* no "EAIB" where the header names the index block */
-    CELLUMAQ_DATA_BLOCK_SIGNATURE = 24,  /* no "EADB" where a data block is named */
-    CELLUMAQ_SUPER_BLOCK_SIGNATURE = 25, /* no "EASB" where a super block is named */
-    CELLUMAQ_CHECKSUM = 26,              /* a structure's checksum is wrong; figures: the stored one, the computed one */
-    CELLUMAQ_HEADER_NOT_SERVED = 27,     /* the header is sound, but beyond what is read here: least block elements no power of two from 1 to
-                                          * 128, max bits over 62, super block minimum over 32, or page exponent over 32 */
-    CELLUMAQ_ELEMENT_SIZE = 28,          /* a filtered element has too few bytes for an address and a mask */
-    CELLUMAQ_SIZE_FIELD = 29,            /* a filtered element has over 8 bytes for the chunk's size */
-    CELLUMAQ_CHUNK_SIZE = 30,            /* a chunk's size is over 2^32 - 1; first figure: it */
-    CELLUMAQ_NUMBERS_NOTHING = 32,       /* a chunk is named though a dimension behind the leading one has no chunks */
-    CELLUMAQ_OFFSET_OVERFLOW = 33        /* a chunk's offset is over 2^64 - 1 */
+    CELLUMAQ_REFUSED_PAST_END = 20,              /* a structure ends behind the file; figures: its end, the file's length. An array that was never
+                                                  * written to has no index block, and its list is refused with this */
+    CELLUMAQ_REFUSED_HEADER_SIGNATURE = 21,      /* no "EAHD" at the address */
+    CELLUMAQ_REFUSED_HEADER_VERSION = 22,        /* the header's version isn't 0; first figure: it */
+    CELLUMAQ_REFUSED_INDEX_BLOCK_SIGNATURE = 23, /* no "EAIB" where the header names the index block */
+    CELLUMAQ_REFUSED_DATA_BLOCK_SIGNATURE = 24,  /* no "EADB" where a data block is named */
+    CELLUMAQ_REFUSED_SUPER_BLOCK_SIGNATURE = 25, /* no "EASB" where a super block is named */
+    CELLUMAQ_REFUSED_CHECKSUM = 26,              /* a structure's checksum is wrong; figures: the stored one, the computed one */
+    CELLUMAQ_REFUSED_HEADER_NOT_SERVED = 27,     /* the header is sound, but beyond what is read here: least block elements no power of two from 1
+                                                  * to 128, max bits over 62, super block minimum over 32, or page exponent over 32 */
+    CELLUMAQ_REFUSED_ELEMENT_SIZE = 28,          /* a filtered element has too few bytes for an address and a mask */
+    CELLUMAQ_REFUSED_SIZE_FIELD = 29,            /* a filtered element has over 8 bytes for the chunk's size */
+    CELLUMAQ_REFUSED_CHUNK_SIZE = 30,            /* a chunk's size is over 2^32 - 1; first figure: it */
+    CELLUMAQ_REFUSED_NUMBERS_NOTHING = 32,       /* a chunk is named though a dimension behind the leading one has no chunks */
+    CELLUMAQ_REFUSED_OFFSET_OVERFLOW = 33        /* a chunk's offset is over 2^64 - 1 */
 };
 
 /* The number that a call returns is picked by its last argument, `which`. Any other argument gives the refusal, as 0 does. */
@@ -82,14 +84,15 @@ enum cellumaq_order {
 
 /* Lists the chunks of the dataset whose index is the extensible array at `address`.
  *
- * file           The file from its first byte on: an address is a position in this slice.
+ * file           The file from its first byte on, or from its base address on where it has a user block: an address is a position in this slice.
  * offset_size    How many bytes the file has for an offset and for a length: 2, 4 or 8, as its superblock says.
  * length_size
- * address        Where the array's header, "EAHD", begins.
+ * address        Where the array's header, "EAHD", begins, as the dataset's layout message says.
  * element_bytes  The bytes of one element of the dataset. The size of a chunk that isn't filtered is the product of the chunk's lengths and this.
  * order          enum cellumaq_order.
  * rank           How many dimensions the dataset has, 0 to 32.
- * chunk          Three shapes, each of 8 * rank bytes, stored by cellumaq_put_length(): the lengths of a chunk,
+ * chunk          Three shapes, each of 8 * rank bytes, stored by cellumaq_put_length(): the lengths of a chunk (the layout message has one number more,
+ *                the bytes of an element),
  * present        those of the dataset at present,
  * has_maximum    and those that it can grow to, unless has_maximum is 0; then `maximum` is not looked at, and the present shape stands for it.
  * maximum
@@ -100,10 +103,11 @@ enum cellumaq_order {
  * whose corner is in the present shape, has one record in the list, in the order of the chunks' numbers; the bytes behind the last record stay as they
  * were. After a refusal the whole list is as it was. What is written doesn't depend on `which`. At rank 0 each of those addresses is a record.
  *
- * A record's address and size are those that the array has. Whether the chunk's bytes lie in the file is not tested here.
+ * A record's address and size are those that the array has. Whether the chunk's bytes lie in the file is not tested here. A super block minimum other than
+ * 2 or 4, which the HDF5 library doesn't write, is read otherwise than the format has it.
  *
  * Ask with CELLUMAQ_COUNT. Only at 0 ask again, with CELLUMAQ_REFUSAL: no chunk, or why there is no list. A list of length 0 asks how many records
- * there are: it is refused with CELLUMAQ_LIST_TOO_SMALL unless there is none, and the first figure says how many.
+ * there are: it is refused with CELLUMAQ_REFUSED_LIST_TOO_SMALL unless there is none, and the first figure says how many.
  */
 uint64_t cellumaq_list(const uint8_t *file, size_t file_length, uint64_t offset_size, uint64_t length_size, uint64_t address, uint64_t element_bytes,
                        uint64_t order, uint64_t rank, const uint8_t *chunk, size_t chunk_length, const uint8_t *present, size_t present_length,

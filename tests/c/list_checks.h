@@ -29,7 +29,7 @@ static inline void check_same(const struct call *c, const struct dataset *s, con
     CHECK(a.count != count || memcmp(records, expected, count * record) == 0, "%s: other records", what);
     if (count != 0) {
         a = ask_list(c, count * record - 1, records, what);
-        CHECK(a.refusal == CELLUMAQ_LIST_TOO_SMALL && a.first == count && a.second == 0, "%s: refusal %" PRIu64 " of too small a list", what, a.refusal);
+        CHECK(a.refusal == CELLUMAQ_REFUSED_LIST_TOO_SMALL && a.first == count && a.second == 0, "%s: refusal %" PRIu64 " of too small a list", what, a.refusal);
     }
     free(expected);
     free(records);

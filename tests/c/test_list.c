@@ -44,18 +44,18 @@ static void check_header(const struct question *q, const char *answer, const cha
     CHECK(sscanf(answer, "ok %hhu %hhu %hhu %hhu %hhu %hhu %hhu %" SCNu64 " %" SCNu64, &p.client, &p.element_size, &p.max_bits, &p.inline_count,
                  &p.least, &p.minimum, &p.page_exponent, &count, &index_block) == 9, "%s: an answer of another form", what);
     if (!is_served(&p)) {
-        CHECK(a.refusal == CELLUMAQ_HEADER_NOT_SERVED, "%s: refusal %" PRIu64 " of a header that isn't served", what, a.refusal);
+        CHECK(a.refusal == CELLUMAQ_REFUSED_HEADER_NOT_SERVED, "%s: refusal %" PRIu64 " of a header that isn't served", what, a.refusal);
         return;
     }
     uint64_t size = array_index_block_size(&p), length = q->call.file.length;
     if (size > length || index_block > length - size) {
         uint64_t end = index_block > UINT64_MAX - size ? UINT64_MAX : index_block + size;
 
-        CHECK(a.refusal == CELLUMAQ_PAST_END && a.first == end && a.second == length, "%s: an index block that ends at %" PRIu64, what, end);
+        CHECK(a.refusal == CELLUMAQ_REFUSED_PAST_END && a.first == end && a.second == length, "%s: an index block that ends at %" PRIu64, what, end);
     } else if (memcmp(q->call.file.bytes + index_block, "EAIB", 4) != 0) {
-        CHECK(a.refusal == CELLUMAQ_INDEX_BLOCK_SIGNATURE, "%s: refusal %" PRIu64 " of another signature", what, a.refusal);
+        CHECK(a.refusal == CELLUMAQ_REFUSED_INDEX_BLOCK_SIGNATURE, "%s: refusal %" PRIu64 " of another signature", what, a.refusal);
     } else {
-        CHECK(a.refusal == 0 || a.refusal == CELLUMAQ_LIST_TOO_SMALL || (a.refusal >= 20 && a.refusal != 21 && a.refusal != 22 && a.refusal != 27),
+        CHECK(a.refusal == 0 || a.refusal == CELLUMAQ_REFUSED_LIST_TOO_SMALL || (a.refusal >= 20 && a.refusal != 21 && a.refusal != 22 && a.refusal != 27),
               "%s: refusal %" PRIu64 " of an accepted header", what, a.refusal);
     }
 }
@@ -197,11 +197,11 @@ static void far_elements(void)
 static uint64_t refusal_of(const struct structure *t, size_t byte)
 {
     if (byte >= 4 || *t->signature == 0)
-        return strcmp(t->signature, "EAHD") == 0 && byte == 4 ? CELLUMAQ_HEADER_VERSION : CELLUMAQ_CHECKSUM;
-    return strcmp(t->signature, "EAHD") == 0   ? CELLUMAQ_HEADER_SIGNATURE
-           : strcmp(t->signature, "EAIB") == 0 ? CELLUMAQ_INDEX_BLOCK_SIGNATURE
-           : strcmp(t->signature, "EASB") == 0 ? CELLUMAQ_SUPER_BLOCK_SIGNATURE
-                                               : CELLUMAQ_DATA_BLOCK_SIGNATURE;
+        return strcmp(t->signature, "EAHD") == 0 && byte == 4 ? CELLUMAQ_REFUSED_HEADER_VERSION : CELLUMAQ_REFUSED_CHECKSUM;
+    return strcmp(t->signature, "EAHD") == 0   ? CELLUMAQ_REFUSED_HEADER_SIGNATURE
+           : strcmp(t->signature, "EAIB") == 0 ? CELLUMAQ_REFUSED_INDEX_BLOCK_SIGNATURE
+           : strcmp(t->signature, "EASB") == 0 ? CELLUMAQ_REFUSED_SUPER_BLOCK_SIGNATURE
+                                               : CELLUMAQ_REFUSED_DATA_BLOCK_SIGNATURE;
 }
 
 /* No byte of a structure can be another without a refusal, and it is the right one. */
@@ -221,10 +221,10 @@ static void damaged_bytes(void)
 
             bytes[byte] ^= bit;
             uint64_t refusal = refusal_of(t, byte), first = 0, second = 0;
-            if (refusal == CELLUMAQ_CHECKSUM) {
+            if (refusal == CELLUMAQ_REFUSED_CHECKSUM) {
                 first = cellumaq_get(bytes + t->length - 4, 4);
                 second = lookup3_reference(bytes, t->length - 4, 0);
-            } else if (refusal == CELLUMAQ_HEADER_VERSION) {
+            } else if (refusal == CELLUMAQ_REFUSED_HEADER_VERSION) {
                 first = bytes[4];
             }
             snprintf(what, sizeof what, "byte %zu of structure %zu, %s", byte, i, t->signature);
@@ -250,7 +250,7 @@ static void cut_files(void)
         while (i < s.array.structure_count && s.array.structures[i].start + s.array.structures[i].length <= length)
             i++;
         if (i < s.array.structure_count)
-            check_refusal(&c, CELLUMAQ_PAST_END, s.array.structures[i].start + s.array.structures[i].length, length, what);
+            check_refusal(&c, CELLUMAQ_REFUSED_PAST_END, s.array.structures[i].start + s.array.structures[i].length, length, what);
         else
             check_same(&c, &s, what);
     }
@@ -294,7 +294,7 @@ static void past_the_count(void)
             snprintf(what, sizeof what, "count %" PRIu64 ", damage in structure %zu, %s", count, i, t->signature);
             bytes[t->length - 1] ^= 0x10;
             if (is_reached(t, super_block, first_of_block, count))
-                check_refusal(&c, CELLUMAQ_CHECKSUM, cellumaq_get(bytes + t->length - 4, 4), lookup3_reference(bytes, t->length - 4, 0), what);
+                check_refusal(&c, CELLUMAQ_REFUSED_CHECKSUM, cellumaq_get(bytes + t->length - 4, 4), lookup3_reference(bytes, t->length - 4, 0), what);
             else
                 check_same(&c, &s, what);
             bytes[t->length - 1] ^= 0x10;

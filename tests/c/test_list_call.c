@@ -27,21 +27,21 @@ static void widths(void)
         c.offset_size = sizes[i];
         snprintf(what, sizeof what, "offset size %" PRIu64, sizes[i]);
         if (end > s.array.length)
-            check_refusal(&c, CELLUMAQ_PAST_END, end > UINT64_MAX ? UINT64_MAX : (uint64_t)end, s.array.length, what);
+            check_refusal(&c, CELLUMAQ_REFUSED_PAST_END, end > UINT64_MAX ? UINT64_MAX : (uint64_t)end, s.array.length, what);
         else
-            check_refusal(&c, CELLUMAQ_OFFSET_SIZE, sizes[i], 0, what);
+            check_refusal(&c, CELLUMAQ_REFUSED_OFFSET_SIZE, sizes[i], 0, what);
         c = dataset_call(&s);
         c.length_size = sizes[i];
         end = (unsigned __int128)24 + (unsigned __int128)6 * sizes[i];
         snprintf(what, sizeof what, "length size %" PRIu64, sizes[i]);
         if (end > s.array.length)
-            check_refusal(&c, CELLUMAQ_PAST_END, end > UINT64_MAX ? UINT64_MAX : (uint64_t)end, s.array.length, what);
+            check_refusal(&c, CELLUMAQ_REFUSED_PAST_END, end > UINT64_MAX ? UINT64_MAX : (uint64_t)end, s.array.length, what);
         else
-            check_refusal(&c, CELLUMAQ_LENGTH_SIZE, sizes[i], 0, what);
+            check_refusal(&c, CELLUMAQ_REFUSED_LENGTH_SIZE, sizes[i], 0, what);
     }
     struct call c = dataset_call(&s);
     c.offset_size = c.length_size = 3;
-    check_refusal(&c, CELLUMAQ_LENGTH_SIZE, 3, 0, "both sizes 3");
+    check_refusal(&c, CELLUMAQ_REFUSED_LENGTH_SIZE, 3, 0, "both sizes 3");
     array_free(&s.array);
 }
 
@@ -52,19 +52,19 @@ static void addresses(void)
     uint64_t length = s.array.length;
 
     c.address = 1;
-    check_refusal(&c, CELLUMAQ_HEADER_SIGNATURE, 0, 0, "another address");
+    check_refusal(&c, CELLUMAQ_REFUSED_HEADER_SIGNATURE, 0, 0, "another address");
     c.address = length - 71;
-    check_refusal(&c, CELLUMAQ_PAST_END, length + 1, length, "one byte too near the end");
+    check_refusal(&c, CELLUMAQ_REFUSED_PAST_END, length + 1, length, "one byte too near the end");
     c.address = length;
-    check_refusal(&c, CELLUMAQ_PAST_END, length + 72, length, "at the end");
+    check_refusal(&c, CELLUMAQ_REFUSED_PAST_END, length + 72, length, "at the end");
     c.address = UINT64_MAX - 72;
-    check_refusal(&c, CELLUMAQ_PAST_END, UINT64_MAX, length, "the last end");
+    check_refusal(&c, CELLUMAQ_REFUSED_PAST_END, UINT64_MAX, length, "the last end");
     c.address = UINT64_MAX;
-    check_refusal(&c, CELLUMAQ_PAST_END, UINT64_MAX, length, "the last address");
+    check_refusal(&c, CELLUMAQ_REFUSED_PAST_END, UINT64_MAX, length, "the last address");
     memset(s.array.bytes + 60, 0xff, 8);
     array_seal(&s.array, 0, 72);
     c.address = 0;
-    check_refusal(&c, CELLUMAQ_PAST_END, UINT64_MAX, length, "an undefined index block");
+    check_refusal(&c, CELLUMAQ_REFUSED_PAST_END, UINT64_MAX, length, "an undefined index block");
     array_free(&s.array);
 }
 
@@ -81,21 +81,21 @@ static void shape_lengths(void)
 
         c = dataset_call(&s);
         c.maximum = other;
-        check_refusal(&c, CELLUMAQ_MAXIMUM_RANK, 0, 0, "a maximum of another rank");
+        check_refusal(&c, CELLUMAQ_REFUSED_MAXIMUM_RANK, 0, 0, "a maximum of another rank");
         c.present = other;
-        check_refusal(&c, CELLUMAQ_PRESENT_RANK, 0, 0, "a present shape of another rank");
+        check_refusal(&c, CELLUMAQ_REFUSED_PRESENT_RANK, 0, 0, "a present shape of another rank");
         c.chunk = other;
-        check_refusal(&c, CELLUMAQ_RANK, 0, 0, "a chunk shape of another rank");
+        check_refusal(&c, CELLUMAQ_REFUSED_RANK, 0, 0, "a chunk shape of another rank");
         c.chunk.bytes = zeros;
         c.chunk.length = 16;
-        check_refusal(&c, CELLUMAQ_PRESENT_RANK, 0, 0, "a chunk shape with 0 and a present shape of another rank");
+        check_refusal(&c, CELLUMAQ_REFUSED_PRESENT_RANK, 0, 0, "a chunk shape with 0 and a present shape of another rank");
     }
     c = dataset_call(&s);
     c.chunk.bytes = zeros;
-    check_refusal(&c, CELLUMAQ_CHUNK_LENGTH, 0, 0, "a chunk shape with 0");
+    check_refusal(&c, CELLUMAQ_REFUSED_CHUNK_LENGTH, 0, 0, "a chunk shape with 0");
     s.array.bytes[0] ^= 1;
     c.chunk.length = 3;
-    check_refusal(&c, CELLUMAQ_HEADER_SIGNATURE, 0, 0, "the header comes first");
+    check_refusal(&c, CELLUMAQ_REFUSED_HEADER_SIGNATURE, 0, 0, "the header comes first");
     array_free(&s.array);
 }
 
@@ -118,7 +118,7 @@ static void ranks(void)
             c.rank = given[i];
             c.chunk = c.present = c.maximum = (struct slice){ones, length};
             snprintf(what, sizeof what, "rank %" PRIu64 ", shapes of %zu bytes", given[i], length);
-            check_refusal(&c, CELLUMAQ_RANK, 0, 0, what);
+            check_refusal(&c, CELLUMAQ_REFUSED_RANK, 0, 0, what);
         }
     }
     s.grid = (struct grid){.element_bytes = 6, .order = 0, .rank = 32};
@@ -174,7 +174,7 @@ static void orders(void)
     }
     s.grid.order = 0;
     struct call c = dataset_call(&s);
-    check_refusal(&c, CELLUMAQ_UNLIMITED_COUNT, 0, 0, "row-major");
+    check_refusal(&c, CELLUMAQ_REFUSED_UNLIMITED, 0, 0, "row-major");
     array_free(&s.array);
 }
 
@@ -185,21 +185,21 @@ static void numberings(void)
     struct dataset s = worked(plain, (struct grid){.rank = 3, .chunk = {1, 1, 1}, .present = {large, large, 0}});
     struct call c = dataset_call(&s);
 
-    check_refusal(&c, CELLUMAQ_TOO_MANY_CHUNKS, 0, 0, "a product that is too large before a 0");
+    check_refusal(&c, CELLUMAQ_REFUSED_TOO_MANY_CHUNKS, 0, 0, "a product that is too large before a 0");
     s.grid.present[1] = 0;
     s.grid.present[2] = large;
     c = dataset_call(&s);
-    check_refusal(&c, CELLUMAQ_NUMBERS_NOTHING, 0, 0, "a dimension without chunks");
+    check_refusal(&c, CELLUMAQ_REFUSED_NUMBERS_NOTHING, 0, 0, "a dimension without chunks");
     array_free(&s.array);
     s.array.entry_count = 0;
     array_build(&s.array);
     check_dataset(&s, "a dimension without chunks, and no address");
     s.grid = (struct grid){.rank = 4, .chunk = {1, 1, 1, 1}, .present = {5, CELLUMAQ_UNLIMITED, large, large}};
     c = dataset_call(&s);
-    check_refusal(&c, CELLUMAQ_TOO_MANY_CHUNKS, 0, 0, "too many before an unlimited one");
+    check_refusal(&c, CELLUMAQ_REFUSED_TOO_MANY_CHUNKS, 0, 0, "too many before an unlimited one");
     s.grid.present[2] = 2;
     c = dataset_call(&s);
-    check_refusal(&c, CELLUMAQ_UNLIMITED_COUNT, 0, 0, "an unlimited one before too many");
+    check_refusal(&c, CELLUMAQ_REFUSED_UNLIMITED, 0, 0, "an unlimited one before too many");
     array_free(&s.array);
 }
 
@@ -222,17 +222,17 @@ static void long_chunks(void)
         t.grid.element_bytes = 1;
         c = dataset_call(&t);
         if (lengths[i] > UINT32_MAX)
-            check_refusal(&c, CELLUMAQ_CHUNK_SIZE, lengths[i], 0, what);
+            check_refusal(&c, CELLUMAQ_REFUSED_CHUNK_SIZE, lengths[i], 0, what);
         else
             check_dataset(&t, what);
         c.element_bytes = 2;
-        check_refusal(&c, CELLUMAQ_CHUNK_SIZE, 2 * lengths[i], 0, what);
+        check_refusal(&c, CELLUMAQ_REFUSED_CHUNK_SIZE, 2 * lengths[i], 0, what);
         c.element_bytes = (uint64_t)1 << 32;
-        check_refusal(&c, CELLUMAQ_CHUNK_SIZE, i == 0 ? lengths[0] << 32 : UINT64_MAX, 0, what);
+        check_refusal(&c, CELLUMAQ_REFUSED_CHUNK_SIZE, i == 0 ? lengths[0] << 32 : UINT64_MAX, 0, what);
     }
     s.grid.chunk[0] = (uint64_t)1 << 63;
     c = dataset_call(&s);
-    check_refusal(&c, CELLUMAQ_OFFSET_OVERFLOW, 0, 0, "an offset of 2^64");
+    check_refusal(&c, CELLUMAQ_REFUSED_OFFSET_OVERFLOW, 0, 0, "an offset of 2^64");
     array_free(&s.array);
     array_free(&t.array);
 }
@@ -248,7 +248,7 @@ static void list_lengths(void)
         struct answer a = ask_list(&c, length, list, "some length");
 
         if (length < 48)
-            CHECK(a.refusal == CELLUMAQ_LIST_TOO_SMALL && a.first == 2 && a.second == 0, "length %zu: refusal %" PRIu64, length, a.refusal);
+            CHECK(a.refusal == CELLUMAQ_REFUSED_LIST_TOO_SMALL && a.first == 2 && a.second == 0, "length %zu: refusal %" PRIu64, length, a.refusal);
         else
             CHECK(a.refusal == 0 && a.count == 2, "length %zu: refusal %" PRIu64, length, a.refusal);
     }
@@ -288,13 +288,13 @@ static void null_slices(void)
     struct dataset s = worked(plain, grids[0]);
     uint8_t list[32];
 
-    CHECK(cellumaq_list(NULL, 0, 8, 8, 0, 4, 0, 0, NULL, 0, NULL, 0, 0, NULL, 0, NULL, 0, 0) == CELLUMAQ_PAST_END, "no file");
+    CHECK(cellumaq_list(NULL, 0, 8, 8, 0, 4, 0, 0, NULL, 0, NULL, 0, 0, NULL, 0, NULL, 0, 0) == CELLUMAQ_REFUSED_PAST_END, "no file");
     CHECK(cellumaq_list(NULL, 0, 8, 8, 0, 4, 0, 0, NULL, 0, NULL, 0, 0, NULL, 0, NULL, 0, 1) == 72, "where it should end");
     CHECK(cellumaq_list(s.array.bytes, s.array.length, 8, 8, 0, 4, 0, 0, NULL, 0, NULL, 0, 1, NULL, 0, list, 32, 3) == 2, "rank 0");
     CHECK(cellumaq_record_address(list, 0, 0) == 4096 && cellumaq_record_chunk_size(list, 0, 0) == 4, "its first record");
     CHECK(cellumaq_record_address(list, 0, 1) == 8192 && cellumaq_record_chunk_size(list, 0, 1) == 4, "its second record");
-    CHECK(cellumaq_list(s.array.bytes, s.array.length, 8, 8, 0, 4, 0, 0, NULL, 0, NULL, 0, 1, NULL, 0, NULL, 0, 0) == CELLUMAQ_LIST_TOO_SMALL, "no list");
-    CHECK(cellumaq_list(s.array.bytes, s.array.length, 8, 8, 0, 4, 0, 1, NULL, 0, NULL, 0, 1, NULL, 0, list, 32, 0) == CELLUMAQ_RANK, "no shapes");
+    CHECK(cellumaq_list(s.array.bytes, s.array.length, 8, 8, 0, 4, 0, 0, NULL, 0, NULL, 0, 1, NULL, 0, NULL, 0, 0) == CELLUMAQ_REFUSED_LIST_TOO_SMALL, "no list");
+    CHECK(cellumaq_list(s.array.bytes, s.array.length, 8, 8, 0, 4, 0, 1, NULL, 0, NULL, 0, 1, NULL, 0, list, 32, 0) == CELLUMAQ_REFUSED_RANK, "no shapes");
     array_free(&s.array);
 }
 
@@ -317,7 +317,7 @@ static void served_headers(void)
         struct call c = dataset_call(&s);
         snprintf(what, sizeof what, "header byte %zu is %u", cases[i].byte, cases[i].value);
         struct answer a = ask_list(&c, sizeof list, list, what);
-        CHECK((a.refusal == CELLUMAQ_HEADER_NOT_SERVED) == !cases[i].served, "%s: refusal %" PRIu64, what, a.refusal);
+        CHECK((a.refusal == CELLUMAQ_REFUSED_HEADER_NOT_SERVED) == !cases[i].served, "%s: refusal %" PRIu64, what, a.refusal);
         array_free(&s.array);
     }
 }
@@ -337,9 +337,9 @@ static void element_sizes(void)
         struct call c = dataset_call(&s);
         snprintf(what, sizeof what, "element size %u", size);
         if (size < 12)
-            check_refusal(&c, CELLUMAQ_ELEMENT_SIZE, 0, 0, what);
+            check_refusal(&c, CELLUMAQ_REFUSED_ELEMENT_SIZE, 0, 0, what);
         else if (size > 20)
-            check_refusal(&c, CELLUMAQ_SIZE_FIELD, 0, 0, what);
+            check_refusal(&c, CELLUMAQ_REFUSED_SIZE_FIELD, 0, 0, what);
         else
             check_dataset(&s, what);
         array_free(&s.array);
@@ -347,7 +347,7 @@ static void element_sizes(void)
         array_build(&s.array);
         c = dataset_call(&s);
         if (size >= 17 && size <= 20)
-            check_refusal(&c, CELLUMAQ_CHUNK_SIZE, 0x123456789a, 0, what);
+            check_refusal(&c, CELLUMAQ_REFUSED_CHUNK_SIZE, 0x123456789a, 0, what);
         array_free(&s.array);
         s.array.count = 0;
         array_build(&s.array);

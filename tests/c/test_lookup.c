@@ -220,7 +220,7 @@ static void damage(void)
             snprintf(what, sizeof what, "slot %" PRIu64 ", byte %zu of structure %zu, %s", slot, byte, i, t->signature);
             if (on_the_way(&s.array, t, slot)) {
                 bytes[byte] ^= 4;
-                check_refusal(&c, (struct slice){corner, 8}, CELLUMAQ_CHECKSUM, cellumaq_get(bytes + t->length - 4, 4),
+                check_refusal(&c, (struct slice){corner, 8}, CELLUMAQ_REFUSED_CHECKSUM, cellumaq_get(bytes + t->length - 4, 4),
                               lookup3_reference(bytes, t->length - 4, 0), what);
                 bytes[byte] ^= 4;
             } else {
@@ -257,7 +257,7 @@ static void cut_files(void)
                 t++;
             snprintf(what, sizeof what, "slot %" PRIu64 " in the first %zu bytes", slot, length);
             if (t != end)
-                check_refusal(&c, (struct slice){corner, 8}, CELLUMAQ_PAST_END, t->start + t->length, length, what);
+                check_refusal(&c, (struct slice){corner, 8}, CELLUMAQ_REFUSED_PAST_END, t->start + t->length, length, what);
             else
                 check_found(&c, corner, record_of(list, count, 1, corner), what);
         }
@@ -287,23 +287,23 @@ static void wrong_corners(void)
     struct call c = dataset_call(&s);
 
     for (size_t i = 0; i < sizeof lengths / sizeof *lengths; i++)
-        check_refusal(&c, (struct slice){zeros, lengths[i]}, CELLUMAQ_CORNER, 0, 0, "a corner of another rank");
+        check_refusal(&c, (struct slice){zeros, lengths[i]}, CELLUMAQ_REFUSED_CORNER, 0, 0, "a corner of another rank");
     check_corner(&s, 0, 0, 0, "the first corner");
     check_corner(&s, 999, 8, 0, "the last corner");
-    check_corner(&s, 1, 0, CELLUMAQ_CORNER, "unaligned");
-    check_corner(&s, 0, 1, CELLUMAQ_CORNER, "unaligned in the second dimension");
-    check_corner(&s, 1002, 0, CELLUMAQ_CORNER, "behind the present shape");
-    check_corner(&s, 0, 10, CELLUMAQ_CORNER, "behind the present shape in the second dimension");
-    check_corner(&s, UINT64_MAX, 0, CELLUMAQ_CORNER, "far behind it");
+    check_corner(&s, 1, 0, CELLUMAQ_REFUSED_CORNER, "unaligned");
+    check_corner(&s, 0, 1, CELLUMAQ_REFUSED_CORNER, "unaligned in the second dimension");
+    check_corner(&s, 1002, 0, CELLUMAQ_REFUSED_CORNER, "behind the present shape");
+    check_corner(&s, 0, 10, CELLUMAQ_REFUSED_CORNER, "behind the present shape in the second dimension");
+    check_corner(&s, UINT64_MAX, 0, CELLUMAQ_REFUSED_CORNER, "far behind it");
     s.grid.present[1] = 0;
-    check_corner(&s, 0, 0, CELLUMAQ_CORNER, "no corner at all");
+    check_corner(&s, 0, 0, CELLUMAQ_REFUSED_CORNER, "no corner at all");
     s.grid.chunk[1] = 0;
-    check_corner(&s, 1, 0, CELLUMAQ_CHUNK_LENGTH, "the shapes come first");
+    check_corner(&s, 1, 0, CELLUMAQ_REFUSED_CHUNK_LENGTH, "the shapes come first");
     s.grid = grids[3];
     s.array.bytes[s.array.header + 7] = 63;
     array_seal(&s.array, s.array.header, s.array.structures[0].length);
-    check_corner(&s, 1, 0, CELLUMAQ_CORNER, "an unaligned corner comes before the header's limits");
-    check_corner(&s, 0, 0, CELLUMAQ_HEADER_NOT_SERVED, "the header's limits");
+    check_corner(&s, 1, 0, CELLUMAQ_REFUSED_CORNER, "an unaligned corner comes before the header's limits");
+    check_corner(&s, 0, 0, CELLUMAQ_REFUSED_HEADER_NOT_SERVED, "the header's limits");
     array_free(&s.array);
 }
 
@@ -366,28 +366,28 @@ static void shared_arguments(void)
         snprintf(what, sizeof what, "argument %" PRIu64, wide[i]);
         c.offset_size = wide[i];
         if (wide[i] < 1000)
-            check_refusal(&c, corner, CELLUMAQ_OFFSET_SIZE, wide[i], 0, what);
+            check_refusal(&c, corner, CELLUMAQ_REFUSED_OFFSET_SIZE, wide[i], 0, what);
         c = dataset_call(&s);
         c.length_size = wide[i];
         if (wide[i] < 300)
-            check_refusal(&c, corner, CELLUMAQ_LENGTH_SIZE, wide[i], 0, what);
+            check_refusal(&c, corner, CELLUMAQ_REFUSED_LENGTH_SIZE, wide[i], 0, what);
         c = dataset_call(&s);
         c.rank = wide[i];
         if (wide[i] != 1)
-            check_refusal(&c, corner, CELLUMAQ_RANK, 0, 0, what);
+            check_refusal(&c, corner, CELLUMAQ_REFUSED_RANK, 0, 0, what);
         c = dataset_call(&s);
         c.chunk.length = c.present.length = c.maximum.length = 0;
-        check_refusal(&c, corner, CELLUMAQ_RANK, 0, 0, what);
+        check_refusal(&c, corner, CELLUMAQ_REFUSED_RANK, 0, 0, what);
         c.chunk.length = 8;
-        check_refusal(&c, corner, CELLUMAQ_PRESENT_RANK, 0, 0, what);
+        check_refusal(&c, corner, CELLUMAQ_REFUSED_PRESENT_RANK, 0, 0, what);
         c.present.length = 8;
         c.has_maximum = wide[i];
         if (wide[i] != 0)
-            check_refusal(&c, corner, CELLUMAQ_MAXIMUM_RANK, 0, 0, what);
+            check_refusal(&c, corner, CELLUMAQ_REFUSED_MAXIMUM_RANK, 0, 0, what);
         else
             CHECK(ask_lookup(&c, corner, what).address == 4096, "a maximum that isn't given");
     }
-    CHECK(cellumaq_lookup(NULL, 0, 8, 8, 0, 4, 0, 0, NULL, 0, NULL, 0, 0, NULL, 0, NULL, 0, 0) == CELLUMAQ_PAST_END, "no file");
+    CHECK(cellumaq_lookup(NULL, 0, 8, 8, 0, 4, 0, 0, NULL, 0, NULL, 0, 0, NULL, 0, NULL, 0, 0) == CELLUMAQ_REFUSED_PAST_END, "no file");
     CHECK(cellumaq_lookup(s.array.bytes, s.array.length, 8, 8, 0, 4, 0, 0, NULL, 0, NULL, 0, 0, NULL, 0, NULL, 0, 4) == 4096, "rank 0");
     array_free(&s.array);
 }
@@ -411,7 +411,7 @@ static void orders(void)
         CHECK(a.count == 1 && a.address == 4096 && a.size == 1 && a.mask == 2, "order %" PRIu64 ": corner (10, 10) isn't slot 5", given[i]);
     }
     s.grid.order = 0;
-    check_corner(&s, 10, 10, CELLUMAQ_UNLIMITED_COUNT, "row-major");
+    check_corner(&s, 10, 10, CELLUMAQ_REFUSED_UNLIMITED, "row-major");
     array_free(&s.array);
 }
 

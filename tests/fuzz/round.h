@@ -143,8 +143,8 @@ static inline void check_lookups(const struct call *c, const uint8_t *list, size
 /* What the header, the numbers and the shapes are refused for comes before the corner: list and lookup have the same. */
 static inline int is_shared(uint64_t refusal)
 {
-    return (refusal >= CELLUMAQ_OFFSET_SIZE && refusal <= CELLUMAQ_TOO_MANY_CHUNKS) || refusal == CELLUMAQ_HEADER_SIGNATURE ||
-           refusal == CELLUMAQ_HEADER_VERSION;
+    return (refusal >= CELLUMAQ_REFUSED_OFFSET_SIZE && refusal <= CELLUMAQ_REFUSED_TOO_MANY_CHUNKS) || refusal == CELLUMAQ_REFUSED_HEADER_SIGNATURE ||
+           refusal == CELLUMAQ_REFUSED_HEADER_VERSION;
 }
 
 /* The list of a sound input is known. */
@@ -170,7 +170,7 @@ static inline uint64_t needed_records(const struct call *c)
         tally.slowest_round = tally.rounds;
     }
     tally.lists++;
-    return refusal == CELLUMAQ_LIST_TOO_SMALL ? call_list(c, NULL, 0, CELLUMAQ_FIRST_FIGURE) : 0;
+    return refusal == CELLUMAQ_REFUSED_LIST_TOO_SMALL ? call_list(c, NULL, 0, CELLUMAQ_FIRST_FIGURE) : 0;
 }
 
 static inline void round_list(const struct input *in)
@@ -185,7 +185,7 @@ static inline void round_list(const struct input *in)
     tally.lists += CALL_PICKS;
     if (needed > ROUND_RECORDS) {
         tally.too_many++;
-        CHECK(a.refusal == CELLUMAQ_LIST_TOO_SMALL && a.first == needed, "refusal %" PRIu64 " of too small a list", a.refusal);
+        CHECK(a.refusal == CELLUMAQ_REFUSED_LIST_TOO_SMALL && a.first == needed, "refusal %" PRIu64 " of too small a list", a.refusal);
     } else {
         count_refusal(tally.refused, a.refusal, "the list");
         CHECK(a.refusal == 0 ? a.count == needed : needed == 0, "%" PRIu64 " records were needed, the list has %" PRIu64, needed, a.count);
@@ -204,7 +204,7 @@ static inline void round_list(const struct input *in)
         struct answer refused = ask_list(c, less, list, "a list without enough room");
 
         tally.lists += CALL_PICKS;
-        CHECK(refused.refusal == CELLUMAQ_LIST_TOO_SMALL && refused.first == needed && refused.second == 0, "refusal %" PRIu64, refused.refusal);
+        CHECK(refused.refusal == CELLUMAQ_REFUSED_LIST_TOO_SMALL && refused.first == needed && refused.second == 0, "refusal %" PRIu64, refused.refusal);
     }
     free(list);
 }
