@@ -4,9 +4,9 @@ use native.Mathlib.Omega.{arith}
 use Rattle.refusal.specs.declared.Checked.the-variants.{Passed}
 use Rattle.fields.proofs.Widths.{width-le}
 use Rattle.ea_header.specs.Header.{headerAt}
+use Rattle.ea_header.proofs.Header.{header-is, refused-is}
 use Rattle.ea_spans.specs.Walk.{Spanning, also, indexSpans, headTest, spans}
 use Rattle.ea_spans.specs.Listing.{countedOf, inRoom, roomOf, spansInto, filled, addressOf, lengthOf}
-use Rattle.ea_spans.proofs.Tests.{header-is, refused-is}
 use Rattle.ea_spans.proofs.Listing.{answers-refused, room-refused, head-passed, spans-refused, spans-are}
 use borrow.Author.Needs.{needs}
 use Rattle.ea_spans.proofs.extensible_array_index_spans.Statement.{statement}
