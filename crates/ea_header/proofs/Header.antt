@@ -5,15 +5,15 @@ use mathlib.Core.List.{List}
 use Prim.Native.Nat.{ℕ, _+_, _≤_}
 use lib.ListN.{length, getD}
 use native.Mathlib.Omega.{arith}
-use borrow.Author.Tests.{eq-eqb, ne-eqb, not-false}
+use borrow.Author.Tests.{eq-eqb, ne-eqb}
 use Rattle.refusal.specs.declared.Refusal.{Refusal}
 use Rattle.refusal.specs.declared.Checked.{Checked}
 use Rattle.refusal.specs.declared.Checked.the-variants.{Passed, Refused}
 use Rattle.refusal.specs.Refusals.{refuse, _then_}
-use Rattle.refusal.proofs.Tests.{refuse-inv, then-inv}
+use Rattle.refusal.proofs.Tests.{then-inv}
 use Rattle.fields.specs.LittleEndian.{leAt}
-use Rattle.fields.specs.Fields.{isWidth, widthTest}
-use Rattle.fields.proofs.Fields.{inside}
+use Rattle.fields.specs.Fields.{isWidth}
+use Rattle.fields.proofs.Fields.{inside, width-is}
 use Rattle.ea_header.specs.declared.ExtensibleArrayHeader.{ExtensibleArrayHeader}
 use Rattle.ea_header.specs.declared.Parsed.the-variants.{Header, Refused as ParsedRefused}
 use Rattle.ea_header.specs.Header.{headerBytes, formTest, sizesTest, headerTest, parsedAfter}
@@ -31,11 +31,6 @@ module _ (f : List ℕ) (pos : ℕ) where
     pub right-form : getD f (pos + 4) 0 ≡ 0 → Passed ≡ formTest f pos
     unfolding formTest refuse _then_
     right-form z = simp (eq-eqb (leAt f pos 4) 0x4448_4145 e, eq-eqb (getD f (pos + 4) 0) 0 z)
-
--- a width that passes is right
-width-is : (number w : ℕ) → widthTest number w ≡ Passed → isWidth w ≡ true
-unfolding widthTest
-width-is number w h = not-false (isWidth w) (refuse-inv number w 0 _ h)
 
 -- a header that passes lies in the file, and its sizes are right
 pub passed-is : (sum : List ℕ → ℕ) (f : List ℕ) (pos o l : ℕ) → headerTest sum f pos o l ≡ Passed

@@ -4,20 +4,20 @@ use mathlib.Core.Path.{_≡_, refl, sym}
 use mathlib.Core.Bool.{true}
 use mathlib.Core.List.{List}
 use native.Mathlib.Omega.{arith}
-use borrow.Author.Tests.{lt-ltb, le-ltb, not-false}
+use borrow.Author.Tests.{lt-ltb, le-ltb}
 use lib.ListN.{length}
 use Rattle.refusal.specs.declared.Refusal.{Refusal}
 use Rattle.refusal.specs.declared.Checked.the-variants.{Passed, Refused}
 use Rattle.refusal.specs.Refusals.{refuse, figure}
 use Rattle.refusal.specs.Outcome.{refused, accepted, _yields_}
-use Rattle.refusal.proofs.Tests.{then-passed, refuse-passed}
+use Rattle.refusal.proofs.Tests.{then-passed}
 use Rattle.fields.specs.Fields.{isWidth}
 use Rattle.checksum.specs.Lookup3.{lookup3}
 use Rattle.ea_header.specs.declared.ExtensibleArrayHeader.{ExtensibleArrayHeader}
 use Rattle.ea_header.specs.Header.{headerBytes, headerAt}
-use Rattle.ea_header.specs.Served.{Served, servedTest}
+use Rattle.ea_header.specs.Served.{Served}
 use Rattle.ea_header.proofs.Header.{passed-is}
-use Rattle.ea_header.proofs.Served.{serves}
+use Rattle.ea_header.proofs.Served.{tested-serves}
 use Rattle.ea_geometry.specs.declared.EaGeometry.{EaGeometry}
 use Rattle.ea_blocks.specs.declared.Counted.{Counted}
 use Rattle.ea_blocks.specs.declared.Counted.the-variants.{Refused as CountedRefused}
@@ -56,12 +56,12 @@ module _ (f : List ℕ) (address o l : ℕ) where
   h = headerAt f address o l
 
   pub head-passed : Passed ≡ headTest f address o l → (address + headerBytes o l ≤ length f) × (isWidth o ≡ true) × Served h
-  unfolding headTest servedTest
+  unfolding headTest
   head-passed e =
       let a = then-passed _ _ e in
       let b = then-passed _ _ (a .1) in
       let p = passed-is lookup3 f address o l (sym (b .0)) in
-      (p .0, p .1, serves h (not-false _ (refuse-passed _ _ _ _ (b .1))))
+      (p .0, p .1, tested-serves h (sym (b .1)))
 
   pub spans-refused : (r : Refusal) → Refused r ≡ headTest f address o l → spans f address o l ≡ refused r
   unfolding spans _yields_

@@ -19,3 +19,7 @@ yields-inv (Refused r) a l h = absurd (never r l h)
 pub yields-passed : {A : Type 0} (t : Checked) (a : Outcome A) → t ≡ Passed → t yields a ≡ a
 unfolding _yields_
 yields-passed t a h = rw h refl
+
+pub yields-refused : {A : Type 0} (t : Checked) (a : Outcome A) (r : Refusal) → t ≡ Refused r → t yields a ≡ refused r
+unfolding _yields_
+yields-refused t a r h = rw h refl
