@@ -11,7 +11,7 @@ use Rattle.refusal.specs.declared.Checked.{Checked}
 use Rattle.refusal.specs.declared.Checked.the-variants.{Passed, Refused}
 use Rattle.refusal.specs.Outcome.{refused, accepted}
 use Rattle.refusal.proofs.Tests.{by-cond}
-use Rattle.refusal.proofs.Numbered.{Numbered, Told, numbered-passed, numbered-refuse, numbered-then, told-yields, told-accepted, told-cond}
+use Rattle.refusal.proofs.Numbered.{Numbered, Told, numbered-passed, numbered-refuse, numbered-then, told-yields, told-accepted, told-cond, told-also, told-room}
 use Rattle.fields.specs.Fields.{widthTest, inFile, undefinedAt}
 use Rattle.fields.specs.Numbers.{sizeTest}
 use Rattle.checksum.specs.Trailing.{trailingTest}
@@ -27,12 +27,12 @@ use Rattle.ea_blocks.specs.declared.Kind.the-variants.{IndexBlock, SuperBlock, 
 use Rattle.ea_blocks.specs.declared.Element.{Element}
 use Rattle.ea_blocks.specs.declared.Element.the-variants.{Absent, Chunk, Refused as ElementRefused}
 use Rattle.ea_blocks.specs.declared.Counted.the-variants.{Count}
-use Rattle.ea_blocks.specs.Call.{Call, Rec}
+use Rattle.ea_blocks.specs.Call.{Call}
 use Rattle.ea_blocks.specs.Elements.{elementSizeTest, entryTest, _gives_, insideOnly, element}
-use Rattle.ea_blocks.specs.Runs.{Listing, also, alsoElement, elements, countedOf}
+use Rattle.ea_blocks.specs.Runs.{Listing, alsoElement, elements, countedOf}
 use Rattle.ea_blocks.specs.Structures.{Structure, indexBlock, superBlock, dataBlock, dataPage, signatureTest, structureTest, testOf, isDirect, superUndefined, blockUndefined, pageSet}
 use Rattle.ea_walk.specs.Walk.{pagesFrom, block, blocksFrom, supers, behindInline, walk}
-use Rattle.ea_list.specs.Listing.{list, inRoom, listInto}
+use Rattle.ea_list.specs.Listing.{list, listInto}
 use Rattle.ea_list.specs.Door.{listAt, listNumbers, countedNumbers, refusedNumbers, picked}
 
 -- the header's tests and the grid's
@@ -127,15 +127,10 @@ element-numbered c pos s =
     (element-other _ (λ r h. let z : _≡_ {A = ℕ} 0 1 = cc in omega arith)))))
 
 -- the walk
-also-told : (r : Rec) (a : Listing) → Told a → Told (also r a)
-unfolding also
-also-told r (refused x) p = p
-also-told r (accepted l) p = told-accepted _
-
 also-element-told : (e : Element) (k : List ℕ) (a : Listing) → NumberedElement e → Told a → Told (alsoElement e k a)
 unfolding alsoElement
 also-element-told Absent k a p q = q
-also-element-told (Chunk x) k a p q = also-told _ a q
+also-element-told (Chunk x) k a p q = told-also _ a q
 also-element-told (ElementRefused x) k a p q = record { above = λ r h. let z : ElementRefused x ≡ ElementRefused r = cc in p .above r z }
 
 module _ (c : Call) where
@@ -180,16 +175,11 @@ module _ (c : Call) where
       (told-yields _ _ (test-numbered c indexBlock)
       (elements-told _ _ 0 _ (told-cond (leb (c .header .«num_elements») (c .header .«idx_blk_elmts»)) (told-accepted []) (told-yields _ _ (width-numbered 1 _ (omega arith)) (supers-told _ 0 _)))))
 
-room-told : (a : Listing) (room : ℕ) → Told a → Told (inRoom a room)
-unfolding inRoom
-room-told (refused r) room p = p
-room-told (accepted l) room p = told-yields _ _ (numbered-refuse 9 _ _ _ (omega arith)) (told-accepted l)
-
 -- the whole call
 list-at-told : (f : List ℕ) (address o l : ℕ) (g : Grid) (n room : ℕ) → Told (listAt f address o l g n room)
 unfolding listAt listInto list
 list-at-told f address o l g n room =
-    told-yields _ _ (header-numbered lookup3 f address o l) (room-told _ _ (told-yields _ _ (grid-numbered _) (walk-told _)))
+    told-yields _ _ (header-numbered lookup3 f address o l) (told-room _ _ (told-yields _ _ (grid-numbered _) (walk-told _)))
 
 zero-accepted : (a : Listing) → Told a → picked 0 (listNumbers a) ≡ 0 → (n : ℕ) × (countedOf a ≡ Count n)
 unfolding picked countedOf countedNumbers refusedNumbers

@@ -3,7 +3,7 @@
 use Prim.Native.Nat.{ℕ, zero, suc, _+_, _-_, _*_, _/_, _%_, _<_, _≤_}
 use mathlib.Core.Path.{_≡_, refl, sym, ap, subst, _∙_}
 use mathlib.Core.Bool.{true, false, not, _&&_}
-use mathlib.Core.List.{List, [], _∷_}
+use mathlib.Core.List.{List, []}
 use mathlib.Core.Logic.{inl, inr, ⊎-elim}
 use mathlib.Core.Option.{Option, none, some}
 use native.Mathlib.Omega.{arith}
@@ -12,9 +12,9 @@ use borrow.Author.Tests.{leb-true, leb-false, ltb-true, not-true, not-false}
 use lib.Arith.{digits-lt, digits-div, digits-mod}
 use lib.Dec.{leb, ltb}
 use Rattle.refusal.specs.declared.Checked.the-variants.{Passed}
-use Rattle.refusal.specs.Outcome.{refused, accepted}
+use Rattle.refusal.specs.Outcome.{accepted}
 use Rattle.refusal.proofs.Tests.{by-cond, lt-or-ge, both}
-use Rattle.refusal.proofs.Outcomes.{never, yields-inv}
+use Rattle.refusal.proofs.Outcomes.{never, yields-inv, also-inv}
 use Rattle.fields.specs.Fields.{widthTest}
 use Rattle.ea_header.specs.declared.ExtensibleArrayHeader.{ExtensibleArrayHeader}
 use Rattle.ea_header.specs.Served.{Served}
@@ -33,16 +33,11 @@ use Rattle.ea_blocks.specs.Structures.{dataBlock, dataPage, testOf, indexAt, is
 use Rattle.ea_blocks.specs.Elements.{element}
 use Rattle.ea_blocks.specs.Places.{positionOf, answerOf, recordAt, with, records, path}
 use Rattle.ea_blocks.proofs.Paths.{Leads, Misses, Ready, missed, led, no-super, no-block, in-block, in-clear, in-page, in-index, no-place}
-use Rattle.ea_blocks.specs.Runs.{Listing, also, alsoElement, elements}
+use Rattle.ea_blocks.specs.Runs.{Listing, alsoElement, elements}
 use Rattle.ea_walk.specs.Walk.{pagesFrom, block, blocksFrom, supers, behindInline, walk}
 
 nil-is : (l : List Rec) → accepted [] ≡ accepted l → l ≡ []
 nil-is l h = cc
-
-also-inv : (r : Rec) (a : Listing) (l : List Rec) → also r a ≡ accepted l → (m : List Rec) × (a ≡ accepted m) × (l ≡ r ∷ m)
-unfolding also
-also-inv r (refused x) l h = absurd (never x l h)
-also-inv r (accepted m) l h = (m, refl, cc)
 
 -- an accepted walk over an element: the element's answer in front of what is left
 element-inv : (e : Element) (k : List ℕ) (a : Listing) (l : List Rec) → alsoElement e k a ≡ accepted l

@@ -2,11 +2,13 @@
 use Prim.Native.Nat.{ℕ, _<_}
 use mathlib.Core.Path.{_≡_, sym, subst}
 use mathlib.Core.Bool.{Bool, true, false, cond}
+use mathlib.Core.List.{List}
+use native.Mathlib.Omega.{arith}
 use Rattle.refusal.specs.declared.Refusal.{Refusal}
 use Rattle.refusal.specs.declared.Checked.{Checked}
 use Rattle.refusal.specs.declared.Checked.the-variants.{Passed, Refused}
 use Rattle.refusal.specs.Refusals.{refuse, _then_}
-use Rattle.refusal.specs.Outcome.{Outcome, refused, accepted, _yields_}
+use Rattle.refusal.specs.Outcome.{Outcome, refused, accepted, _yields_, also, inRoom}
 use Rattle.refusal.proofs.Tests.{refused-passed}
 use Rattle.refusal.proofs.Outcomes.{never}
 
@@ -41,3 +43,13 @@ told-accepted a = record { above = λ r e. absurd (never r a (sym e)) }
 pub told-cond : {A : Type 0} (b : Bool) {x y : Outcome A} → Told x → Told y → Told (cond b x y)
 told-cond true p q = p
 told-cond false p q = q
+
+pub told-also : {A : Type 0} (x : A) (a : Outcome (List A)) → Told a → Told (also x a)
+unfolding also
+told-also x (refused r) p = p
+told-also x (accepted l) p = told-accepted _
+
+pub told-room : {A : Type 0} (a : Outcome (List A)) (room : ℕ) → Told a → Told (inRoom a room)
+unfolding inRoom
+told-room (refused r) room p = p
+told-room (accepted l) room p = told-yields _ _ (numbered-refuse 9 _ _ _ (omega arith)) (told-accepted l)
