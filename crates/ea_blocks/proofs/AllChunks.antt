@@ -103,7 +103,7 @@ module _ {c : Call} {file : List ℕ} {r : Reading} {chunk bound down : List ℕ
     counted : (pos j s k : ℕ) → s + j ≤ n → s + j ≤ r .geometry .header .«num_elements»
         → plus k (elements c pos j s (accepted [])) ≡ Count (k + definedCount file pos j (strideOf r) (r .geometry .«offset_size»))
     unfolding definedCount elements
-    counted pos zero s k h l = plus-none k ∙ ap Count (omega arith)
+    counted pos zero s k h l = plus-none k _ refl ∙ ap Count (omega arith)
     counted pos (suc j) s k h l =
         let d = definedCount file (pos + strideOf r) j (strideOf r) (r .geometry .«offset_size») in
         let same : plus k (elements c (pos + strideOf r) j (s + 1) (accepted [])) ≡ Count (k + d) = counted (pos + strideOf r) j (s + 1) k (omega arith) (omega arith) in

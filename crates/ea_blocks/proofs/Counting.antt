@@ -33,7 +33,7 @@ counting-first file r chunk bound down pos n slot = record { few = omega arith; 
 
 module _ {file : List ℕ} {r : Reading} {chunk bound down : List ℕ} {pos n slot at i count : ℕ} (k : Counting file r chunk bound down pos n slot at i count) where
   pub counting-done : n ≤ i → (c : Call) → Reads c file r chunk bound down → Count count ≡ countedOf (elements c pos n slot (accepted []))
-  counting-done h c reads = sym (ap (plus count) (run-done c n i at slot _ h) ∙ plus-none count) ∙ k .whole c reads
+  counting-done h c reads = sym (plus-none count _ (run-done c n i at slot _ h)) ∙ k .whole c reads
 
   pub counting-same : (count′ : ℕ) → count′ ≡ count → Counting file r chunk bound down pos n slot at i count′
   counting-same count′ e = rw e k

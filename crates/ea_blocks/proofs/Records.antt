@@ -12,7 +12,7 @@ use Rattle.fields.proofs.Stored.{length-bytes}
 use Rattle.refusal.specs.declared.Checked.the-variants.{Passed}
 use Rattle.refusal.specs.Outcome.{accepted}
 use Rattle.refusal.proofs.Tests.{by-cond}
-use Rattle.refusal.proofs.Outcomes.{never}
+use Rattle.refusal.proofs.Outcomes.{never, also-inv}
 use Rattle.chunk_grid.specs.Grid.{gridTest}
 use Rattle.chunk_grid.proofs.Grids.{accepted as grid-accepted, length-offsets}
 use Rattle.ea_blocks.specs.declared.Element.{Element}
@@ -20,7 +20,6 @@ use Rattle.ea_blocks.specs.declared.Element.the-variants.{Absent, Chunk,
 use Rattle.ea_blocks.specs.Call.{Call, Rec}
 use Rattle.ea_blocks.specs.Elements.{element}
 use Rattle.ea_blocks.specs.Runs.{Listing, alsoElement, elements}
-use Rattle.ea_blocks.proofs.Runs.{also-inv}
 use Rattle.ea_blocks.specs.Records.{recordLength, offsetBytes, recordBytes, listBytes}
 
 -- one run of stores behind another

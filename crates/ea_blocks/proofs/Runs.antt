@@ -9,9 +9,11 @@ use borrow.Author.Tests.{le-leb, lt-leb}
 use lib.Dec.{leb}
 use lib.ListN.{length}
 use Rattle.refusal.specs.declared.Refusal.{Refusal}
-use Rattle.refusal.specs.Outcome.{refused, accepted}
+use Rattle.refusal.specs.declared.Checked.{Checked}
+use Rattle.refusal.specs.declared.Checked.the-variants.{Passed, Refused}
+use Rattle.refusal.specs.Outcome.{refused, accepted, Outcome, also}
 use Rattle.refusal.proofs.Tests.{by-cond, lt-or-ge}
-use Rattle.refusal.proofs.Outcomes.{never}
+use Rattle.refusal.proofs.Outcomes.{never, also-inv}
 use Rattle.chunk_grid.specs.Grid.{offsets}
 use Rattle.ea_geometry.specs.Extents.{elementStride}
 use Rattle.ea_blocks.specs.declared.Element.{Element}
@@ -20,32 +22,44 @@ use Rattle.ea_blocks.specs.declared.Counted.{Counted}
 use Rattle.ea_blocks.specs.declared.Counted.the-variants.{Count, Refused as CountedRefused}
 use Rattle.ea_blocks.specs.Call.{Call, Rec}
 use Rattle.ea_blocks.specs.Elements.{element}
-use Rattle.ea_blocks.specs.Runs.{Listing, also, alsoElement, elements, countedOf}
+use Rattle.ea_blocks.specs.Runs.{Listing, alsoElement, elements, countedOf}
+
+-- a count, or a refusal, is that of an outcome
+module _ {A : Type 0} where
+  pub counted-inv : (a : Outcome (List A)) (n : ℕ) → Count n ≡ countedOf a → (l : List A) × (a ≡ accepted l) × (n ≡ length l)
+  unfolding countedOf
+  counted-inv (refused r) n h = let z : _≡_ {A = ℕ} 0 1 = cc in absurd (omega arith)
+  counted-inv (accepted l) n h = (l, refl, cc)
+
+  pub refused-inv : (a : Outcome (List A)) (r : Refusal) → CountedRefused r ≡ countedOf a → a ≡ refused r
+  unfolding countedOf
+  refused-inv (refused q) r h = let z : r ≡ q = cc in ap refused (sym z)
+  refused-inv (accepted l) r h = let z : _≡_ {A = ℕ} 0 1 = cc in absurd (omega arith)
+
+-- the answer that a refusal and a count stand for
+unfoldable pub answered : Checked → ℕ → Counted
+answered Passed total = Count total
+answered (Refused r) total = CountedRefused r
 
 -- what is counted so far, and what is left
-unfoldable pub plus : ℕ → Listing → Counted
+unfoldable pub plus : {A : Type 0} → ℕ → Outcome (List A) → Counted
 plus n (refused r) = CountedRefused r
 plus n (accepted l) = Count (n + length l)
 
-pub plus-zero : (a : Listing) → plus 0 a ≡ countedOf a
-unfolding plus countedOf
-plus-zero (refused r) = refl
-plus-zero (accepted l) = ap Count (omega arith)
+module _ {A : Type 0} where
+  pub plus-zero : (a : Outcome (List A)) → plus 0 a ≡ countedOf a
+  unfolding plus countedOf
+  plus-zero (refused r) = refl
+  plus-zero (accepted l) = ap Count (omega arith)
 
-pub plus-none : (n : ℕ) → plus n (accepted []) ≡ Count n
-unfolding plus
-plus-none n = ap Count (omega arith)
+  pub plus-none : (n : ℕ) (a : Outcome (List A)) → a ≡ accepted [] → plus n a ≡ Count n
+  unfolding plus
+  plus-none n a e = rw e (ap Count (omega arith))
 
-pub plus-also : (n : ℕ) (r : Rec) (a : Listing) → plus n (also r a) ≡ plus (n + 1) a
-unfolding plus also
-plus-also n r (refused x) = refl
-plus-also n r (accepted l) = ap Count (omega arith)
-
--- taking a listing with a record in front apart
-pub also-inv : (r : Rec) (a : Listing) (l : List Rec) → also r a ≡ accepted l → (m : List Rec) × (a ≡ accepted m) × (l ≡ r ∷ m)
-unfolding also
-also-inv r (refused x) l h = absurd (never x l h)
-also-inv r (accepted m) l h = (m, refl, cc)
+  pub plus-also : (n : ℕ) (x : A) (a : Outcome (List A)) → plus n (also x a) ≡ plus (n + 1) a
+  unfolding plus also
+  plus-also n x (refused r) = refl
+  plus-also n x (accepted l) = ap Count (omega arith)
 
 -- a listing, and another behind it
 unfoldable pub prepend : List Rec → Listing → Listing

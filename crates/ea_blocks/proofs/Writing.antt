@@ -8,7 +8,7 @@ use lib.ListN.{length, take, length-append}
 use lib.Seq.{sets}
 use Rattle.refusal.specs.declared.Checked.the-variants.{Passed}
 use Rattle.refusal.specs.Outcome.{accepted}
-use Rattle.refusal.proofs.Outcomes.{never}
+use Rattle.refusal.proofs.Outcomes.{never, also-inv}
 use Rattle.chunk_grid.specs.Grid.{offsets}
 use Rattle.ea_blocks.specs.declared.Entry.{Entry}
 use Rattle.ea_blocks.specs.declared.Element.{Element}
@@ -21,7 +21,7 @@ use Rattle.ea_blocks.specs.Records.{recordLength, recordBytes, listBytes
 use Rattle.ea_blocks.specs.Runs.{Listing, alsoElement, elements}
 use Rattle.ea_blocks.specs.Values.{Reads, offsetsLeft}
 use Rattle.ea_blocks.proofs.Sized.{same-test}
-use Rattle.ea_blocks.proofs.Runs.{also-inv, run-more, run-done}
+use Rattle.ea_blocks.proofs.Runs.{run-more, run-done}
 use Rattle.ea_blocks.proofs.Skipping.{skip-behind}
 use Rattle.ea_blocks.proofs.Turns.{strideOf, same-stride, left-run}
 use Rattle.ea_blocks.proofs.Records.{sets-append, length-record}

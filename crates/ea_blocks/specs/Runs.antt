@@ -1,10 +1,10 @@
 -- A run of elements: the list that it is walked to, and the number of its records.
 use Prim.Native.Nat.{ℕ, zero, suc, _+_}
 use mathlib.Core.Bool.{cond}
-use mathlib.Core.List.{List, _∷_}
+use mathlib.Core.List.{List}
 use lib.Dec.{leb}
 use lib.ListN.{length}
-use Rattle.refusal.specs.Outcome.{Outcome, refused, accepted}
+use Rattle.refusal.specs.Outcome.{Outcome, refused, accepted, also}
 use Rattle.chunk_grid.specs.Grid.{offsets}
 use Rattle.ea_geometry.specs.Extents.{elementStride}
 use Rattle.ea_blocks.specs.declared.Element.{Element}
@@ -18,11 +18,6 @@ use Rattle.ea_blocks.specs.Elements.{element}
 -- slot that the walk has come to.
 abbrev pub Listing : Type 0
 Listing = Outcome (List Rec)
-
--- one record in front of what is left
-unfoldable pub also : Rec → Listing → Listing
-also r (refused x) = refused x
-also r (accepted l) = accepted (r ∷ l)
 
 -- one element in front of what is left, with the offsets of its slot
 unfoldable pub alsoElement : Element → List ℕ → Listing → Listing
@@ -38,7 +33,7 @@ elements c pos (suc j) s rest =
     (alsoElement (element c pos s) (offsets (c .grid) s)
     (elements c (pos + elementStride (c .header) (c .offsetSize)) j (s + 1) rest))
 
--- the number of records, or the refusal
-unfoldable pub countedOf : Listing → Counted
+-- the number of members, or the refusal
+unfoldable pub countedOf : {A : Type 0} → Outcome (List A) → Counted
 countedOf (refused r) = CountedRefused r
 countedOf (accepted l) = Count (length l)

@@ -2,14 +2,15 @@
 use Prim.Native.Nat.{_^_, _<_, _≤_}
 use mathlib.Core.Path.{_≡_}
 use mathlib.Core.Bool.{true, false, _&&_}
-use borrow.Author.Tests.{eqb-true, leb-true, eq-eqb, le-leb}
+use borrow.Author.Tests.{eqb-true, leb-true, eq-eqb, le-leb, not-false}
 use lib.Dec.{eqb, leb}
 use native.Mathlib.Omega.{arith}
 use lib.Pow.{pow-pos, pow-mono}
+use Rattle.refusal.specs.declared.Checked.the-variants.{Passed}
 use Rattle.ea_header.specs.Log.{log2}
-use Rattle.ea_header.specs.Served.{served, Served}
+use Rattle.ea_header.specs.Served.{served, Served, servedTest}
 use Rattle.ea_header.specs.declared.ExtensibleArrayHeader.{ExtensibleArrayHeader}
-use Rattle.refusal.proofs.Tests.{both}
+use Rattle.refusal.proofs.Tests.{both, refuse-inv}
 use Rattle.ea_header.proofs.Log.{exponent-lt}
 
 pub serves : (h : ExtensibleArrayHeader) → served h ≡ true → Served h
@@ -25,6 +26,10 @@ pub serves-back : (h : ExtensibleArrayHeader) → Served h → served h ≡ true
 unfolding served
 serves-back h v =
     rw (eq-eqb (h .«min_dblk_nelmts») _ (v .power), le-leb _ _ (v .least), le-leb _ _ (v .bits), le-leb _ _ (v .minimum), le-leb _ _ (v .page))
+
+pub tested-serves : (h : ExtensibleArrayHeader) → servedTest h ≡ Passed → Served h
+unfolding servedTest
+tested-serves h t = serves h (not-false _ (refuse-inv _ _ _ _ t))
 
 pub least-pos : (h : ExtensibleArrayHeader) → Served h → 0 < h .«min_dblk_nelmts»
 least-pos h v = let p = pow-pos (log2 (h .«min_dblk_nelmts»)) in let q = v .power in omega arith

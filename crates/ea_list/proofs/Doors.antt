@@ -1,56 +1,35 @@
 -- The list of a call that reads the header first. Assumes nothing.
 use Prim.Native.Nat.{ℕ}
-use mathlib.Core.Path.{_≡_, refl, sym, subst, _∙_}
+use mathlib.Core.Path.{_≡_, refl, subst, _∙_}
 use mathlib.Core.List.{List}
-use native.Mathlib.Omega.{arith}
 use Rattle.refusal.specs.declared.Refusal.{Refusal}
-use Rattle.refusal.specs.declared.Checked.{Checked}
 use Rattle.refusal.specs.declared.Checked.the-variants.{Passed, Refused}
 use Rattle.refusal.specs.Outcome.{_yields_}
+use Rattle.refusal.proofs.Outcomes.{yields-passed, yields-refused, room-refused}
 use Rattle.checksum.specs.Lookup3.{lookup3}
 use Rattle.chunk_grid.specs.Grid.{Grid, gridTest}
 use Rattle.ea_header.specs.declared.ExtensibleArrayHeader.{ExtensibleArrayHeader}
-use Rattle.ea_header.specs.declared.Parsed.the-variants.{Header, Refused as ParsedRefused}
-use Rattle.ea_header.specs.Header.{headerAt, headerTest, parsedAfter, parsedAt}
+use Rattle.ea_header.specs.Header.{headerAt, headerTest}
 use Rattle.ea_blocks.specs.declared.Counted.the-variants.{Refused as CountedRefused}
 use Rattle.ea_blocks.specs.Call.{Call, callOf}
-use Rattle.ea_blocks.specs.Runs.{Listing, countedOf}
-use Rattle.ea_list.specs.Listing.{list, inRoom, listInto, listContent, recordsIn}
+use Rattle.ea_blocks.specs.Runs.{countedOf}
+use Rattle.ea_list.specs.Listing.{list, listInto, listContent, recordsIn}
 use Rattle.ea_list.specs.Judged.{Judged}
 use Rattle.ea_list.specs.Door.{callAt, listAt}
-
--- what a header that is read says of its test
-module _ (sum : List ℕ → ℕ) (f : List ℕ) (pos o l : ℕ) where
-  after-header : (t : Checked) (d h : ExtensibleArrayHeader) → Header h ≡ parsedAfter t d → (t ≡ Passed) × (h ≡ d)
-  unfolding parsedAfter
-  after-header Passed d h e = (refl, cc)
-  after-header (Refused r) d h e = let z : _≡_ {A = ℕ} 0 1 = cc in absurd (omega arith)
-
-  after-refused : (t : Checked) (d : ExtensibleArrayHeader) (r : Refusal) → ParsedRefused r ≡ parsedAfter t d → t ≡ Refused r
-  unfolding parsedAfter
-  after-refused Passed d r e = let z : _≡_ {A = ℕ} 0 1 = cc in absurd (omega arith)
-  after-refused (Refused x) d r e = cc
-
-  pub parsed-header : (h : ExtensibleArrayHeader) → Header h ≡ parsedAt sum f pos o l → (headerTest sum f pos o l ≡ Passed) × (h ≡ headerAt f pos o l)
-  unfolding parsedAt
-  parsed-header h e = after-header _ _ h e
-
-  pub parsed-refused : (r : Refusal) → ParsedRefused r ≡ parsedAt sum f pos o l → headerTest sum f pos o l ≡ Refused r
-  unfolding parsedAt
-  parsed-refused r e = after-refused _ _ r e
+use Rattle.ea_list.proofs.Rooms.{answer-refused}
 
 module _ (f : List ℕ) (address o l : ℕ) (g : Grid) (n room : ℕ) (out : List ℕ) (r : Refusal) where
   -- the header's refusal is the call's, ..
   pub at-no-header : headerTest lookup3 f address o l ≡ Refused r
       → (CountedRefused r ≡ countedOf (listAt f address o l g n room)) × (out ≡ listContent (listAt f address o l g n room) out)
-  unfolding listAt _yields_ countedOf listContent
-  at-no-header t = rw t (refl, refl)
+  unfolding listAt
+  at-no-header t = answer-refused _ out r (yields-refused _ _ r t)
 
   -- .. then the grid's
   pub at-no-grid : headerTest lookup3 f address o l ≡ Passed → gridTest g ≡ Refused r
       → (CountedRefused r ≡ countedOf (listAt f address o l g n room)) × (out ≡ listContent (listAt f address o l g n room) out)
-  unfolding listAt callAt listInto list inRoom _yields_ countedOf listContent
-  at-no-grid t e = rw (t, e) (refl, refl)
+  unfolding listAt callAt listInto list
+  at-no-grid t e = answer-refused _ out r (yields-passed _ _ t ∙ room-refused _ _ r (yields-refused _ _ r e))
 
 module _ (f : List ℕ) (address o l : ℕ) (h : ExtensibleArrayHeader) (k : h ≡ headerAt f address o l) (g g′ : Grid) (e : g′ ≡ g) (n : ℕ) where
   pub call-is : callOf f h o g′ n ≡ callAt f address o l g n

@@ -1,28 +1,25 @@
 -- Every refusal has a number above 0, so the number 0 says that a call is accepted. Assumes nothing.
 use Prim.Native.Nat.{ℕ, zero, suc, _+_, _*_, _<_}
-use mathlib.Core.Path.{_≡_, refl, sym, ap, subst, _∙_}
-use mathlib.Core.Bool.{Bool, true, false, not, cond, _&&_}
+use mathlib.Core.Path.{_≡_, refl, sym, _∙_}
+use mathlib.Core.Bool.{Bool, true, false, not, _&&_}
 use mathlib.Core.List.{List, [], _∷_}
 use native.Mathlib.Omega.{arith}
 use lib.Dec.{leb, ltb}
-use lib.ListN.{length, take, drop}
+use lib.ListN.{length, drop}
 use Rattle.refusal.specs.declared.Refusal.{Refusal}
 use Rattle.refusal.specs.declared.Checked.{Checked}
 use Rattle.refusal.specs.declared.Checked.the-variants.{Passed, Refused}
-use Rattle.refusal.specs.Refusals.{largest64, refuse, _then_}
-use Rattle.refusal.specs.Outcome.{Outcome, refused, accepted, _yields_}
-use Rattle.refusal.proofs.Tests.{by-cond, refused-passed}
-use Rattle.refusal.proofs.Outcomes.{never}
+use Rattle.refusal.specs.Outcome.{refused, accepted}
+use Rattle.refusal.proofs.Tests.{by-cond}
+use Rattle.refusal.proofs.Numbered.{Numbered, Told, numbered-passed, numbered-refuse, numbered-then, told-yields, told-accepted, told-cond, told-also, told-room}
 use Rattle.fields.specs.Fields.{widthTest, inFile, undefinedAt}
 use Rattle.fields.specs.Numbers.{sizeTest}
 use Rattle.checksum.specs.Trailing.{trailingTest}
 use Rattle.checksum.specs.Lookup3.{lookup3}
-use Rattle.chunk_grid.specs.Grid.{Grid, unlimited, multiplier, ordered, counts, offsets, offsetsTest, insideOr, inExtent, shapesTest, multiplierTest, productTest, gridTest}
-use Rattle.chunk_grid.specs.declared.Offsets.{Offsets}
-use Rattle.chunk_grid.specs.declared.Offsets.the-variants.{Inside, Dropped, Refused as OffsetsRefused}
+use Rattle.chunk_grid.specs.Grid.{Grid, unlimited, ordered, counts, offsets, offsetsTest, insideOr, inExtent, shapesTest, multiplierTest, productTest, gridTest}
 use Rattle.ea_header.specs.Header.{headerBytes, formTest, sizesTest, headerTest}
 use Rattle.ea_header.specs.Served.{servedTest}
-use Rattle.ea_geometry.specs.Sizes.{superBlocks, blocks, blockElements, pageElements, pages}
+use Rattle.ea_geometry.specs.Sizes.{blocks, blockElements, pageElements}
 use Rattle.ea_geometry.specs.Extents.{elementStride}
 use Rattle.ea_geometry.specs.Place.{inPages}
 use Rattle.ea_blocks.specs.declared.Kind.{Kind}
@@ -30,45 +27,13 @@ use Rattle.ea_blocks.specs.declared.Kind.the-variants.{IndexBlock, SuperBlock, 
 use Rattle.ea_blocks.specs.declared.Element.{Element}
 use Rattle.ea_blocks.specs.declared.Element.the-variants.{Absent, Chunk, Refused as ElementRefused}
 use Rattle.ea_blocks.specs.declared.Counted.the-variants.{Count}
-use Rattle.ea_blocks.specs.Call.{Call, Rec}
+use Rattle.ea_blocks.specs.Call.{Call}
 use Rattle.ea_blocks.specs.Elements.{elementSizeTest, entryTest, _gives_, insideOnly, element}
-use Rattle.ea_blocks.specs.Runs.{Listing, also, alsoElement, elements, countedOf}
+use Rattle.ea_blocks.specs.Runs.{Listing, alsoElement, elements, countedOf}
 use Rattle.ea_blocks.specs.Structures.{Structure, indexBlock, superBlock, dataBlock, dataPage, signatureTest, structureTest, testOf, isDirect, superUndefined, blockUndefined, pageSet}
 use Rattle.ea_walk.specs.Walk.{pagesFrom, block, blocksFrom, supers, behindInline, walk}
-use Rattle.ea_list.specs.Listing.{list, inRoom, listInto}
+use Rattle.ea_list.specs.Listing.{list, listInto}
 use Rattle.ea_list.specs.Door.{listAt, listNumbers, countedNumbers, refusedNumbers, picked}
-
--- a test's refusals, and an outcome's, have a number above 0
-pub record Numbered (t : Checked) : Type 0 where
-  pub above : (r : Refusal) → t ≡ Refused r → 0 < r .number
-
-pub record Told {A : Type 0} (a : Outcome A) : Type 0 where
-  pub above : (r : Refusal) → a ≡ refused r → 0 < r .number
-
-pub numbered-passed : Numbered Passed
-numbered-passed = record { above = λ r e. absurd (refused-passed r (sym e)) }
-
-pub numbered-refuse : (number first second : ℕ) (b : Bool) → 0 < number → Numbered (refuse number first second b)
-unfolding refuse
-numbered-refuse number first second true k = record { above = λ r e. let z : record { number = number; first = first; second = second } ≡ r = cc in subst (λ (x : Refusal). 0 < x .number) z k }
-numbered-refuse number first second false k = numbered-passed
-
-pub numbered-then : (a b : Checked) → Numbered a → Numbered b → Numbered (a then b)
-unfolding _then_
-numbered-then Passed b p q = q
-numbered-then (Refused r) b p q = p
-
-pub told-yields : {A : Type 0} (t : Checked) (a : Outcome A) → Numbered t → Told a → Told (t yields a)
-unfolding _yields_
-told-yields Passed a p q = q
-told-yields (Refused x) a p q = record { above = λ r e. let z : Refused x ≡ Refused r = cc in p .above r z }
-
-pub told-accepted : {A : Type 0} (a : A) → Told (accepted a)
-told-accepted a = record { above = λ r e. absurd (never r a (sym e)) }
-
-pub told-cond : {A : Type 0} (b : Bool) {x y : Outcome A} → Told x → Told y → Told (cond b x y)
-told-cond true p q = p
-told-cond false p q = q
 
 -- the header's tests and the grid's
 trailing-numbered : (sum : List ℕ → ℕ) (l : List ℕ) → Numbered (trailingTest sum l)
@@ -162,15 +127,10 @@ element-numbered c pos s =
     (element-other _ (λ r h. let z : _≡_ {A = ℕ} 0 1 = cc in omega arith)))))
 
 -- the walk
-also-told : (r : Rec) (a : Listing) → Told a → Told (also r a)
-unfolding also
-also-told r (refused x) p = p
-also-told r (accepted l) p = told-accepted _
-
 also-element-told : (e : Element) (k : List ℕ) (a : Listing) → NumberedElement e → Told a → Told (alsoElement e k a)
 unfolding alsoElement
 also-element-told Absent k a p q = q
-also-element-told (Chunk x) k a p q = also-told _ a q
+also-element-told (Chunk x) k a p q = told-also _ a q
 also-element-told (ElementRefused x) k a p q = record { above = λ r h. let z : ElementRefused x ≡ ElementRefused r = cc in p .above r z }
 
 module _ (c : Call) where
@@ -215,16 +175,11 @@ module _ (c : Call) where
       (told-yields _ _ (test-numbered c indexBlock)
       (elements-told _ _ 0 _ (told-cond (leb (c .header .«num_elements») (c .header .«idx_blk_elmts»)) (told-accepted []) (told-yields _ _ (width-numbered 1 _ (omega arith)) (supers-told _ 0 _)))))
 
-room-told : (a : Listing) (room : ℕ) → Told a → Told (inRoom a room)
-unfolding inRoom
-room-told (refused r) room p = p
-room-told (accepted l) room p = told-yields _ _ (numbered-refuse 9 _ _ _ (omega arith)) (told-accepted l)
-
 -- the whole call
 list-at-told : (f : List ℕ) (address o l : ℕ) (g : Grid) (n room : ℕ) → Told (listAt f address o l g n room)
 unfolding listAt listInto list
 list-at-told f address o l g n room =
-    told-yields _ _ (header-numbered lookup3 f address o l) (room-told _ _ (told-yields _ _ (grid-numbered _) (walk-told _)))
+    told-yields _ _ (header-numbered lookup3 f address o l) (told-room _ _ (told-yields _ _ (grid-numbered _) (walk-told _)))
 
 zero-accepted : (a : Listing) → Told a → picked 0 (listNumbers a) ≡ 0 → (n : ℕ) × (countedOf a ≡ Count n)
 unfolding picked countedOf countedNumbers refusedNumbers

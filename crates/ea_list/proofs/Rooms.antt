@@ -1,21 +1,19 @@
 -- A walk's records and the room of a lent list. Assumes nothing.
-use Prim.Native.Nat.{ℕ, zero, suc, _+_, _*_, _/_, _<_, _≤_}
+use Prim.Native.Nat.{ℕ, zero, suc, _+_, _/_, _<_, _≤_}
 use mathlib.Core.Path.{_≡_, refl, sym, ap, subst, _∙_}
-use mathlib.Core.Bool.{Bool, not, cond, _||_}
+use mathlib.Core.Bool.{Bool, not, _||_}
 use mathlib.Core.List.{List}
 use mathlib.Core.Option.{Option, none, some, Option·some-injective}
 use native.Mathlib.Nat.{le-div-iff-mul-le}
 use native.Mathlib.Omega.{arith}
-use borrow.Author.Tests.{lt-ltb, le-ltb, ltb-false}
-use lib.Dec.{ltb}
 use lib.ListN.{length, getD}
 use lib.Seq.{sets}
 use Rattle.refusal.specs.declared.Refusal.{Refusal}
 use Rattle.refusal.specs.declared.Checked.the-variants.{Passed, Refused}
-use Rattle.refusal.specs.Refusals.{largest64, figure, refuse}
-use Rattle.refusal.specs.Outcome.{refused, accepted, _yields_}
-use Rattle.refusal.proofs.Tests.{by-cond, refuse-inv}
-use Rattle.refusal.proofs.Outcomes.{never, yields-inv, yields-passed}
+use Rattle.refusal.specs.Refusals.{largest64, figure}
+use Rattle.refusal.specs.Outcome.{refused, accepted, _yields_, inRoom}
+use Rattle.refusal.proofs.Tests.{by-cond}
+use Rattle.refusal.proofs.Outcomes.{yields-inv, room-had, room-inv, room-refused, yields-refused}
 use Rattle.chunk_grid.specs.Grid.{Grid, numbersNothing, below, offsets, chunkAt, gridTest}
 use Rattle.chunk_grid.specs.Values.{Numbers, Extents}
 use Rattle.chunk_grid.proofs.Grids.{accepted as grid-accepted, length-offsets}
@@ -27,11 +25,12 @@ use Rattle.ea_blocks.specs.Elements.{chunkBytes}
 use Rattle.ea_blocks.specs.Places.{recordAt, with, records}
 use Rattle.ea_blocks.specs.Records.{recordLength, listBytes}
 use Rattle.ea_blocks.specs.Runs.{Listing, countedOf}
+use Rattle.ea_blocks.proofs.Runs.{counted-inv}
 use Rattle.ea_blocks.proofs.Records.{Ranked, length-list}
 use Rattle.ea_walk.specs.Walk.{walk}
 use Rattle.ea_walk.specs.Values.{Walks}
 use Rattle.ea_walk.proofs.Walks.{walk-right, walk-records}
-use Rattle.ea_list.specs.Listing.{list, inRoom, listInto, listContent, recordsIn}
+use Rattle.ea_list.specs.Listing.{list, listInto, listContent, recordsIn}
 use Rattle.ea_list.specs.Judged.{Judged}
 use Rattle.ea_list.proofs.ReadBack.{AllFit, records-fit, list-back}
 use Rattle.ea_list.proofs.Judging.{none-some, record-at, list-judged}
@@ -78,40 +77,16 @@ module _ (c : Call) (t : gridTest (c .grid) ≡ Passed) where
       let k = subst (Ranked (c .grid .rank)) (sym (walk-records c l a)) (records-ranked (c .header .«num_elements») 0) in
       rw (length-list (c .grid .rank) l k) (le-div-iff-mul-le {k = recordLength (c .grid .rank)} (omega arith) .0 le)
 
--- what a counted listing is
-pub counted-inv : (a : Listing) (n : ℕ) → Count n ≡ countedOf a → (l : List Rec) × (a ≡ accepted l) × (n ≡ length l)
-unfolding countedOf
-counted-inv (refused r) n h = let z : _≡_ {A = ℕ} 0 1 = cc in absurd (omega arith)
-counted-inv (accepted l) n h = (l, refl, cc)
+-- what is answered, and what the lent list is then
+module _ (a : Listing) (out : List ℕ) where
+  pub answer-refused : (r : Refusal) → a ≡ refused r → (CountedRefused r ≡ countedOf a) × (out ≡ listContent a out)
+  unfolding countedOf listContent
+  answer-refused r e = rw e (refl, refl)
 
-pub room-refused : (a : Listing) (room : ℕ) (out : List ℕ) (r : Refusal) → CountedRefused r ≡ countedOf a
-    → (CountedRefused r ≡ countedOf (inRoom a room)) × (out ≡ listContent (inRoom a room) out)
-unfolding inRoom countedOf listContent
-room-refused (refused x) room out r h = (h, refl)
-room-refused (accepted l) room out r h = let z : _≡_ {A = ℕ} 0 1 = cc in absurd (omega arith)
-
-module _ (a : Listing) (room : ℕ) (out : List ℕ) (l : List Rec) (e : a ≡ accepted l) (n : ℕ) (k : n ≡ length l) where
-  pub room-small : room < n → (CountedRefused (record { number = 9; first = n; second = 0 }) ≡ countedOf (inRoom a room)) × (out ≡ listContent (inRoom a room) out)
-  unfolding inRoom refuse _yields_ countedOf listContent
-  room-small lt = rw (e, k, lt-ltb room (length l) (omega arith)) (refl, refl)
-
-  pub room-fits : n ≤ room → (out′ : List ℕ) → out′ ≡ sets out 0 (listBytes l) → (Count n ≡ countedOf (inRoom a room)) × (out′ ≡ listContent (inRoom a room) out)
-  unfolding inRoom refuse _yields_ countedOf listContent
-  room-fits le out′ w = rw (e, k, w, le-ltb room (length l) (omega arith)) (refl, refl)
-
--- an accepted listing had room
-room-had : (a : Listing) (room : ℕ) (l : List Rec) → inRoom a room ≡ accepted l → length l ≤ room
-unfolding inRoom
-room-had (refused r) room l h = absurd (never r l h)
-room-had (accepted m) room l h =
-    let y = yields-inv _ _ l h in
-    let z : m ≡ l = cc in
-    subst (λ (k : List Rec). length k ≤ room) z (ltb-false room (length m) (refuse-inv _ _ _ _ (y .0)))
-
-room-inv : (a : Listing) (room : ℕ) (l : List Rec) → inRoom a room ≡ accepted l → a ≡ accepted l
-unfolding inRoom
-room-inv (refused r) room l h = absurd (never r l h)
-room-inv (accepted m) room l h = yields-inv _ _ l h .1
+  pub answer-accepted : (l : List Rec) → a ≡ accepted l → (n : ℕ) → n ≡ length l → (out′ : List ℕ) → out′ ≡ sets out 0 (listBytes l)
+      → (Count n ≡ countedOf a) × (out′ ≡ listContent a out)
+  unfolding countedOf listContent
+  answer-accepted l e n k out′ w = rw (e, k, w) (refl, refl)
 
 pub into-inv : (c : Call) (n : ℕ) (l : List Rec) → listInto c n ≡ accepted l → list c ≡ accepted l
 unfolding listInto
@@ -120,8 +95,8 @@ into-inv c n l h = room-inv _ _ l h
 -- a grid's refusal is the list's
 pub into-refused : (c : Call) (n : ℕ) (out : List ℕ) (r : Refusal) → gridTest (c .grid) ≡ Refused r
     → (CountedRefused r ≡ countedOf (listInto c n)) × (out ≡ listContent (listInto c n) out)
-unfolding listInto list inRoom _yields_ countedOf listContent
-into-refused c n out r t = rw t (refl, refl)
+unfolding listInto list
+into-refused c n out r t = answer-refused _ out r (room-refused _ _ r (yields-refused _ _ r t))
 
 pub into-passed : (c : Call) (n : ℕ) → gridTest (c .grid) ≡ Passed → inRoom (walk c) (n / recordLength (c .grid .rank)) ≡ listInto c n
 unfolding listInto list _yields_

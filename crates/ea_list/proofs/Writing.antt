@@ -1,15 +1,13 @@
 -- The records of a run of slots, where every path is accepted. Assumes nothing.
 use Prim.Native.Nat.{ℕ, zero, suc, _+_, _-_, _*_, _<_, _≤_, min}
 use mathlib.Core.Path.{_≡_, refl, sym, ap, subst, _∙_}
-use mathlib.Core.Bool.{Bool, true, false, not, cond}
-use mathlib.Core.List.{List, [], _∷_, _++_}
+use mathlib.Core.Bool.{false}
+use mathlib.Core.List.{List, [], _++_}
 use mathlib.Core.Logic.{⊎-elim}
 use mathlib.Core.Option.{Option, none, some}
 use native.Mathlib.Omega.{arith}
 use borrow.Author.Tests.{le-leb, lt-leb}
-use lib.Dec.{leb}
-use lib.ListN.{length}
-use Rattle.refusal.specs.Outcome.{Outcome, refused, accepted}
+use Rattle.refusal.specs.Outcome.{accepted, also}
 use Rattle.refusal.proofs.Tests.{lt-or-ge}
 use Rattle.chunk_grid.specs.Grid.{offsets}
 use Rattle.ea_geometry.specs.Extents.{elementStride}
@@ -18,12 +16,11 @@ use Rattle.ea_blocks.specs.declared.Element.{Element}
 use Rattle.ea_blocks.specs.declared.Element.the-variants.{Absent, Chunk, Refused as ElementRefused}
 use Rattle.ea_blocks.specs.Call.{Call, Rec}
 use Rattle.ea_blocks.specs.Elements.{element}
-use Rattle.ea_blocks.specs.Places.{reached, positionOf, recordAt, with, records, answerOf, path}
-use Rattle.ea_blocks.specs.Runs.{Listing, also, alsoElement, elements}
+use Rattle.ea_blocks.specs.Places.{reached, recordAt, with, records, answerOf, path}
+use Rattle.ea_blocks.specs.Runs.{alsoElement, elements}
 use Rattle.ea_blocks.proofs.Paths.{unreached}
 use Rattle.ea_blocks.proofs.Passed.{reached-element}
-use Rattle.ea_list.specs.declared.runs.Run.the-variants.{Gap, Elements}
-use Rattle.ea_list.specs.Runs.{HasAt, RunOf}
+use Rattle.ea_list.specs.Runs.{HasAt}
 
 with-more : (x : Option Rec) (l m : List Rec) → with x (l ++ m) ≡ with x l ++ m
 unfolding with

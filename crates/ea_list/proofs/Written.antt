@@ -1,6 +1,6 @@
 -- The walk that writes: what is written, and the records of the slots that are left, stored behind it, make the whole. Assumes nothing.
 use Prim.Native.Nat.{ℕ, _+_, _-_, _*_, _<_, _≤_, min}
-use mathlib.Core.Path.{_≡_, refl, sym, ap, subst, _∙_}
+use mathlib.Core.Path.{_≡_, sym, ap, _∙_}
 use mathlib.Core.Bool.{true}
 use mathlib.Core.List.{List, [], _++_}
 use native.Mathlib.Nat.{sub-zero, zero-add}
@@ -12,6 +12,7 @@ use Rattle.fields.specs.Fields.{isWidth}
 use Rattle.fields.proofs.Widths.{width-le}
 use Rattle.ea_header.specs.declared.ExtensibleArrayHeader.{ExtensibleArrayHeader}
 use Rattle.ea_header.specs.Served.{servedTest}
+use Rattle.ea_header.proofs.Served.{tested-serves}
 use Rattle.ea_geometry.specs.Bounded.{Bounded}
 use Rattle.ea_geometry.specs.Extents.{elementStride}
 use Rattle.ea_blocks.specs.declared.Reading.{Reading}
@@ -24,8 +25,7 @@ use Rattle.ea_blocks.proofs.Records.{sets-append, list-append}
 use Rattle.ea_walk.specs.Walk.{walk}
 use Rattle.ea_walk.specs.Values.{Walks}
 use Rattle.ea_walk.proofs.Walks.{walk-right, walk-records}
-use Rattle.ea_walk.proofs.Starts.{served-header, walk-sees, accepted-served, accepted-index, accepted-wide}
-use Rattle.ea_list.specs.declared.runs.Run.{Run}
+use Rattle.ea_walk.proofs.Starts.{walk-sees, accepted-served, accepted-index, accepted-wide}
 use Rattle.ea_list.specs.declared.runs.Run.the-variants.{Gap, Elements}
 use Rattle.ea_list.specs.Runs.{RunOf, Leads}
 use Rattle.ea_list.proofs.Writing.{records-split, records-gap, records-run}
@@ -67,7 +67,7 @@ module _ (f : List ℕ) (r : Reading) (chunk bound down : List ℕ) where
 
     pub bounded : 0 < count → Bounded (r .geometry)
     bounded some = record {
-      served = served-header _ (ap servedTest (sym same) ∙ accepted-served c l (a .is));
+      served = tested-serves _ (ap servedTest (sym same) ∙ accepted-served c l (a .is));
       width = width-le _ (wide some);
     }
 

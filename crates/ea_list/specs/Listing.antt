@@ -1,11 +1,9 @@
 -- The list: its order of refusals, its answer, and the bytes that it writes.
 use Prim.Native.Nat.{ℕ, zero, suc, _/_}
 use mathlib.Core.List.{List, [], _∷_}
-use lib.Dec.{ltb}
-use lib.ListN.{length, drop}
+use lib.ListN.{drop}
 use lib.Seq.{sets}
-use Rattle.refusal.specs.Refusals.{refuse}
-use Rattle.refusal.specs.Outcome.{refused, accepted, _yields_}
+use Rattle.refusal.specs.Outcome.{refused, accepted, _yields_, inRoom}
 use Rattle.fields.specs.LittleEndian.{leAt}
 use Rattle.chunk_grid.specs.Grid.{gridTest}
 use Rattle.chunk_grid.specs.Shapes.{numbersIn}
@@ -18,12 +16,7 @@ use Rattle.ea_walk.specs.Walk.{walk}
 unfoldable pub list : Call → Listing
 list c = gridTest (c .grid) yields walk c
 
--- Last 9, list too small (needed records), only when the whole walk is accepted. A lent list of n bytes holds n / (16 + 8 × rank)
--- records, rounded down.
-unfoldable pub inRoom : Listing → ℕ → Listing
-inRoom (refused r) room = refused r
-inRoom (accepted l) room = refuse 9 (length l) 0 (ltb room (length l)) yields accepted l
-
+-- A lent list of n bytes holds n / (16 + 8 × rank) records, rounded down.
 unfoldable pub listInto : Call → ℕ → Listing
 listInto c n = inRoom (list c) (n / recordLength (c .grid .rank))
 

@@ -11,16 +11,15 @@ use Rattle.refusal.specs.declared.Checked.{Checked}
 use Rattle.refusal.specs.declared.Checked.the-variants.{Passed, Refused}
 use Rattle.refusal.specs.Refusals.{largest64, _then_}
 use Rattle.refusal.proofs.Tests.{then-inv, refuse-inv, both}
-use Rattle.refusal.proofs.Outcomes.{yields-passed}
+use Rattle.refusal.proofs.Outcomes.{yields-passed, yields-refused}
 use Rattle.chunk_grid.specs.Grid.{gridTest, cornerTest, aligned, below, isChunk, slotOf}
 use Rattle.chunk_grid.specs.Values.{given, gridOf, Numbers, Counted}
 use Rattle.chunk_grid.specs.declared.ChunkGrid.{ChunkGrid}
 use Rattle.chunk_grid.specs.declared.Slot.{Slot}
 use Rattle.chunk_grid.specs.declared.Slot.the-variants.{At, NoSlot}
 use Rattle.chunk_grid.proofs.Grids.{accepted as grid-accepted}
-use Rattle.ea_header.specs.declared.ExtensibleArrayHeader.{ExtensibleArrayHeader}
 use Rattle.ea_header.specs.Served.{Served, servedTest}
-use Rattle.ea_header.proofs.Served.{serves}
+use Rattle.ea_header.proofs.Served.{tested-serves}
 use Rattle.ea_geometry.specs.declared.EaGeometry.{EaGeometry}
 use Rattle.ea_blocks.specs.Call.{Call, callOf}
 use Rattle.ea_blocks.specs.Places.{path}
@@ -32,11 +31,7 @@ use Rattle.ea_lookup.specs.declared.Found.the-variants.{Absent as FoundA
 use Rattle.ea_lookup.specs.Lookup.{slotPath, lookup}
 use Rattle.ea_lookup.specs.Found.{foundOf, Answered, Agreed}
 use Rattle.ea_lookup.proofs.Looking.{lookup-answers, lookup-agrees}
-use Rattle.ea_lookup.proofs.Ways.{refusal-found, yields-refused}
-
-pub tested-serves : (h : ExtensibleArrayHeader) → servedTest h ≡ Passed → Served h
-unfolding servedTest
-tested-serves h t = serves h (not-false _ (refuse-inv _ _ _ _ t))
+use Rattle.ea_lookup.proofs.Ways.{refusal-found}
 
 -- a slot's path, by the count
 module _ (c : Call) where

@@ -10,7 +10,7 @@ use Rattle.refusal.specs.declared.Checked.the-variants.{Passed, Refused}
 use Rattle.refusal.specs.Refusals.{largest64}
 use Rattle.refusal.specs.Outcome.{accepted}
 use Rattle.refusal.proofs.Tests.{refused-passed, then-first}
-use Rattle.refusal.proofs.Outcomes.{yields-inv, yields-passed}
+use Rattle.refusal.proofs.Outcomes.{yields-inv, yields-passed, yields-refused}
 use Rattle.checksum.specs.Lookup3.{lookup3}
 use Rattle.chunk_grid.specs.Grid.{Grid, gridTest, isChunk}
 use Rattle.chunk_grid.specs.Shapes.{givenBytes}
@@ -31,7 +31,7 @@ use Rattle.ea_lookup.specs.Lookup.{lookup, Answers, Agrees}
 use Rattle.ea_lookup.specs.Found.{foundOf, Answered, Agreed}
 use Rattle.ea_lookup.specs.Door.{lookupAt}
 use Rattle.ea_lookup.proofs.Looking.{lookup-answers, lookup-agrees}
-use Rattle.ea_lookup.proofs.Ways.{refusal-found, yields-refused}
+use Rattle.ea_lookup.proofs.Ways.{refusal-found}
 use Rattle.ea_lookup.proofs.Calls.{lookup-refused}
 
 pub door-small : (order rank : ℕ) (chunk present : List ℕ) (flag : ℕ) (maximum : List ℕ) → gridTest (doorGrid order rank chunk present flag maximum) ≡ Passed → rank ≤ 32

@@ -1,13 +1,12 @@
 -- Every refusal of a lookup has a number above 0, so the number 0 says that a call is accepted. Assumes nothing.
 use Prim.Native.Nat.{ℕ}
 use mathlib.Core.Path.{_≡_, refl, sym, _∙_}
-use mathlib.Core.Bool.{true, false, cond}
 use mathlib.Core.List.{List, [], _∷_}
-use mathlib.Core.Option.{Option, none, some}
+use mathlib.Core.Option.{Option, none}
 use native.Mathlib.Omega.{arith}
 use lib.Dec.{ltb}
-use Rattle.refusal.specs.declared.Checked.{Checked}
 use Rattle.refusal.specs.Outcome.{Outcome, refused, accepted}
+use Rattle.refusal.proofs.Numbered.{Numbered, Told, numbered-passed, numbered-refuse, numbered-then, told-yields, told-accepted, told-cond}
 use Rattle.checksum.specs.Lookup3.{lookup3}
 use Rattle.chunk_grid.specs.declared.Slot.{Slot}
 use Rattle.chunk_grid.specs.declared.Slot.the-variants.{At, NoSlot}
@@ -19,9 +18,9 @@ use Rattle.ea_blocks.specs.declared.Element.{Element}
 use Rattle.ea_blocks.specs.declared.Element.the-variants.{Absent, Chunk, Refused as ElementRefused}
 use Rattle.ea_blocks.specs.Call.{Call, Rec}
 use Rattle.ea_blocks.specs.Structures.{Structure, indexBlock}
-use Rattle.ea_blocks.specs.Places.{reached, pointerTest, answerOf, tested, structures, pathAt, path}
-use Rattle.ea_list.specs.Door.{callAt, refusedNumbers, picked}
-use Rattle.ea_list.proofs.Numbered.{Numbered, Told, NumberedElement, numbered-passed, numbered-refuse, numbered-then, told-yields, told-accepted, told-cond, width-numbered, header-numbered, grid-numbered, served-numbered, test-numbered, element-numbered}
+use Rattle.ea_blocks.specs.Places.{reached, pointerTest, answerOf, tested, pathAt, path}
+use Rattle.ea_list.specs.Door.{refusedNumbers, picked}
+use Rattle.ea_list.proofs.Numbered.{NumberedElement, width-numbered, header-numbered, grid-numbered, served-numbered, test-numbered, element-numbered}
 use Rattle.ea_lookup.specs.Lookup.{slotPath, lookup}
 use Rattle.ea_lookup.specs.Found.{foundOf}
 use Rattle.ea_lookup.specs.Door.{lookupAt, foundNumbers, lookupNumbers}

@@ -6,15 +6,12 @@ use mathlib.Core.List.{List, [], _∷_}
 use mathlib.Core.Logic.{inl, inr, ⊎-elim}
 use mathlib.Core.Option.{Option, none}
 use native.Mathlib.Omega.{arith}
-use borrow.Author.Tests.{not-false}
 use lib.ListN.{length}
 use Rattle.refusal.specs.declared.Refusal.{Refusal}
-use Rattle.refusal.specs.declared.Checked.{Checked}
 use Rattle.refusal.specs.declared.Checked.the-variants.{Passed, Refused}
-use Rattle.refusal.specs.Outcome.{Outcome, refused, accepted, _yields_}
-use Rattle.refusal.proofs.Tests.{refuse-inv}
-use Rattle.refusal.proofs.Outcomes.{yields-passed}
-use Rattle.fields.specs.Fields.{isWidth, widthTest}
+use Rattle.refusal.specs.Outcome.{Outcome, refused, accepted}
+use Rattle.refusal.proofs.Outcomes.{yields-passed, yields-refused}
+use Rattle.fields.specs.Fields.{widthTest}
 use Rattle.chunk_grid.specs.Grid.{offsets}
 use Rattle.ea_geometry.specs.Bounded.{Bounded}
 use Rattle.ea_geometry.specs.Sizes.{blockElements, pageElements, pages}
@@ -45,6 +42,7 @@ use Rattle.ea_blocks.proofs.Entering.{entered-super-room, entered-block-room, e
 use Rattle.ea_blocks.specs.Values.{Sees}
 use Rattle.ea_walk.proofs.WalkStates.{sees, entered-at, paged-behind}
 use Rattle.fields.proofs.Widths.{width-le}
+use Rattle.fields.proofs.Fields.{width-is}
 use Rattle.ea_lookup.specs.declared.Found.the-variants.{Chunk as FoundChunk, Absent as FoundAbsent, Refused as FoundRefused}
 use Rattle.ea_lookup.specs.declared.paths.Way.the-variants.{Absent as WayAbsent, To, Refused as WayRefused}
 use Rattle.ea_lookup.specs.Found.{foundOf, wayTo, WayTo}
@@ -71,14 +69,6 @@ nothing-found a h = rw h refl
 pub refusal-found : (a : Outcome (Option Rec)) (r : Refusal) → a ≡ refused r → FoundRefused r ≡ foundOf a
 unfolding foundOf
 refusal-found a r h = rw h refl
-
-pub wide : (o : ℕ) → widthTest 1 o ≡ Passed → isWidth o ≡ true
-unfolding widthTest
-wide o h = not-false _ (refuse-inv _ _ _ _ h)
-
-pub yields-refused : {A : Type 0} (t : Checked) (a : Outcome A) (r : Refusal) → t ≡ Refused r → t yields a ≡ refused r
-unfolding _yields_
-yields-refused t a r h = rw h refl
 
 -- the way to data block k of super block u
 module _ (c : Call) (u k : ℕ) where
@@ -228,7 +218,7 @@ module _ {c : Call} {f : List ℕ} {r : Reading} {chunk bound down : List ℕ} (
 
   module _ (super at : ℕ) (t : WayTo c u k (To super at)) where
     pub bounded-by : Bounded (r .geometry)
-    bounded-by = record { served = v; width = width-le _ (wide _ (rw (w .reads .offset) at (t .0))) }
+    bounded-by = record { served = v; width = width-le _ (width-is _ _ (rw (w .reads .offset) at (t .0))) }
 
     -- that is read unpaged
     module _ (q : inPages h u ≡ false) where

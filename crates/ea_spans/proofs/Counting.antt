@@ -1,8 +1,8 @@
 -- What the counting walk has come to, and each step from there. Assumes nothing.
 use Prim.Native.Nat.{ℕ, suc, _+_, _-_, _^_, _<_, _≤_}
-use mathlib.Core.Path.{_≡_, refl, sym, ap, _∙_}
+use mathlib.Core.Path.{_≡_, sym, ap, _∙_}
 use mathlib.Core.Bool.{true, false}
-use mathlib.Core.List.{List, []}
+use mathlib.Core.List.{List}
 use mathlib.Core.Logic.{⊎-elim}
 use native.Mathlib.Omega.{arith}
 use native.Mathlib.Nat.{sub-zero}
@@ -11,7 +11,6 @@ use lib.ListN.{length}
 use Rattle.refusal.specs.declared.Refusal.{Refusal}
 use Rattle.refusal.specs.declared.Checked.{Checked}
 use Rattle.refusal.specs.declared.Checked.the-variants.{Passed, Refused}
-use Rattle.refusal.specs.Outcome.{refused, accepted}
 use Rattle.refusal.proofs.Tests.{false-true, then-inv}
 use Rattle.fields.specs.Fields.{isWidth}
 use Rattle.ea_header.specs.declared.ExtensibleArrayHeader.{ExtensibleArrayHeader}
@@ -22,42 +21,17 @@ use Rattle.ea_geometry.specs.Sizes.{superBlocks, blocks, directSuperBlocks, blo
 use Rattle.ea_geometry.specs.Extents.{indexExtent, superExtent}
 use Rattle.ea_geometry.proofs.Counts.{supers-few, blocks-before-few}
 use Rattle.ea_blocks.specs.declared.Counted.{Counted}
-use Rattle.ea_blocks.specs.declared.Counted.the-variants.{Count, Refused as CountedRefused}
 use Rattle.ea_blocks.specs.declared.enter.Entered.the-variants.{Absent, At, Refused as EnteredRefused}
 use Rattle.ea_blocks.specs.Call.{Call}
 use Rattle.ea_blocks.specs.Structures.{isDirect, superAt, blockUndefined}
+use Rattle.ea_blocks.specs.Runs.{countedOf}
+use Rattle.ea_blocks.proofs.Runs.{answered, plus, plus-zero, plus-none, plus-also}
 use Rattle.ea_blocks.proofs.StructureTests.{super-seen, not-direct}
-use Rattle.ea_spans.specs.declared.Span.{Span}
 use Rattle.ea_spans.specs.Spans.{superSpan, blockSpan}
-use Rattle.ea_spans.specs.Walk.{Spanning, also, superTest, blocksFrom, supersFrom}
-use Rattle.ea_spans.specs.Listing.{countedOf}
+use Rattle.ea_spans.specs.Walk.{superTest, blocksFrom, supersFrom}
 use Rattle.ea_spans.specs.Values.{callAt, EnteredSpan}
 use Rattle.ea_spans.proofs.Tests.{seen}
 use Rattle.ea_spans.proofs.Turns.{behindSuper, supers-none, supers-direct, supers-undefined, supers-refused, supers-tested, blocks-none, blocks-undefined, blocks-defined}
-
--- what is counted so far, and what is left
-unfoldable pub plus : ℕ → Spanning → Counted
-plus n (refused r) = CountedRefused r
-plus n (accepted l) = Count (n + length l)
-
-plus-zero : (a : Spanning) → plus 0 a ≡ countedOf a
-unfolding plus countedOf
-plus-zero (refused r) = refl
-plus-zero (accepted l) = ap Count (omega arith)
-
-plus-none : (n : ℕ) → plus n (accepted []) ≡ Count n
-unfolding plus
-plus-none n = ap Count (omega arith)
-
-plus-also : (n : ℕ) (s : Span) (a : Spanning) → plus n (also s a) ≡ plus (n + 1) a
-unfolding plus also
-plus-also n s (refused r) = refl
-plus-also n s (accepted l) = ap Count (omega arith)
-
--- the answer that a refusal and a count stand for
-unfoldable pub answered : Checked → ℕ → Counted
-answered Passed total = Count total
-answered (Refused r) total = CountedRefused r
 
 -- the data blocks up to data block k of super block u, and the super blocks up to u, are few
 pub few-enough : (h : ExtensibleArrayHeader) → Served h → (u k : ℕ) → u < superBlocks h → k ≤ blocks u → u + 1 + (blocksBefore u + k) < 2 ^ 34
@@ -111,7 +85,7 @@ module _ (c : Call) where
   module _ (total u : ℕ) (s : AtSuper total u) where
     pub supers-done : all ≤ u → Done Passed total
     unfolding answered
-    supers-done le = sym (plus-none total) ∙ ap (plus total) (sym (supers-none c all u le)) ∙ s .rest
+    supers-done le = sym (plus-none total _ (supers-none c all u le)) ∙ s .rest
 
     module _ (lt : u < all) where
       pub super-skip : EnteredSpan c u Absent → AtSuper total (u + 1)

@@ -8,9 +8,9 @@ use native.Mathlib.Omega.{arith}
 use native.Mathlib.Nat.{div-lt-iff-lt-mul}
 use lib.Dec.{leb}
 use lib.Pow.{pow-pos}
-use Rattle.refusal.specs.Outcome.{accepted, _yields_}
+use Rattle.refusal.specs.Outcome.{accepted, _yields_, also}
 use Rattle.refusal.proofs.Tests.{false-true, both}
-use Rattle.refusal.proofs.Outcomes.{yields-inv}
+use Rattle.refusal.proofs.Outcomes.{yields-inv, also-inv}
 use Rattle.fields.specs.Fields.{undefined}
 use Rattle.chunk_grid.specs.Grid.{Grid}
 use Rattle.ea_header.specs.declared.ExtensibleArrayHeader.{ExtensibleArrayHeader}
@@ -32,9 +32,8 @@ use Rattle.ea_blocks.specs.Structures.{Structure, indexBlock, superBlock, dataB
 use Rattle.ea_blocks.specs.Places.{blockReached, leading, structures}
 use Rattle.ea_spans.specs.declared.Span.{Span}
 use Rattle.ea_spans.specs.Spans.{headerSpan, indexSpan, superSpan, blockLength, blockSpan}
-use Rattle.ea_spans.specs.Walk.{Spanning, also, indexTest, superTest, blocksFrom, supersFrom, indexSpans, indexOf, spans}
+use Rattle.ea_spans.specs.Walk.{Spanning, indexTest, superTest, blocksFrom, supersFrom, indexSpans, indexOf, spans}
 use Rattle.ea_spans.specs.Covered.{startOf, extentOf, Within, Covered}
-use Rattle.ea_spans.proofs.Lengths.{also-inv}
 use Rattle.ea_spans.proofs.Listing.{head-passed}
 use Rattle.ea_spans.proofs.Members.{among-cons, head-cons, Holds, holds-among, supers-in}
 

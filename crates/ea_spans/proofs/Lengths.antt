@@ -1,16 +1,16 @@
 -- Taking spans apart, and how many there are. Assumes nothing.
 use Prim.Native.Nat.{ℕ, zero, suc, _+_, _^_, _<_, _≤_}
-use mathlib.Core.Path.{_≡_, refl, sym, ap}
+use mathlib.Core.Path.{_≡_, refl, ap}
 use mathlib.Core.Bool.{true, false}
-use mathlib.Core.List.{List, [], _∷_}
+use mathlib.Core.List.{List, []}
 use native.Mathlib.Omega.{arith}
 use native.Mathlib.Numerals.{add-one}
 use lib.ListN.{length}
 use Rattle.refusal.specs.declared.Refusal.{Refusal}
 use Rattle.refusal.specs.declared.Checked.the-variants.{Passed, Refused}
-use Rattle.refusal.specs.Outcome.{refused, accepted, _yields_}
+use Rattle.refusal.specs.Outcome.{refused, accepted, _yields_, also}
 use Rattle.refusal.proofs.Tests.{by-cond}
-use Rattle.refusal.proofs.Outcomes.{never, yields-inv}
+use Rattle.refusal.proofs.Outcomes.{yields-inv, also-inv}
 use Rattle.fields.specs.Fields.{undefined}
 use Rattle.ea_header.specs.Served.{Served}
 use Rattle.ea_geometry.specs.Sizes.{superBlocks, blocks, blocksBefore}
@@ -18,35 +18,20 @@ use Rattle.ea_geometry.proofs.Counts.{supers-few, blocks-before-few}
 use Rattle.ea_blocks.specs.declared.Counted.the-variants.{Count, Refused as CountedRefused}
 use Rattle.ea_blocks.specs.Call.{Call}
 use Rattle.ea_blocks.specs.Structures.{indexAt, isDirect, superUndefined, blockUndefined}
+use Rattle.ea_blocks.specs.Runs.{countedOf}
+use Rattle.ea_blocks.proofs.Runs.{counted-inv, refused-inv}
 use Rattle.ea_spans.specs.declared.Span.{Span}
 use Rattle.ea_spans.specs.Spans.{indexSpan}
-use Rattle.ea_spans.specs.Walk.{Spanning, also, indexTest, blocksFrom, supersFrom, indexSpans}
-use Rattle.ea_spans.specs.Listing.{countedOf}
+use Rattle.ea_spans.specs.Walk.{Spanning, indexTest, blocksFrom, supersFrom, indexSpans}
 
-pub also-inv : (s : Span) (a : Spanning) (l : List Span) → also s a ≡ accepted l → (m : List Span) × (a ≡ accepted m) × (l ≡ s ∷ m)
-unfolding also
-also-inv s (refused r) l h = absurd (never r l h)
-also-inv s (accepted m) l h = (m, refl, cc)
-
--- a count, or a refusal, is that of an outcome
-pub counted-is : (a : Spanning) (n : ℕ) → Count n ≡ countedOf a → (l : List Span) × (a ≡ accepted l) × (n ≡ length l)
-unfolding countedOf
-counted-is (refused r) n h = let z : _≡_ {A = ℕ} 0 1 = cc in absurd (omega arith)
-counted-is (accepted l) n h = (l, refl, cc)
-
-pub refused-is : (a : Spanning) (r : Refusal) → CountedRefused r ≡ countedOf a → a ≡ refused r
-unfolding countedOf
-refused-is (refused q) r h = let z : r ≡ q = cc in ap refused (sym z)
-refused-is (accepted l) r h = let z : _≡_ {A = ℕ} 0 1 = cc in absurd (omega arith)
-
--- the same with one span more
+-- a count, or a refusal, with one span more
 pub counted-more : (s : Span) (a : Spanning) (n : ℕ) → Count n ≡ countedOf a → Count (n + 1) ≡ countedOf (also s a)
 unfolding countedOf also
-counted-more s a n h = let i = counted-is a n h in rw (i .1) (ap Count (let z : n + 1 ≡ suc (length (i .0)) = omega (arith, i .2) in z))
+counted-more s a n h = let i = counted-inv a n h in rw (i .1) (ap Count (let z : n + 1 ≡ suc (length (i .0)) = omega (arith, i .2) in z))
 
 pub refused-more : (s : Span) (a : Spanning) (r : Refusal) → CountedRefused r ≡ countedOf a → CountedRefused r ≡ countedOf (also s a)
 unfolding countedOf also
-refused-more s a r h = rw (refused-is a r h) refl
+refused-more s a r h = rw (refused-inv a r h) refl
 
 -- the index block: undefined, refused, or accepted with what it leads to
 module _ (c : Call) where
@@ -130,7 +115,7 @@ index-length c l v h =
     omega (arith, ap length (o .2), pointed-length c (o .0) v (o .1))) h
 
 pub pointed-few : (c : Call) (n : ℕ) → Served (c .header) → Count n ≡ countedOf (supersFrom c (superBlocks (c .header)) 0) → n < 2 ^ 34
-pointed-few c n v h = let i = counted-is _ n h in omega (arith, i .2, pointed-length c (i .0) v (i .1))
+pointed-few c n v h = let i = counted-inv _ n h in omega (arith, i .2, pointed-length c (i .0) v (i .1))
 
 pub index-few : (c : Call) (n : ℕ) → Served (c .header) → Count n ≡ countedOf (indexSpans c) → n < 2 ^ 35
-index-few c n v h = let i = counted-is _ n h in omega (arith, i .2, index-length c (i .0) v (i .1))
+index-few c n v h = let i = counted-inv _ n h in omega (arith, i .2, index-length c (i .0) v (i .1))

@@ -4,28 +4,27 @@ use mathlib.Core.Path.{_≡_, refl, sym}
 use mathlib.Core.Bool.{true}
 use mathlib.Core.List.{List}
 use native.Mathlib.Omega.{arith}
-use borrow.Author.Tests.{lt-ltb, le-ltb, not-false}
 use lib.ListN.{length}
 use Rattle.refusal.specs.declared.Refusal.{Refusal}
 use Rattle.refusal.specs.declared.Checked.the-variants.{Passed, Refused}
-use Rattle.refusal.specs.Refusals.{refuse, figure}
-use Rattle.refusal.specs.Outcome.{refused, accepted, _yields_}
-use Rattle.refusal.proofs.Tests.{then-passed, refuse-passed}
+use Rattle.refusal.specs.Refusals.{figure}
+use Rattle.refusal.specs.Outcome.{refused, _yields_, also}
+use Rattle.refusal.proofs.Tests.{then-passed}
 use Rattle.fields.specs.Fields.{isWidth}
 use Rattle.checksum.specs.Lookup3.{lookup3}
 use Rattle.ea_header.specs.declared.ExtensibleArrayHeader.{ExtensibleArrayHeader}
 use Rattle.ea_header.specs.Header.{headerBytes, headerAt}
-use Rattle.ea_header.specs.Served.{Served, servedTest}
+use Rattle.ea_header.specs.Served.{Served}
 use Rattle.ea_header.proofs.Header.{passed-is}
-use Rattle.ea_header.proofs.Served.{serves}
+use Rattle.ea_header.proofs.Served.{tested-serves}
 use Rattle.ea_geometry.specs.declared.EaGeometry.{EaGeometry}
 use Rattle.ea_blocks.specs.declared.Counted.{Counted}
 use Rattle.ea_blocks.specs.declared.Counted.the-variants.{Refused as CountedRefused}
-use Rattle.ea_spans.specs.declared.Span.{Span}
+use Rattle.ea_blocks.specs.Runs.{countedOf}
 use Rattle.ea_spans.specs.Spans.{headerSpan}
-use Rattle.ea_spans.specs.Walk.{Spanning, also, indexSpans, headTest, spans}
+use Rattle.ea_spans.specs.Walk.{Spanning, indexSpans, headTest, spans}
 use Rattle.ea_spans.specs.Values.{callAt}
-use Rattle.ea_spans.specs.Listing.{countedOf, inRoom, filled, addressOf, lengthOf}
+use Rattle.ea_spans.specs.Listing.{filled, addressOf, lengthOf}
 
 -- what is answered, and what two lists are then
 abbrev pub Answers : Spanning → Counted → List ℕ → List ℕ → List ℕ → List ℕ → Type 0
@@ -36,32 +35,18 @@ pub answers-refused : (a : Spanning) (r : Refusal) (addresses lengths : List ℕ
 unfolding countedOf filled
 answers-refused a r addresses lengths e = rw e (refl, (refl, refl))
 
--- 9, or room for all
-pub room-refused : (a : Spanning) (room : ℕ) (r : Refusal) → a ≡ refused r → inRoom a room ≡ refused r
-unfolding inRoom
-room-refused a room r e = rw e refl
-
-module _ (a : Spanning) (room : ℕ) (l : List Span) (e : a ≡ accepted l) where
-  pub room-small : (n : ℕ) → n ≡ length l → room < n → inRoom a room ≡ refused (record { number = 9; first = n; second = 0 })
-  unfolding inRoom refuse _yields_
-  room-small n q lt = rw (e, q, lt-ltb room (length l) (rw q at lt)) refl
-
-  pub room-fits : length l ≤ room → inRoom a room ≡ a
-  unfolding inRoom refuse _yields_
-  room-fits le = rw (e, le-ltb room (length l) le) refl
-
 -- the header's tests
 module _ (f : List ℕ) (address o l : ℕ) where
   abbrev h : ExtensibleArrayHeader
   h = headerAt f address o l
 
   pub head-passed : Passed ≡ headTest f address o l → (address + headerBytes o l ≤ length f) × (isWidth o ≡ true) × Served h
-  unfolding headTest servedTest
+  unfolding headTest
   head-passed e =
       let a = then-passed _ _ e in
       let b = then-passed _ _ (a .1) in
       let p = passed-is lookup3 f address o l (sym (b .0)) in
-      (p .0, p .1, serves h (not-false _ (refuse-passed _ _ _ _ (b .1))))
+      (p .0, p .1, tested-serves h (sym (b .1)))
 
   pub spans-refused : (r : Refusal) → Refused r ≡ headTest f address o l → spans f address o l ≡ refused r
   unfolding spans _yields_

@@ -9,7 +9,7 @@ use native.Mathlib.Nat.{eq-or-lt-of-le}
 use borrow.Author.Tests.{not-true}
 use Rattle.refusal.specs.Outcome.{accepted}
 use Rattle.refusal.proofs.Tests.{by-cond, false-true, both}
-use Rattle.refusal.proofs.Outcomes.{yields-inv}
+use Rattle.refusal.proofs.Outcomes.{yields-inv, also-inv}
 use Rattle.ea_geometry.specs.Sizes.{blocks}
 use Rattle.ea_blocks.specs.Call.{Call}
 use Rattle.ea_blocks.specs.Structures.{isDirect, superUndefined, blockUndefined}
@@ -18,7 +18,6 @@ use Rattle.ea_blocks.proofs.Passed.{gone}
 use Rattle.ea_spans.specs.declared.Span.{Span}
 use Rattle.ea_spans.specs.Spans.{superSpan, blockSpan}
 use Rattle.ea_spans.specs.Walk.{Spanning, blocksFrom, supersFrom}
-use Rattle.ea_spans.proofs.Lengths.{also-inv}
 
 -- every span of one list is in another
 abbrev pub Among : List Span → List Span → Type 0

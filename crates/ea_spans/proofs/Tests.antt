@@ -5,25 +5,19 @@ use mathlib.Core.List.{List}
 use native.Mathlib.Omega.{arith}
 use borrow.Author.Tests.{lt-ltb, le-ltb}
 use lib.ListN.{length}
-use Rattle.refusal.specs.declared.Refusal.{Refusal}
-use Rattle.refusal.specs.declared.Checked.{Checked}
 use Rattle.refusal.specs.declared.Checked.the-variants.{Passed, Refused}
 use Rattle.refusal.specs.Refusals.{figure, largest64}
 use Rattle.refusal.proofs.Tests.{refuse-false, refuse-true}
-use Rattle.ea_header.specs.declared.ExtensibleArrayHeader.{ExtensibleArrayHeader}
-use Rattle.ea_header.specs.declared.Parsed.the-variants.{Header, Refused as ParsedRefused}
-use Rattle.ea_header.specs.Header.{headerBytes, parsedAfter}
+use Rattle.ea_header.specs.Header.{headerBytes}
 use Rattle.ea_spans.specs.declared.Span.{Span}
 use Rattle.ea_geometry.specs.declared.EaGeometry.{EaGeometry}
 use Rattle.ea_geometry.specs.Bounded.{Bounded}
 use Rattle.ea_geometry.specs.Extents.{indexExtent, superExtent}
 use Rattle.ea_geometry.proofs.Positions.{index-extent-few}
-use Rattle.ea_blocks.specs.Call.{Call}
 use Rattle.ea_blocks.specs.Structures.{indexAt, superAt, blockAt}
 use Rattle.ea_blocks.specs.Values.{Sees}
 use Rattle.ea_spans.specs.Spans.{spanTest, headerSpan, indexSpan, superSpan, blockLength, blockSpan}
 use Rattle.ea_spans.specs.Values.{callAt}
-use Rattle.ea_spans.specs.Walk.{indexOf}
 
 module _ (s : Span) where
   pub span-fits : s .address + s .length ≤ largest64 → Passed ≡ spanTest s
@@ -48,26 +42,6 @@ module _ (address o l a b d last : ℕ) (first : a ≡ figure (6 * l)) (second :
       → Refused (record { number = 31; first = address; second = n }) ≡ spanTest (headerSpan address o l)
   unfolding figure headerSpan
   header-past n e le = span-past _ n e (omega arith)
-
--- a header that is read after a test
-module _ (t : Checked) (h : ExtensibleArrayHeader) where
-  pub header-after : Passed ≡ t → Header h ≡ parsedAfter t h
-  unfolding parsedAfter
-  header-after e = ap (λ (x : Checked). parsedAfter x h) e
-
-  pub refused-after : {r : Refusal} → Refused r ≡ t → ParsedRefused r ≡ parsedAfter t h
-  unfolding parsedAfter
-  refused-after e = ap (λ (x : Checked). parsedAfter x h) e
-
-pub header-is : (t : Checked) (h x : ExtensibleArrayHeader) → Header x ≡ parsedAfter t h → (Passed ≡ t) × (x ≡ h)
-unfolding parsedAfter
-header-is Passed h x e = let z : x ≡ h = cc in (refl, z)
-header-is (Refused r) h x e = let z : _≡_ {A = ℕ} 0 1 = cc in absurd (omega arith)
-
-pub refused-is : (t : Checked) (h : ExtensibleArrayHeader) (r : Refusal) → ParsedRefused r ≡ parsedAfter t h → Refused r ≡ t
-unfolding parsedAfter
-refused-is Passed h r e = let z : _≡_ {A = ℕ} 0 1 = cc in absurd (omega arith)
-refused-is (Refused q) h r e = let z : r ≡ q = cc in ap Refused z
 
 module _ (f : List ℕ) (g : EaGeometry) where
   pub seen : Sees (callAt f g) f g

@@ -7,12 +7,12 @@ use native.Mathlib.Omega.{arith}
 use native.Mathlib.Nat.{sub-zero}
 use Rattle.refusal.specs.declared.Refusal.{Refusal}
 use Rattle.refusal.specs.declared.Checked.the-variants.{Passed, Refused}
-use Rattle.refusal.specs.Outcome.{refused, accepted, _yields_}
+use Rattle.refusal.specs.Outcome.{refused, accepted, _yields_, also}
 use Rattle.ea_geometry.specs.Sizes.{blocks}
 use Rattle.ea_blocks.specs.Call.{Call}
 use Rattle.ea_blocks.specs.Structures.{isDirect, superUndefined, blockUndefined}
 use Rattle.ea_spans.specs.Spans.{superSpan, blockSpan}
-use Rattle.ea_spans.specs.Walk.{Spanning, also, superTest, blocksFrom, supersFrom}
+use Rattle.ea_spans.specs.Walk.{Spanning, superTest, blocksFrom, supersFrom}
 
 -- what is left of n, before and after a turn
 less : (n i : ℕ) → i < n → n - i ≡ suc (n - (i + 1))

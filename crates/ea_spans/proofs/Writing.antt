@@ -10,8 +10,8 @@ use native.Mathlib.Numerals.{add-one}
 use lib.ListN.{length, set, length-set}
 use Rattle.refusal.specs.declared.Checked.{Checked}
 use Rattle.refusal.specs.declared.Checked.the-variants.{Passed, Refused}
-use Rattle.refusal.specs.Outcome.{accepted}
-use Rattle.refusal.proofs.Outcomes.{never}
+use Rattle.refusal.specs.Outcome.{accepted, also}
+use Rattle.refusal.proofs.Outcomes.{never, also-inv}
 use Rattle.refusal.proofs.Tests.{false-true}
 use Rattle.fields.specs.Fields.{undefined}
 use Rattle.ea_geometry.specs.Sizes.{superBlocks, blocks}
@@ -24,11 +24,11 @@ use Rattle.ea_blocks.specs.Values.{pointerOf}
 use Rattle.ea_blocks.proofs.Pointers.{pointer-undefined, pointer-at}
 use Rattle.ea_spans.specs.declared.Span.{Span}
 use Rattle.ea_spans.specs.Spans.{superSpan, blockSpan}
-use Rattle.ea_spans.specs.Walk.{Spanning, also, indexTest, superTest, blocksFrom, supersFrom, indexSpans}
+use Rattle.ea_spans.specs.Walk.{Spanning, indexTest, superTest, blocksFrom, supersFrom, indexSpans}
 use Rattle.ea_spans.specs.Listing.{each, filled, addressOf, lengthOf}
 use Rattle.ea_spans.specs.Values.{EnteredSpan, FoundSuper, Room}
 use Rattle.ea_spans.proofs.Turns.{behindSuper, supers-none, supers-direct, supers-undefined, supers-refused, supers-tested, blocks-none, blocks-undefined, blocks-defined}
-use Rattle.ea_spans.proofs.Lengths.{also-inv, index-refused}
+use Rattle.ea_spans.proofs.Lengths.{index-refused}
 
 -- they are left to write into the lists, which are then A and L
 pub record Going (a : Spanning) (n : ℕ) (addresses lengths A L : List ℕ) : Type 0 where

@@ -1,25 +1,11 @@
 -- The span listing: its answer, and the two lists that it fills.
 use Prim.Native.Nat.{ℕ, min}
 use mathlib.Core.List.{List, [], _∷_}
-use lib.Dec.{ltb}
 use lib.ListN.{length}
 use lib.Seq.{sets}
-use Rattle.refusal.specs.Refusals.{refuse}
-use Rattle.refusal.specs.Outcome.{refused, accepted, _yields_}
-use Rattle.ea_blocks.specs.declared.Counted.{Counted}
-use Rattle.ea_blocks.specs.declared.Counted.the-variants.{Count, Refused as CountedRefused}
+use Rattle.refusal.specs.Outcome.{refused, accepted, inRoom}
 use Rattle.ea_spans.specs.declared.Span.{Span}
 use Rattle.ea_spans.specs.Walk.{Spanning, spans}
-
--- the number of spans, or the refusal
-unfoldable pub countedOf : Spanning → Counted
-countedOf (refused r) = CountedRefused r
-countedOf (accepted l) = Count (length l)
-
--- Then 9, list too small (needed records), where there is no room for all.
-unfoldable pub inRoom : Spanning → ℕ → Spanning
-inRoom (refused r) room = refused r
-inRoom (accepted l) room = refuse 9 (length l) 0 (ltb room (length l)) yields accepted l
 
 -- Two lists hold as many spans as the shorter of them.
 abbrev pub roomOf : List ℕ → List ℕ → ℕ

@@ -2,10 +2,10 @@
 -- what comes behind it. The published count plays no part: spans cover every pointed-to block.
 use Prim.Native.Nat.{ℕ, zero, suc, _+_}
 use mathlib.Core.Bool.{false, cond}
-use mathlib.Core.List.{List, [], _∷_}
+use mathlib.Core.List.{List, []}
 use Rattle.refusal.specs.declared.Checked.{Checked}
 use Rattle.refusal.specs.Refusals.{_then_}
-use Rattle.refusal.specs.Outcome.{Outcome, refused, accepted, _yields_}
+use Rattle.refusal.specs.Outcome.{Outcome, accepted, _yields_, also}
 use Rattle.fields.specs.Fields.{undefined}
 use Rattle.checksum.specs.Lookup3.{lookup3}
 use Rattle.chunk_grid.specs.Grid.{Grid}
@@ -21,11 +21,6 @@ use Rattle.ea_spans.specs.Spans.{spanTest, headerSpan, indexSpan, superS
 -- a list of spans, or the refusal
 abbrev pub Spanning : Type 0
 Spanning = Outcome (List Span)
-
--- one span in front of what is left
-unfoldable pub also : Span → Spanning → Spanning
-also s (refused r) = refused r
-also s (accepted l) = accepted (s ∷ l)
 
 -- 31 before 20, signature and checksum
 unfoldable pub indexTest : Call → Checked

@@ -2,12 +2,14 @@
 // that is pointed to.
 ghost use mathlib.Core.Path.{_≡_};
 ghost use mathlib.Core.Bool.{true};
+ghost use Rattle.refusal.specs.Outcome.{also, inRoom};
 ghost use Rattle.fields.specs.Fields.{isWidth};
 ghost use Rattle.ea_geometry.specs.Bounded.{Bounded};
 ghost use Rattle.ea_blocks.specs.declared.Counted.the-variants.{Refused};
-ghost use Rattle.ea_spans.specs.Walk.{also, indexSpans};
+ghost use Rattle.ea_blocks.specs.Runs.{countedOf};
+ghost use Rattle.ea_spans.specs.Walk.{indexSpans};
 ghost use Rattle.ea_spans.specs.Values.{callAt};
-ghost use Rattle.ea_spans.specs.Listing.{countedOf, inRoom, roomOf, spansInto, filled, addressOf, lengthOf};
+ghost use Rattle.ea_spans.specs.Listing.{roomOf, spansInto, filled, addressOf, lengthOf};
 use crate::count::count_index;
 use crate::enter::parse_served;
 use crate::write::put_span;

@@ -103,7 +103,7 @@ module _ (c : Call) where
         ap (λ (n : ℕ). plus n (behindInline c)) (let z : m ≡ 0 + m = omega arith in z) ∙ sym (run-count c first inline 0 m (sym a) 0 (behindInline c)) ∙ plus-zero (fromInline c)
 
     head-ended : c .header .«num_elements» ≤ inline → Count m ≡ countedOf (fromInline c)
-    head-ended le = sym (plus-none m) ∙ ap (plus m) (sym (behind-ended le)) ∙ counted
+    head-ended le = sym (plus-none m _ (behind-ended le)) ∙ counted
 
     head-blocks : inline < c .header .«num_elements» → widthTest 1 (c .offsetSize) ≡ Passed → plus m (supers c (superBlocks (c .header)) 0 inline) ≡ countedOf (fromInline c)
     unfolding behindInline _yields_
@@ -111,5 +111,5 @@ module _ (c : Call) where
 
     pub head-counted : widthTest 1 (c .offsetSize) ≡ Passed → plus m (supers c (superBlocks (c .header)) 0 inline) ≡ countedOf (fromInline c)
     head-counted t =
-        ⊎-elim (λ lt. head-blocks lt t) (λ le. ap (plus m) (supers-ended _ 0 inline le) ∙ plus-none m ∙ head-ended le)
+        ⊎-elim (λ lt. head-blocks lt t) (λ le. plus-none m _ (supers-ended _ 0 inline le) ∙ head-ended le)
         (lt-or-ge inline (c .header .«num_elements»))

@@ -5,18 +5,16 @@ use mathlib.Core.Bool.{Bool, true, false}
 use mathlib.Core.List.{List, []}
 use mathlib.Core.Logic.{⊎-elim}
 use native.Mathlib.Omega.{arith}
-use borrow.Author.Tests.{not-false}
 use lib.ListN.{length}
 use Rattle.refusal.specs.declared.Refusal.{Refusal}
 use Rattle.refusal.specs.declared.Checked.the-variants.{Passed, Refused}
-use Rattle.refusal.specs.Outcome.{accepted, _yields_}
-use Rattle.refusal.proofs.Tests.{lt-or-ge, refuse-inv}
+use Rattle.refusal.specs.Outcome.{accepted}
+use Rattle.refusal.proofs.Tests.{lt-or-ge}
 use Rattle.refusal.proofs.Outcomes.{yields-inv}
-use Rattle.fields.specs.Fields.{isWidth, widthTest}
+use Rattle.fields.specs.Fields.{isWidth}
 use Rattle.fields.proofs.Fields.{width-passed}
 use Rattle.ea_header.specs.declared.ExtensibleArrayHeader.{ExtensibleArrayHeader}
-use Rattle.ea_header.specs.Served.{Served, servedTest}
-use Rattle.ea_header.proofs.Served.{serves}
+use Rattle.ea_header.specs.Served.{servedTest}
 use Rattle.ea_geometry.specs.Sizes.{superBlocks}
 use Rattle.ea_geometry.specs.Extents.{elementStride, elementAt, inlineElementAt}
 use Rattle.ea_blocks.specs.declared.Counted.{Counted}
@@ -31,10 +29,6 @@ use Rattle.ea_blocks.proofs.StructureTests.{inline-inside}
 use Rattle.ea_walk.specs.Walk.{supers, fromInline, walk}
 use Rattle.ea_walk.specs.Values.{Walks}
 use Rattle.ea_walk.proofs.Heads.{walk-served, walk-index, walk-head, unreadable-pointer, unreadable-element, head-refused, head-counted}
-
-pub served-header : (h : ExtensibleArrayHeader) → servedTest h ≡ Passed → Served h
-unfolding servedTest
-served-header h t = serves h (not-false _ (refuse-inv _ _ _ _ t))
 
 -- what an accepted walk has passed
 module _ (c : Call) (l : List Rec) (a : walk c ≡ accepted l) where

@@ -1,9 +1,9 @@
 -- What the counting walk has come to, and each step from there. Assumes nothing.
 use Prim.Native.Nat.{ℕ, _+_, _-_, _*_, _^_, _<_, _≤_}
-use mathlib.Core.Path.{_≡_, refl, sym, ap, subst, _∙_}
-use mathlib.Core.Bool.{Bool, true, false, cond, _&&_}
+use mathlib.Core.Path.{_≡_, sym, ap, subst, _∙_}
+use mathlib.Core.Bool.{Bool, true, false, _&&_}
 use mathlib.Core.List.{List, []}
-use mathlib.Core.Logic.{_⊎_, inl, inr, ⊎-elim}
+use mathlib.Core.Logic.{_⊎_, ⊎-elim}
 use native.Mathlib.Omega.{arith}
 use native.Mathlib.Nat.{mul-le-mul-right}
 use borrow.Author.Tests.{leb-true}
@@ -13,7 +13,7 @@ use lib.ListN.{length}
 use Rattle.refusal.specs.declared.Refusal.{Refusal}
 use Rattle.refusal.specs.declared.Checked.{Checked}
 use Rattle.refusal.specs.declared.Checked.the-variants.{Passed, Refused}
-use Rattle.refusal.specs.Outcome.{Outcome, refused, accepted}
+use Rattle.refusal.specs.Outcome.{accepted}
 use Rattle.ea_header.specs.declared.ExtensibleArrayHeader.{ExtensibleArrayHeader}
 use Rattle.ea_geometry.specs.Sizes.{superBlocks, blocks, blockElements, directSuperBlocks, overPage, pageElements, pages}
 use Rattle.fields.specs.Fields.{isWidth}
@@ -28,22 +28,17 @@ use Rattle.ea_blocks.specs.declared.Reading.{Reading}
 use Rattle.ea_blocks.specs.declared.Counted.{Counted}
 use Rattle.ea_blocks.specs.declared.Counted.the-variants.{Count, Refused as CountedRefused}
 use Rattle.ea_blocks.specs.declared.enter.Entered.the-variants.{Absent, At, Refused as EnteredRefused}
-use Rattle.ea_blocks.specs.Call.{Call, Rec}
+use Rattle.ea_blocks.specs.Call.{Call}
 use Rattle.ea_blocks.specs.Structures.{isDirect, superAt, blockAt, dataPageAt}
 use Rattle.ea_blocks.specs.Runs.{Listing, elements, countedOf}
 use Rattle.ea_blocks.specs.Values.{Sees}
 use Rattle.ea_blocks.specs.Entered.{EnteredSuper, EnteredBlock, EnteredPage}
-use Rattle.ea_blocks.proofs.Runs.{plus, plus-none, run-count, run-refused, run-length}
+use Rattle.ea_blocks.proofs.Runs.{plus, plus-none, run-count, run-refused, run-length, answered, counted-inv}
 use Rattle.ea_blocks.proofs.StructureTests.{is-direct, not-direct}
 use Rattle.ea_walk.specs.Walk.{pagesFrom, blocksFrom, supers}
 use Rattle.ea_walk.specs.Values.{Walks}
 use Rattle.ea_walk.proofs.Walks.{in-pages-over}
 use Rattle.ea_walk.proofs.Turns as turns
-
--- the answer that a refusal and a count stand for
-unfoldable pub answered : Checked → ℕ → Counted
-answered Passed total = Count total
-answered (Refused r) total = CountedRefused r
 
 module _ (f : List ℕ) (r : Reading) (first : ℕ) (chunk bound down : List ℕ) where
   abbrev h : ExtensibleArrayHeader
@@ -125,12 +120,12 @@ module _ (f : List ℕ) (r : Reading) (first : ℕ) (chunk bound down : List ℕ
   module _ (total slot u : ℕ) (s : AtSuper total slot u) where
     pub supers-done : superBlocks h ≤ u → Done Passed total
     unfolding answered
-    supers-done le c w = sym (plus-none total) ∙ ap (plus total) (sym (turns.supers-none c (superBlocks h) u slot le)) ∙ s .rest c w
+    supers-done le c w = sym (plus-none total _ (turns.supers-none c (superBlocks h) u slot le)) ∙ s .rest c w
 
     module _ (lt : u < superBlocks h) where
       pub super-ended : h .«num_elements» ≤ slot → Done Passed total
       unfolding answered
-      super-ended le c w = sym (plus-none total) ∙ ap (plus total) (sym (turns.supers-ended c (superBlocks h) u slot lt (ended c w le))) ∙ s .rest c w
+      super-ended le c w = sym (plus-none total _ (turns.supers-ended c (superBlocks h) u slot lt (ended c w le))) ∙ s .rest c w
 
       module _ (b : slot < h .«num_elements») where
         pub super-skip : ((c : Call) → Seen c → EnteredSuper c u Absent) → AtSuper total (slot + blocks u * blockElements h u) (u + 1)
@@ -200,8 +195,7 @@ module _ (f : List ℕ) (r : Reading) (first : ℕ) (chunk bound down : List ℕ
     pub block-ended : u < directSuperBlocks h → h .«num_elements» ≤ slot → Done Passed total
     unfolding answered
     block-ended d le c w =
-        sym (plus-none total)
-        ∙ ap (plus total) (sym (turns.blocks-ended c u (blocks u) k slot (behindSuper c u) lt (is-direct c f (r .geometry) (sees c w) u d) (ended c w le))) ∙ s .rest c w
+        sym (plus-none total _ (turns.blocks-ended c u (blocks u) k slot (behindSuper c u) lt (is-direct c f (r .geometry) (sees c w) u d) (ended c w le))) ∙ s .rest c w
 
     -- the count doesn't end it
     module _ (open′ : (u < directSuperBlocks h → slot < h .«num_elements»)) (side : (u < directSuperBlocks h) ⊎ (directSuperBlocks h ≤ u)) where
@@ -380,21 +374,9 @@ block-few h v small u k lt hk =
 pub entered-at : (c : Call) (u super : ℕ) → EnteredSuper c u (At super) → isDirect c u ≡ false → super ≡ superAt c u
 entered-at c u super e d = ⊎-elim (λ (t : isDirect c u ≡ true). absurd (false-true (sym d ∙ t))) (λ t. t .3) e
 
-refused-counted : (x : Refusal) → countedOf (refused x) ≡ CountedRefused x
-unfolding countedOf
-refused-counted x = refl
-
-count-is : (m : ℕ) (l : List Rec) → Count m ≡ countedOf (accepted l) → m ≡ length l
-unfolding countedOf
-count-is m l e = cc
-
 -- a run counts no more records than it has elements
 pub count-few : (c : Call) (pos j s m : ℕ) → Count m ≡ countedOf (elements c pos j s (accepted [])) → m ≤ j
-count-few c pos j s m e = go (elements c pos j s (accepted [])) refl e
-  where
-    go : (a : Listing) → elements c pos j s (accepted []) ≡ a → Count m ≡ countedOf (elements c pos j s (accepted [])) → m ≤ j
-    go (refused x) q e = let z : Count m ≡ CountedRefused x = e ∙ ap countedOf q ∙ refused-counted x in absurd (let y : _≡_ {A = ℕ} 0 1 = cc in omega arith)
-    go (accepted l) q e = let z : m ≡ length l = count-is m l (e ∙ ap countedOf q) in let y = run-length c pos j s l q in omega arith
+count-few c pos j s m e = let i = counted-inv _ m e in let n = run-length c pos j s (i .0) (i .1) in omega (arith, i .2)
 
 -- a page of a paged block ends in the block
 pub page-ends : (h : ExtensibleArrayHeader) (v : Served h) (u p slot from : ℕ) → u < superBlocks h → inPages h u ≡ true → p < pages h u → from ≡ slot + p * pageElements h

@@ -2,8 +2,8 @@
 -- the path to each of these slots is accepted with the slot's record. Assumes nothing.
 use Prim.Native.Nat.{ℕ, zero, suc, _+_, _-_, _*_, _/_, _%_, _<_, _≤_}
 use mathlib.Core.Path.{_≡_, refl, sym, ap, subst, _∙_}
-use mathlib.Core.Bool.{Bool, true, false, not, cond, _&&_}
-use mathlib.Core.List.{List, [], _∷_}
+use mathlib.Core.Bool.{true, false, not, _&&_}
+use mathlib.Core.List.{List, []}
 use mathlib.Core.Logic.{inl, inr, ⊎-elim}
 use mathlib.Core.Option.{Option, none, some}
 use native.Mathlib.Omega.{arith}
@@ -12,14 +12,13 @@ use borrow.Author.Tests.{leb-true, leb-false, ltb-true, not-true, not-false}
 use lib.Arith.{digits-lt, digits-div, digits-mod}
 use lib.Dec.{leb, ltb}
 use Rattle.refusal.specs.declared.Checked.the-variants.{Passed}
-use Rattle.refusal.specs.Outcome.{Outcome, refused, accepted, _yields_}
-use Rattle.refusal.proofs.Tests.{by-cond, lt-or-ge, both, refuse-inv}
-use Rattle.refusal.proofs.Outcomes.{never, yields-inv}
+use Rattle.refusal.specs.Outcome.{accepted}
+use Rattle.refusal.proofs.Tests.{by-cond, lt-or-ge, both}
+use Rattle.refusal.proofs.Outcomes.{never, yields-inv, also-inv}
 use Rattle.fields.specs.Fields.{widthTest}
-use Rattle.chunk_grid.specs.Grid.{offsets}
 use Rattle.ea_header.specs.declared.ExtensibleArrayHeader.{ExtensibleArrayHeader}
-use Rattle.ea_header.specs.Served.{Served, served, servedTest}
-use Rattle.ea_header.proofs.Served.{serves}
+use Rattle.ea_header.specs.Served.{Served}
+use Rattle.ea_header.proofs.Served.{tested-serves}
 use Rattle.ea_geometry.specs.Sizes.{superBlocks, blocks, blockElements, pageElements, directSuperBlocks, overPage, pages}
 use Rattle.ea_geometry.specs.Extents.{elementStride, elementAt, inlineElementAt, blockElementAt, pagedElementAt, pageAt}
 use Rattle.ea_geometry.specs.Place.{inPages, placeIn, place}
@@ -30,20 +29,15 @@ use Rattle.ea_geometry.proofs.Places.{place-is, place-inline, place-past, next-
 use Rattle.ea_blocks.specs.declared.Element.{Element}
 use Rattle.ea_blocks.specs.declared.Element.the-variants.{Absent, Chunk, Refused as ElementRefused}
 use Rattle.ea_blocks.specs.Call.{Call, Rec}
-use Rattle.ea_blocks.specs.Structures.{superBlock, dataBlock, dataPage, testOf, indexAt, isDirect, blockAt, dataPageAt, superUndefined, blockUndefined, pageSet}
+use Rattle.ea_blocks.specs.Structures.{dataBlock, dataPage, testOf, indexAt, isDirect, blockAt, dataPageAt, superUndefined, blockUndefined, pageSet}
 use Rattle.ea_blocks.specs.Elements.{element}
 use Rattle.ea_blocks.specs.Places.{positionOf, answerOf, recordAt, with, records, path}
 use Rattle.ea_blocks.proofs.Paths.{Leads, Misses, Ready, missed, led, no-super, no-block, in-block, in-clear, in-page, in-index, no-place}
-use Rattle.ea_blocks.specs.Runs.{Listing, also, alsoElement, elements}
+use Rattle.ea_blocks.specs.Runs.{Listing, alsoElement, elements}
 use Rattle.ea_walk.specs.Walk.{pagesFrom, block, blocksFrom, supers, behindInline, walk}
 
 nil-is : (l : List Rec) → accepted [] ≡ accepted l → l ≡ []
 nil-is l h = cc
-
-also-inv : (r : Rec) (a : Listing) (l : List Rec) → also r a ≡ accepted l → (m : List Rec) × (a ≡ accepted m) × (l ≡ r ∷ m)
-unfolding also
-also-inv r (refused x) l h = absurd (never x l h)
-also-inv r (accepted m) l h = (m, refl, cc)
 
 -- an accepted walk over an element: the element's answer in front of what is left
 element-inv : (e : Element) (k : List ℕ) (a : Listing) (l : List Rec) → alsoElement e k a ≡ accepted l
@@ -336,10 +330,10 @@ module _ (c : Call) where
       (supers-right v (a .0) (superBlocks (c .header)) 0 (c .header .«idx_blk_elmts») l (omega arith) (sym (first-slot-zero (c .header))) (a .1)))
 
 pub walk-right : (c : Call) (l : List Rec) → walk c ≡ accepted l → Right c 0 l
-unfolding walk servedTest
+unfolding walk
 walk-right c l h =
     let a = yields-inv _ _ l h in
-    let v = serves (c .header) (not-false _ (refuse-inv _ _ _ _ (a .0))) in
+    let v = tested-serves (c .header) (a .0) in
     elements-right c (c .header .«idx_blk_elmts») _ 0 _ l (inline-leads c v) (behind-right c v) (yields-inv _ _ l (a .1) .1)
 
 -- An accepted walk's list is the list of the records of all slots below the count whose place holds an address and that have a chunk, in

@@ -1,6 +1,6 @@
 -- Every definition that a small file's list and lookup are computed by: a proof that says `unfolding opened` opens them all.
 use Rattle.refusal.specs.Refusals.{figure, refuse, _then_}
-use Rattle.refusal.specs.Outcome.{_yields_}
+use Rattle.refusal.specs.Outcome.{_yields_, inRoom, also}
 use Rattle.fields.specs.LittleEndian.{leValue, leAt, leBytes}
 use Rattle.fields.specs.Numbers.{sizeTest}
 use Rattle.fields.specs.Fields.{isWidth, widthTest, inFile, undefined, addressAt, undefinedAt}
@@ -17,8 +17,8 @@ use Rattle.ea_blocks.specs.Structures.{signatureTest, structureTest, indexAt, i
 use Rattle.ea_blocks.specs.Elements.{filtered, product, chunkBytes, sizeBytes, sizeAt, maskAt, entryAt, elementSizeTest, entryTest, _gives_, insideOnly, element}
 use Rattle.ea_blocks.specs.Places.{blockReached, reached, positionOf, leading as leadingStructures, structures, pointerTest, answerOf, tested, pathAt, path}
 use Rattle.ea_walk.specs.Walk.{pagesFrom, block, blocksFrom, supers, behindInline, walk}
-use Rattle.ea_blocks.specs.Runs.{also, alsoElement, elements}
-use Rattle.ea_list.specs.Listing.{list, inRoom, listInto, listContent}
+use Rattle.ea_blocks.specs.Runs.{alsoElement, elements}
+use Rattle.ea_list.specs.Listing.{list, listInto, listContent}
 use Rattle.ea_blocks.specs.Records.{recordLength, offsetBytes, recordBytes, listBytes}
 use Rattle.ea_lookup.specs.Lookup.{slotPath, lookup}
 use Rattle.ea_worked.specs.Files.{undefinedBytes, callOn, callAt, listAt, lookupAt}

@@ -12,7 +12,7 @@ use Rattle.refusal.specs.declared.Refusal.{Refusal}
 use Rattle.refusal.specs.declared.Checked.{Checked}
 use Rattle.refusal.specs.declared.Checked.the-variants.{Passed, Refused as CheckedRefused}
 use Rattle.refusal.specs.Refusals.{refuse}
-use Rattle.refusal.specs.Outcome.{refused, accepted, _yields_}
+use Rattle.refusal.specs.Outcome.{refused, accepted, _yields_, inRoom}
 use Rattle.refusal.proofs.Tests.{by-cond, both}
 use Rattle.chunk_grid.specs.Shapes.{givenBytes}
 use Rattle.chunk_grid.specs.Values.{given}
@@ -20,7 +20,7 @@ use Rattle.chunk_grid.proofs.Shapes.{length-numbers}
 use Rattle.ea_blocks.specs.declared.Counted.{Counted}
 use Rattle.ea_blocks.specs.Records.{recordLength}
 use Rattle.ea_blocks.specs.Runs.{Listing, countedOf}
-use Rattle.ea_list.specs.Listing.{inRoom, listInto}
+use Rattle.ea_list.specs.Listing.{listInto}
 use Rattle.ea_list.specs.Door.{doorGrid, callAt, listAt}
 use Rattle.eals.specs.Text.{words, onFirst, decimal}
 use Rattle.eals.specs.Line.{lineOf, fits, lengthsRead, headOf, withLengths, lineReading, readingOf}

@@ -38,12 +38,16 @@ module _ (number w : ℕ) where
   unfolding widthTest
   width-refused e = refuse-true number w 0 _ (ap not e)
 
+  pub width-is : widthTest number w ≡ Passed → isWidth w ≡ true
+  unfolding widthTest
+  width-is h = not-false (isWidth w) (refuse-inv number w 0 _ h)
+
   -- a field of such a width that is read lies in the file
   pub field-is : (s : List ℕ) (pos : ℕ) → Passed ≡ fieldTest number s pos w → (pos + w ≤ length s) × (isWidth w ≡ true)
-  unfolding fieldTest widthTest
+  unfolding fieldTest
   field-is s pos h =
       let b = then-inv (widthTest number w) (inFile s pos w) (sym h) in
-      (inside s pos w (sym (b .1)), not-false (isWidth w) (refuse-inv number w 0 _ (b .0)))
+      (inside s pos w (sym (b .1)), width-is (b .0))
 
 module _ (s : List ℕ) (pos w : ℕ) where
   pub to-eight : w ≤ 8 → inFile s pos w ≡ sizeFieldTest s pos w

@@ -1,17 +1,19 @@
 -- `ea_list::list_walk` meets its contract. Assumes nothing.
 use borrow.Author.Needs.{needs}
 use Prim.Native.Nat.{ℕ, _+_, _*_, _/_, _≤_}
-use mathlib.Core.Path.{_≡_, refl, sym, subst, _∙_}
+use mathlib.Core.Path.{_≡_, sym, subst, _∙_}
 use mathlib.Core.List.{List}
 use native.Mathlib.Omega.{arith}
 use lib.ListN.{length}
 use Rattle.refusal.specs.Outcome.{accepted}
+use Rattle.refusal.proofs.Outcomes.{room-refused, room-small, room-fits}
 use Rattle.ea_blocks.specs.Call.{Call, Rec}
 use Rattle.ea_blocks.specs.Records.{recordLength}
+use Rattle.ea_blocks.proofs.Runs.{counted-inv, refused-inv}
 use Rattle.ea_blocks.proofs.Corners.{reads-rank}
 use Rattle.ea_walk.specs.Walk.{walk}
 use Rattle.ea_walk.specs.Values.{Walks}
-use Rattle.ea_list.proofs.Rooms.{list-fits, counted-inv, room-refused, room-small, room-fits}
+use Rattle.ea_list.proofs.Rooms.{list-fits, answer-refused, answer-accepted}
 use Rattle.ea_list.proofs.list_walk.Statement.{statement}
 use Rattle.ea_list.proofs.list_walk.Tie as tie
 
@@ -28,7 +30,7 @@ returns : tie.Need-returns
 unfolding recordLength
 returns c =
     let t = c .enum-told .given .1 in
-    λ k w. let p = room-refused (walk k) _ _ _ (sym t ∙ c .before .before .count-walk .ensures k w) in (t ∙ p .0, p .1)
+    λ k w. let p = answer-refused _ _ _ (room-refused _ _ _ (refused-inv (walk k) _ (sym t ∙ c .before .before .count-walk .ensures k w))) in (t ∙ p .0, p .1)
 
 -- the walk was accepted with n records
 abbrev start : tie.After-known-told → tie.Start
@@ -51,7 +53,7 @@ div-room c = search needs
 returns-2 : tie.Need-returns-2
 unfolding recordLength
 returns-2 c =
-    λ k w. let f = found (c .before .before) k w in room-small (walk k) _ _ (f .0) (f .1) _ (f .2) (c .if1 .taken)
+    λ k w. let f = found (c .before .before) k w in answer-refused _ _ _ (room-small (walk k) _ (f .0) (f .1) _ (f .2) (c .if1 .taken))
 
 write-walk-requires : tie.Need-write-walk-requires
 unfolding recordLength
@@ -71,7 +73,7 @@ returns-3 c =
     let t = s .before .before .before .before in
     λ k w.
     let f = found t k w in
-    room-fits (walk k) _ _ (f .0) (f .1) _ (f .2) (s .before .before .if1 .left) _ (s .write-walk .ensures k (f .0) w (f .1))
+    answer-accepted _ _ (f .0) (room-fits (walk k) _ (f .0) (f .1) _ (f .2) (s .before .before .if1 .left) ∙ f .1) _ (f .2) _ (s .write-walk .ensures k (f .0) w (f .1))
 
 pub list-walk-spec : {M : Type 1} → statement M
 list-walk-spec =

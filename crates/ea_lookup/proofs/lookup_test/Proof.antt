@@ -5,7 +5,7 @@ use Rattle.refusal.proofs.Tests.{then-first, then-second}
 use Rattle.chunk_grid.specs.Grid.{gridTest, cornerTest}
 use Rattle.chunk_grid.specs.Values.{gridOf}
 use Rattle.ea_header.specs.Served.{servedTest}
-use Rattle.ea_lookup.proofs.Calls.{tested-serves}
+use Rattle.ea_header.proofs.Served.{tested-serves}
 use borrow.Author.Needs.{needs}
 use Rattle.ea_lookup.proofs.lookup_test.Statement.{statement}
 use Rattle.ea_lookup.proofs.lookup_test.Tie as tie

@@ -2,12 +2,15 @@
 use mathlib.Core.Path.{_≡_, sym, ap, _∙_}
 use native.Mathlib.Omega.{arith}
 use Rattle.refusal.specs.declared.Checked.the-variants.{Passed}
+use Rattle.refusal.specs.Outcome.{also, inRoom}
+use Rattle.refusal.proofs.Outcomes.{room-refused}
 use Rattle.fields.proofs.Widths.{width-le}
 use Rattle.ea_header.specs.Header.{headerAt}
-use Rattle.ea_spans.specs.Walk.{Spanning, also, indexSpans, headTest, spans}
-use Rattle.ea_spans.specs.Listing.{countedOf, inRoom, roomOf, spansInto, filled, addressOf, lengthOf}
-use Rattle.ea_spans.proofs.Tests.{header-is, refused-is}
-use Rattle.ea_spans.proofs.Listing.{answers-refused, room-refused, head-passed, spans-refused, spans-are}
+use Rattle.ea_header.proofs.Header.{header-is, refused-is}
+use Rattle.ea_blocks.specs.Runs.{countedOf}
+use Rattle.ea_spans.specs.Walk.{Spanning, indexSpans, headTest, spans}
+use Rattle.ea_spans.specs.Listing.{roomOf, spansInto, filled, addressOf, lengthOf}
+use Rattle.ea_spans.proofs.Listing.{answers-refused, head-passed, spans-refused, spans-are}
 use borrow.Author.Needs.{needs}
 use Rattle.ea_spans.proofs.extensible_array_index_spans.Statement.{statement}
 use Rattle.ea_spans.specs.Values.{callAt}

@@ -4,14 +4,17 @@ use mathlib.Core.Path.{_≡_, sym, ap, _∙_}
 use mathlib.Core.List.{List}
 use native.Mathlib.Omega.{arith}
 use lib.ListN.{length}
-use Rattle.refusal.specs.Outcome.{accepted}
+use Rattle.refusal.specs.Outcome.{accepted, also, inRoom}
+use Rattle.refusal.proofs.Outcomes.{room-refused, room-small, room-fits}
 use Rattle.ea_blocks.specs.declared.Counted.the-variants.{Count}
+use Rattle.ea_blocks.specs.Runs.{countedOf}
+use Rattle.ea_blocks.proofs.Runs.{counted-inv, refused-inv}
 use Rattle.ea_spans.specs.declared.Span.{Span}
-use Rattle.ea_spans.specs.Walk.{Spanning, also, indexSpans}
-use Rattle.ea_spans.specs.Listing.{countedOf, inRoom, roomOf, filled, addressOf, lengthOf}
-use Rattle.ea_spans.proofs.Lengths.{counted-is, refused-is, counted-more, refused-more, index-few}
+use Rattle.ea_spans.specs.Walk.{Spanning, indexSpans}
+use Rattle.ea_spans.specs.Listing.{roomOf, filled, addressOf, lengthOf}
+use Rattle.ea_spans.proofs.Lengths.{counted-more, refused-more, index-few}
 use Rattle.ea_spans.proofs.Writing.{Going, going-whole, going-put}
-use Rattle.ea_spans.proofs.Listing.{answers-refused, room-refused, room-small, room-fits}
+use Rattle.ea_spans.proofs.Listing.{answers-refused}
 use borrow.Author.Needs.{needs}
 use Rattle.ea_spans.proofs.list_spans.Statement.{statement}
 use Rattle.ea_spans.specs.Values.{callAt}
@@ -35,7 +38,7 @@ enum-known-r c = search needs
 returns : tie.Need-returns
 returns c =
     let t = c .before .before .before in
-    answers-refused _ _ _ _ (room-refused _ _ _ (refused-is _ _ (refused-more _ _ _ (sym (c .before .r .given .1) ∙ t .count-index .ensures))))
+    answers-refused _ _ _ _ (room-refused _ _ _ (refused-inv _ _ (refused-more _ _ _ (sym (c .before .r .given .1) ∙ t .count-index .ensures))))
 
 -- the header's span and those behind it
 abbrev whole : tie.Start → Spanning
@@ -48,7 +51,7 @@ counted : (c : tie.After-known-told) → Count (c .before .n .given .0 .0 + 1) �
 counted c = let t = c .before .before .before in counted-more _ _ _ (sym (c .before .n .given .1) ∙ t .count-index .ensures)
 
 listed : (c : tie.After-known-told) → (l : List Span) × (whole (start c) ≡ accepted l) × (c .before .n .given .0 .0 + 1 ≡ length l)
-listed c = counted-is _ _ (counted c)
+listed c = counted-inv _ _ (counted c)
 
 too-small-requires : tie.Need-too-small-requires
 too-small-requires c κs = search needs
@@ -78,7 +81,7 @@ roomy c =
     let i = listed (c .before .before) in
     let a = c .before .if1 .left in
     let b = c .if2 .left in
-    room-fits _ _ (i .0) (i .1) (omega (arith, i .2))
+    room-fits _ _ (i .0) (i .1) _ (i .2) (omega arith)
 
 next : (c : tie.After-put-span)
     → let s = start (c .before .before .before .before .before) in

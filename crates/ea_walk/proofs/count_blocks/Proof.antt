@@ -11,7 +11,7 @@ use Rattle.refusal.specs.declared.Checked.the-variants.{Passed, Refused}
 use Rattle.ea_geometry.specs.Sizes as sizes
 use Rattle.ea_geometry.specs.Sizes.{blockElements}
 use Rattle.ea_geometry.specs.Place.{inPages}
-use Rattle.ea_walk.proofs.WalkStates.{Fixed, AtSuper, AtBlock, AtPage, BehindBlock, Done, answered, sees, at-first, supers-done, super-ended, super-skip, super-refused, super-in, blocks-done, block-behind, block-ended, block-skip, block-refused, block-run, block-run-refused, block-pages, pages-done, page-skip, page-refused, page-run-refused, page-run-last, page-run-on, slot-few, block-few, entered-at, count-few, page-ends, paged-behind, unpaged-room}
+use Rattle.ea_walk.proofs.WalkStates.{Fixed, AtSuper, AtBlock, AtPage, BehindBlock, Done, sees, at-first, supers-done, super-ended, super-skip, super-refused, super-in, blocks-done, block-behind, block-ended, block-skip, block-refused, block-run, block-run-refused, block-pages, pages-done, page-skip, page-refused, page-run-refused, page-run-last, page-run-on, slot-few, block-few, entered-at, count-few, page-ends, paged-behind, unpaged-room}
 use Rattle.fields.proofs.Widths.{width-le}
 use Rattle.ea_geometry.proofs.Counts.{all-few, pages-exact}
 use Rattle.ea_geometry.proofs.Places.{next-slot}
@@ -21,6 +21,7 @@ use Rattle.refusal.specs.Outcome.{accepted}
 use mathlib.Core.List.{[]}
 use Rattle.ea_blocks.specs.Call.{Call}
 use Rattle.ea_blocks.specs.Runs.{elements, countedOf}
+use Rattle.ea_blocks.proofs.Runs.{answered}
 use Rattle.ea_blocks.specs.declared.Counted.{Counted}
 use Rattle.ea_blocks.specs.declared.Counted.the-variants.{Count}
 use Rattle.ea_header.specs.declared.ExtensibleArrayHeader.{ExtensibleArrayHeader}

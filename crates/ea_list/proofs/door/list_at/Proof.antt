@@ -1,17 +1,18 @@
 -- `ea_list::door::list_at` meets its contract. Assumes nothing.
 use borrow.Author.Needs.{needs}
-use mathlib.Core.Path.{_≡_, refl, sym, ap, _∙_}
+use mathlib.Core.Path.{_≡_, sym, ap, _∙_}
 use Rattle.refusal.specs.declared.Checked.the-variants.{Passed}
 use Rattle.checksum.specs.Lookup3.{lookup3}
 use Rattle.chunk_grid.specs.Grid.{Grid, gridTest}
 use Rattle.chunk_grid.specs.Shapes.{givenBytes}
 use Rattle.chunk_grid.specs.Values.{given, gridOf, whereTested}
-use Rattle.ea_header.specs.Header.{headerAt, headerTest}
+use Rattle.ea_header.specs.Header.{headerAt, headerTest, parsedAt}
+use Rattle.ea_header.proofs.Header.{header-is, refused-is}
 use Rattle.ea_blocks.specs.Runs.{Listing, countedOf}
 use Rattle.ea_list.specs.Listing.{listContent}
 use Rattle.ea_list.specs.Door.{doorGrid}
 use Rattle.ea_list.proofs.Rooms.{refused-count}
-use Rattle.ea_list.proofs.Doors.{parsed-header, parsed-refused, at-no-header, at-no-grid, at-passed, judged-at}
+use Rattle.ea_list.proofs.Doors.{at-no-header, at-no-grid, at-passed, judged-at}
 use Rattle.ea_list.proofs.door.list_at.Statement.{statement}
 use Rattle.ea_list.proofs.door.list_at.Tie as tie
 
@@ -29,7 +30,8 @@ header : (c : tie.After-known-told)
     → let a = start c .args in
     (headerTest lookup3 (a .file .now) (a .address) (a .offset-size) (a .length-size) ≡ Passed)
     × (c .before .header .given .0 .0 ≡ headerAt (a .file .now) (a .address) (a .offset-size) (a .length-size))
-header c = parsed-header _ _ _ _ _ _ (sym (c .before .header .given .1) ∙ c .before .before .before .parse .ensures)
+unfolding parsedAt
+header c = let p = header-is _ _ _ (sym (c .before .header .given .1) ∙ c .before .before .before .parse .ensures) in (sym (p .0), p .1)
 
 grid-order-requires : tie.Need-grid-order-requires
 grid-order-requires c κs = search needs
@@ -85,9 +87,10 @@ returns-2 c =
     )
 
 returns-3 : tie.Need-returns-3
+unfolding parsedAt
 returns-3 c =
-    let t = parsed-refused _ _ _ _ _ _ (sym (c .before .r .given .1) ∙ c .before .before .before .parse .ensures) in
-    let p = at-no-header _ _ _ _ _ _ _ _ _ t in
+    let t = refused-is _ _ _ (sym (c .before .r .given .1) ∙ c .before .before .before .parse .ensures) in
+    let p = at-no-header _ _ _ _ _ _ _ _ _ (sym t) in
     (p .0, p .1, λ n h. absurd (refused-count _ n h))
 
 pub list-at-spec : {M : Type 1} → statement M

@@ -1,21 +1,21 @@
 -- `ea_list::walk::count_walk` meets its contract. Assumes nothing.
 use borrow.Author.Needs.{needs}
-use Prim.Native.Nat.{ℕ, _+_, _*_, _≤_}
-use mathlib.Core.Path.{_≡_, refl, sym, ap, _∙_}
-use mathlib.Core.Bool.{true, false}
+use Prim.Native.Nat.{_+_, _*_, _≤_}
+use mathlib.Core.Path.{_≡_, refl, sym, _∙_}
+use mathlib.Core.Bool.{true}
 use native.Mathlib.Omega.{arith}
 use borrow.Author.Tests.{not-true, not-false}
 use lib.ListN.{length}
 use Rattle.refusal.specs.declared.Checked.the-variants.{Passed}
 use Rattle.fields.specs.Fields.{isWidth}
 use Rattle.fields.proofs.Widths.{width-le}
-use Rattle.ea_header.specs.Served.{Served, servedTest}
-use Rattle.ea_geometry.specs.Bounded.{Bounded}
+use Rattle.ea_header.specs.Served.{servedTest}
+use Rattle.ea_header.proofs.Served.{tested-serves}
 use Rattle.ea_geometry.specs.Extents.{elementStride}
 use Rattle.ea_blocks.specs.Call.{Call}
 use Rattle.ea_blocks.specs.Structures.{indexBlock, testOf}
 use Rattle.ea_walk.specs.Values.{Walks}
-use Rattle.ea_walk.proofs.Starts.{served-header, walk-sees, start-unserved, start-refused, start-passed, inline-room, start-inline-refused, start-counted}
+use Rattle.ea_walk.proofs.Starts.{walk-sees, start-unserved, start-refused, start-passed, inline-room, start-inline-refused, start-counted}
 use Rattle.ea_walk.proofs.WalkStates.{count-few}
 use Rattle.ea_list.proofs.walk.count_walk.Statement.{statement}
 use Rattle.ea_list.proofs.walk.count_walk.Tie as tie
@@ -37,7 +37,7 @@ passed : (c : tie.After-enum-told) → servedTest (c .before .before .before .be
 passed c = sym (c .before .before .served-test .ensures) ∙ c .enum-told .given .1
 
 test-index-block-requires : tie.Need-test-index-block-requires
-test-index-block-requires c κs = served-header _ (passed c)
+test-index-block-requires c κs = tested-serves _ (passed c)
 
 enum-known-r-2 : tie.Need-enum-known-r-2
 enum-known-r-2 c = search needs
@@ -79,7 +79,7 @@ wide c = sym (c .before .is-width .ensures) ∙ not-false _ (c .if1 .left)
 
 inline-element-at-requires : tie.Need-inline-element-at-requires
 inline-element-at-requires c κs =
-    (omega arith, record { served = served-header _ (passed (told c .before .before .before)); width = width-le _ (wide c) })
+    (omega arith, record { served = tested-serves _ (passed (told c .before .before .before)); width = width-le _ (wide c) })
 
 -- the inline elements lie in the file
 room : (c : tie.After-inline-element-at)
@@ -113,7 +113,7 @@ count-blocks-requires c κs =
     let i = told (e .before .before .before .before) in
     let p = start i .pre in (
       count-few (p .0) _ _ _ _ (sym (c .before .n .given .1) ∙ e .count-elements .ensures (p .0) (p .1 .reads)),
-      served-header _ (passed (i .before .before .before)),
+      tested-serves _ (passed (i .before .before .before)),
       wide (e .before .before .before .before),
       (p .0, p .1, index i (p .0) (p .1)),
     )

@@ -10,9 +10,9 @@ use Rattle.chunk_grid.specs.Grid.{Grid, gridTest}
 use Rattle.chunk_grid.specs.Shapes.{shapeOf}
 use Rattle.chunk_grid.specs.Values.{gridOf, whereTested}
 use Rattle.chunk_grid.proofs.Shapes.{stored-shape}
-use Rattle.ea_header.specs.Header.{headerAt, headerTest}
+use Rattle.ea_header.specs.Header.{headerAt, headerTest, parsedAt}
+use Rattle.ea_header.proofs.Header.{header-is, refused-is}
 use Rattle.ea_list.specs.Door.{doorGrid}
-use Rattle.ea_list.proofs.Doors.{parsed-header, parsed-refused}
 use Rattle.ea_lookup.proofs.Doors.{door-small, header-refused, grid-refused, grid-agrees, call-found, call-agrees, all-at}
 use borrow.Author.Needs.{needs}
 use Rattle.ea_lookup.proofs.door.lookup_at.Statement.{statement}
@@ -29,7 +29,8 @@ parsed : (c : tie.After-header)
     → let a = c .before .before .before .before .before .before .before .before .args in
     (headerTest lookup3 (a .file .now) (a .address) (a .offset-size) (a .length-size) ≡ Passed)
     × (c .header .given .0 .0 ≡ headerAt (a .file .now) (a .address) (a .offset-size) (a .length-size))
-parsed c = parsed-header _ _ _ _ _ _ (sym (c .header .given .1) ∙ c .before .before .parse .ensures)
+unfolding parsedAt
+parsed c = let p = header-is _ _ _ (sym (c .header .given .1) ∙ c .before .before .parse .ensures) in (sym (p .0), p .1)
 
 grid-order-requires : tie.Need-grid-order-requires
 grid-order-requires c κs = search needs
@@ -105,9 +106,10 @@ returns-2 c =
     (λ t. call-agrees _ _ _ _ _ _ _ t _ (h .1) _ (grid-is n) _ (shape m .1) _ (x .2))
 
 returns-3 : tie.Need-returns-3
+unfolding parsedAt
 returns-3 c =
-    let e = parsed-refused _ _ _ _ _ _ (sym (c .before .r .given .1) ∙ c .before .before .before .parse .ensures) in
-    all-at _ _ _ _ _ _ _ _ (header-refused _ _ _ _ _ _ _ _ e) (λ t. absurd (refused-passed _ (sym e ∙ t)))
+    let e = refused-is _ _ _ (sym (c .before .r .given .1) ∙ c .before .before .before .parse .ensures) in
+    all-at _ _ _ _ _ _ _ _ (header-refused _ _ _ _ _ _ _ _ (sym e)) (λ t. absurd (refused-passed _ (e ∙ t)))
 
 pub lookup-at-spec : {M : Type 1} → statement M
 lookup-at-spec =

@@ -3,6 +3,7 @@ use mathlib.Core.Path.{_≡_, sym, subst, _∙_}
 use mathlib.Core.Bool.{true}
 use Rattle.refusal.specs.declared.Checked.the-variants.{Passed}
 use Rattle.fields.specs.Fields.{isWidth, widthTest}
+use Rattle.fields.proofs.Fields.{width-is}
 use Rattle.fields.proofs.Widths.{width-le}
 use Rattle.ea_geometry.specs.Bounded.{Bounded}
 use Rattle.ea_blocks.specs.declared.enter.Entered.{Entered}
@@ -12,7 +13,7 @@ use Rattle.ea_blocks.specs.Values.{Sees}
 use Rattle.ea_blocks.specs.Entered.{EnteredSuper, EnteredBlock}
 use Rattle.ea_blocks.proofs.Entering.{entered-super-room}
 use Rattle.ea_walk.proofs.WalkStates.{entered-at}
-use Rattle.ea_lookup.proofs.Ways.{wide, way-narrow, way-no-super, way-super-refused, way-no-block, way-block-refused}
+use Rattle.ea_lookup.proofs.Ways.{way-narrow, way-no-super, way-super-refused, way-no-block, way-block-refused}
 use borrow.Author.Needs.{needs}
 use Rattle.ea_lookup.proofs.paths.way_to_block.Statement.{statement}
 use Rattle.ea_lookup.proofs.paths.way_to_block.Tie as tie
@@ -32,7 +33,7 @@ enum-told c = search needs
 
 -- the offset size is a width
 width : (c : tie.After-enum-told) → isWidth (c .before .before .before .before .args .geometry .«offset_size») ≡ true
-width c = wide _ (sym (c .before .before .ensure-width .ensures) ∙ c .enum-told .given .1)
+width c = width-is _ _ (sym (c .before .before .ensure-width .ensures) ∙ c .enum-told .given .1)
 
 bounded : (c : tie.After-enum-told) → Bounded (c .before .before .before .before .args .geometry)
 bounded c = record { served = c .before .before .before .before .pre .2; width = width-le _ (width c) }

@@ -6,9 +6,9 @@ use Rattle.refusal.specs.declared.Checked.the-variants.{Passed}
 use Rattle.refusal.proofs.Tests.{then-inv}
 use Rattle.fields.specs.Fields.{undefined}
 use Rattle.ea_blocks.specs.Structures.{indexAt}
+use Rattle.ea_blocks.specs.Runs.{countedOf}
 use Rattle.ea_blocks.proofs.StructureTests.{index-seen}
 use Rattle.ea_spans.specs.Walk.{indexTest}
-use Rattle.ea_spans.specs.Listing.{countedOf}
 use Rattle.ea_spans.proofs.Tests.{seen}
 use Rattle.ea_spans.proofs.Lengths.{counted-more, refused-more, index-none, index-refused, index-tested, pointed-few}
 use borrow.Author.Needs.{needs}

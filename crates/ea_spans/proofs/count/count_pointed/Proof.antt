@@ -8,6 +8,7 @@ use borrow.Author.Needs.{needs}
 use Rattle.ea_blocks.specs.declared.structures.Pointer.{Pointer}
 use Rattle.ea_blocks.specs.Structures.{blockAt, blockUndefined}
 use Rattle.ea_blocks.specs.Values.{pointerOf}
+use Rattle.ea_blocks.proofs.Runs.{answered}
 use Rattle.refusal.specs.declared.Checked.{Checked}
 use Rattle.refusal.specs.declared.Checked.the-variants.{Passed}
 use Rattle.ea_geometry.specs.Sizes as sizes
@@ -17,7 +18,7 @@ use Rattle.ea_blocks.proofs.StructureTests.{is-direct, not-direct}
 use Rattle.ea_blocks.proofs.Pointers.{pointer-undefined, pointer-at}
 use Rattle.ea_spans.specs.Values.{callAt, EnteredSpan}
 use Rattle.ea_spans.proofs.Tests.{seen}
-use Rattle.ea_spans.proofs.Counting.{Fixed, AtSuper, AtBlock, Done, answered, few-enough, entered-at, entered-room, at-first, supers-done, super-skip, super-refused, super-named, super-in, blocks-done, block-skip, block-counted}
+use Rattle.ea_spans.proofs.Counting.{Fixed, AtSuper, AtBlock, Done, few-enough, entered-at, entered-room, at-first, supers-done, super-skip, super-refused, super-named, super-in, blocks-done, block-skip, block-counted}
 use Rattle.ea_spans.proofs.count.count_pointed.Statement.{statement}
 use Rattle.ea_spans.proofs.count.count_pointed.Tie as tie
 

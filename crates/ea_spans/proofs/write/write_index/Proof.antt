@@ -2,13 +2,14 @@
 use mathlib.Core.Path.{_≡_, sym, _∙_}
 use mathlib.Core.Bool.{false}
 use native.Mathlib.Omega.{arith}
+use Rattle.refusal.specs.Outcome.{also}
 use Rattle.refusal.proofs.Tests.{then-inv}
 use Rattle.fields.specs.Fields.{undefined}
 use Rattle.ea_geometry.specs.Sizes.{superBlocks}
 use Rattle.ea_blocks.specs.Call.{Call}
 use Rattle.ea_blocks.specs.Structures.{indexAt}
 use Rattle.ea_blocks.proofs.StructureTests.{index-seen}
-use Rattle.ea_spans.specs.Walk.{also, indexTest, supersFrom, indexSpans}
+use Rattle.ea_spans.specs.Walk.{indexTest, supersFrom, indexSpans}
 use Rattle.ea_spans.specs.Listing.{filled, addressOf, lengthOf}
 use Rattle.ea_spans.proofs.Tests.{seen, index-spanned}
 use Rattle.ea_spans.proofs.Lengths.{index-none, index-tested}

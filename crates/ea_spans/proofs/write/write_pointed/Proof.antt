@@ -7,6 +7,7 @@ use mathlib.Core.Logic.{⊎-elim}
 use native.Mathlib.Omega.{arith}
 use borrow.Author.Needs.{needs}
 use lib.ListN as lists
+use Rattle.refusal.specs.Outcome.{also}
 use Rattle.ea_geometry.specs.Sizes as sizes
 use Rattle.ea_geometry.proofs.Counts.{supers-few}
 use Rattle.ea_blocks.specs.declared.enter.Entered.the-variants.{At}
@@ -17,7 +18,7 @@ use Rattle.ea_blocks.specs.Values.{pointerOf}
 use Rattle.ea_blocks.proofs.StructureTests.{is-direct, not-direct}
 use Rattle.ea_blocks.proofs.Pointers.{pointer-undefined, pointer-at}
 use Rattle.ea_spans.specs.Spans.{blockLength}
-use Rattle.ea_spans.specs.Walk.{Spanning, also, supersFrom}
+use Rattle.ea_spans.specs.Walk.{Spanning, supersFrom}
 use Rattle.ea_spans.specs.Listing.{filled, addressOf, lengthOf}
 use Rattle.ea_spans.specs.Values.{callAt, EnteredSpan, FoundSuper}
 use Rattle.ea_spans.proofs.Tests.{seen, super-spanned, block-spanned}
