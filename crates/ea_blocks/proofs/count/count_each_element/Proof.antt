@@ -4,7 +4,7 @@ use Prim.Native.Nat.{_+_, _-_, _*_}
 use mathlib.Core.Logic.{⊎-elim}
 use native.Mathlib.Omega.{arith}
 use Rattle.ea_blocks.proofs.Sized.{sized-width, sized-stride}
-use Rattle.ea_blocks.proofs.Turns.{strideOf, Within, within-first, within-here, within-more, within-skip}
+use Rattle.ea_blocks.proofs.Turns.{strideOf, Within, within-first, within-here, within-more, within-pass}
 use Rattle.ea_blocks.proofs.Counting.{Counting, counting-first, counting-done, counting-refused, counting-absent, counting-chunk, counting-same, counting-skip}
 use Rattle.ea_blocks.proofs.count.count_each_element.Statement.{statement}
 use Rattle.ea_blocks.proofs.count.count_each_element.Tie as tie
@@ -93,7 +93,7 @@ skipped : (c : tie.After-undefined-run Inv-loop μ-loop)
     → Within (start (c .before) .args .file .now) (strideOf (start (c .before) .args .reading)) (start (c .before) .args .n) (loopOf (c .before) .loop .i + (1 + c .undefined-run .result))
     (loopOf (c .before) .loop .at + (1 + c .undefined-run .result) * strideOf (start (c .before) .args .reading))
 skipped c =
-    within-skip (loopOf (c .before) .loop .inv .0) (c .before .before .before .before .loop-test .taken) _ (c .undefined-run .ensures .1)
+    within-pass (loopOf (c .before) .loop .inv .0) (1 + c .undefined-run .result) (omega (arith, c .undefined-run .ensures .1, c .before .before .before .before .loop-test .taken)) .1
 
 add-passed : tie.Need-add-passed Inv-loop μ-loop
 add-passed c = search needs
