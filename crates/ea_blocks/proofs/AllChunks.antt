@@ -26,10 +26,10 @@ use Rattle.ea_blocks.specs.declared.Element.the-variants.{Chunk}
 use Rattle.ea_blocks.specs.declared.Counted.the-variants.{Count}
 use Rattle.ea_blocks.specs.Call.{Call}
 use Rattle.ea_blocks.specs.Defined.{definedCount, sizesFit, allChunks}
-use Rattle.ea_blocks.specs.Elements.{filtered, chunkBytes, sizeBytes, sizeAt, entryAt, elementSizeTest, entryTest, insideOnly, element}
-use Rattle.ea_blocks.specs.Runs.{alsoElement, elements, countedOf}
+use Rattle.ea_blocks.specs.Elements.{filtered, chunkBytes, sizeBytes, sizeAt, entryAt, elementSizeTest, entryTest, element}
+use Rattle.ea_blocks.specs.Runs.{Listing, alsoElement, elements, countedOf}
 use Rattle.ea_blocks.specs.Values.{Reads}
-use Rattle.ea_blocks.proofs.Sized.{plain, with-filter, same-test, gives-passed}
+use Rattle.ea_blocks.proofs.Sized.{plain, with-filter, same-test, gives-passed, element-inside}
 use Rattle.ea_blocks.proofs.Turns.{strideOf, same-stride}
 use Rattle.ea_blocks.proofs.Skipping.{skip-one}
 use Rattle.ea_blocks.proofs.Runs.{plus, plus-zero, plus-none, plus-also}
@@ -58,60 +58,61 @@ module _ {c : Call} {file : List ℕ} {r : Reading} {chunk bound down : List ℕ
       let e : r .geometry .header .«element_size» - 4 - r .geometry .«offset_size» ≡ r .geometry .header .«element_size» - (r .geometry .«offset_size» + 4) = omega arith in
       rw (reads .header, reads .offset, with-filter (r .geometry .header) p, e) refl
 
-  module _ (bytes : (i : ℕ) → getD file i 0 < 256) (t : elementSizeTest (r .geometry .header) (r .geometry .«offset_size») ≡ Passed) (n : ℕ) (all : allChunks c n ≡ true) where
-    fits : sizesFit c ≡ true
-    unfolding allChunks
-    fits = both (sizesFit c) (allInside (c .grid) n) all .0
+  module _ (bytes : (i : ℕ) → getD file i 0 < 256) (t : elementSizeTest (r .geometry .header) (r .geometry .«offset_size») ≡ Passed) where
+    module _ (fits : sizesFit c ≡ true) where
+      -- every entry passes its test
+      size-small : (pos : ℕ) → sizeBytes (c .header) (c .offsetSize) ≤ 4 → leAt (c .file) (pos + c .offsetSize) (sizeBytes (c .header) (c .offsetSize)) < 2 ^ 32
+      size-small pos l =
+          let w = sizeBytes (c .header) (c .offsetSize) in
+          let k : 2 ^ (8 * w) ≤ 2 ^ 32 = pow-mono {j = 32} (omega arith) in
+          let m : leAt (c .file) (pos + c .offsetSize) w < 2 ^ (8 * w) = rw (reads .bytes) (le-small file bytes w (pos + c .offsetSize)) in
+          omega arith
 
-    reached : (s : ℕ) → s < n → inExtent (c .grid) s ≡ Inside
-    unfolding allChunks
-    reached = all-inside (c .grid) _ _ _ _ (reads .numbered) _ _ (reads .extended) n (both (sizesFit c) (allInside (c .grid) n) all .1)
+      passes-by : (b : Bool) → filtered (c .header) ≡ b → (pos : ℕ) → entryTest c pos ≡ Passed
+      unfolding entryTest sizeAt sizesFit refuse _then_
+      passes-by true e pos =
+          let l : sizeBytes (c .header) (c .offsetSize) ≤ 4 = leb-true (sizeBytes (c .header) (c .offsetSize)) 4 (rw e at fits) in
+          rw (e, le-ltb 8 (sizeBytes (c .header) (c .offsetSize)) (omega arith)) (small-size _ (size-small pos l))
+      passes-by false e pos =
+          let l : chunkBytes (c .grid) (c .elementBytes) ≤ 2 ^ 32 - 1 = leb-true (chunkBytes (c .grid) (c .elementBytes)) (2 ^ 32 - 1) (rw e at fits) in
+          rw e (small-size _ (omega arith))
 
-    -- every entry passes its test
-    size-small : (pos : ℕ) → sizeBytes (c .header) (c .offsetSize) ≤ 4 → leAt (c .file) (pos + c .offsetSize) (sizeBytes (c .header) (c .offsetSize)) < 2 ^ 32
-    size-small pos l =
-        let w = sizeBytes (c .header) (c .offsetSize) in
-        let k : 2 ^ (8 * w) ≤ 2 ^ 32 = pow-mono {j = 32} (omega arith) in
-        let m : leAt (c .file) (pos + c .offsetSize) w < 2 ^ (8 * w) = rw (reads .bytes) (le-small file bytes w (pos + c .offsetSize)) in
-        omega arith
+      passes : (pos : ℕ) → entryTest c pos ≡ Passed
+      passes = passes-by (filtered (c .header)) refl
 
-    passes-by : (b : Bool) → filtered (c .header) ≡ b → (pos : ℕ) → entryTest c pos ≡ Passed
-    unfolding entryTest sizeAt sizesFit refuse _then_
-    passes-by true e pos =
-        let l : sizeBytes (c .header) (c .offsetSize) ≤ 4 = leb-true (sizeBytes (c .header) (c .offsetSize)) 4 (rw e at fits) in
-        rw (e, le-ltb 8 (sizeBytes (c .header) (c .offsetSize)) (omega arith)) (small-size _ (size-small pos l))
-    passes-by false e pos =
-        let l : chunkBytes (c .grid) (c .elementBytes) ≤ 2 ^ 32 - 1 = leb-true (chunkBytes (c .grid) (c .elementBytes)) (2 ^ 32 - 1) (rw e at fits) in
-        rw e (small-size _ (omega arith))
+      -- a defined element inside the extents
+      chunk-is : (pos s : ℕ) → inExtent (c .grid) s ≡ Inside → undefinedAt file pos (r .geometry .«offset_size») ≡ false → element c pos s ≡ Chunk (entryAt c pos)
+      chunk-is pos s i u =
+          let v : undefinedAt (c .file) pos (c .offsetSize) ≡ false = rw (reads .bytes, reads .offset) u in
+          element-inside c pos s (same-test reads ∙ t) i ∙ rw v (gives-passed _ _ (passes pos))
 
-    passes : (pos : ℕ) → entryTest c pos ≡ Passed
-    passes = passes-by (filtered (c .header)) refl
+      module _ (rest : Listing) where
+        defined-one : (pos j s k : ℕ) → inExtent (c .grid) s ≡ Inside → s < r .geometry .header .«num_elements» → undefinedAt file pos (r .geometry .«offset_size») ≡ false
+            → plus k (elements c pos (suc j) s rest) ≡ plus (k + 1) (elements c (pos + strideOf r) j (s + 1) rest)
+        unfolding elements alsoElement
+        defined-one pos j s k h l u =
+            rw (lt-leb (c .header .«num_elements») s (rw (reads .header) l), chunk-is pos s h u, ← same-stride reads) (plus-also k _ _)
 
-    -- a defined element
-    chunk-is : (pos s : ℕ) → s < n → undefinedAt file pos (r .geometry .«offset_size») ≡ false → element c pos s ≡ Chunk (entryAt c pos)
-    unfolding element insideOnly
-    chunk-is pos s l u =
-        let v : undefinedAt (c .file) pos (c .offsetSize) ≡ false = rw (reads .bytes, reads .offset) u in
-        gives-passed _ _ (same-test reads ∙ t) ∙ rw (v, reached s l) (gives-passed _ _ (passes pos))
+        -- a run of slots inside the extents
+        pub inside-counted : (pos j s k : ℕ) → ((i : ℕ) → i < j → inExtent (c .grid) (s + i) ≡ Inside) → s + j ≤ r .geometry .header .«num_elements»
+            → plus k (elements c pos j s rest) ≡ plus (k + definedCount file pos j (strideOf r) (r .geometry .«offset_size»)) rest
+        unfolding definedCount elements
+        inside-counted pos zero s k h l = ap (λ (m : ℕ). plus m rest) (omega arith)
+        inside-counted pos (suc j) s k h l =
+            let d = definedCount file (pos + strideOf r) j (strideOf r) (r .geometry .«offset_size») in
+            let here : inExtent (c .grid) s ≡ Inside = (let e : s + 0 ≡ s = omega arith in rw e at (h 0 (omega arith))) in
+            let others : (i : ℕ) → i < j → inExtent (c .grid) (s + 1 + i) ≡ Inside = λ i b. (let e : s + 1 + i ≡ s + suc i = omega arith in rw e (h (suc i) (omega arith))) in
+            let later : (m : ℕ) → plus m (elements c (pos + strideOf r) j (s + 1) rest) ≡ plus (m + d) rest = λ m. inside-counted (pos + strideOf r) j (s + 1) m others (omega arith) in
+            by-cond (λ (m : ℕ). plus k (elements c pos (suc j) s rest) ≡ plus (k + (m + d)) rest) (undefinedAt file pos (r .geometry .«offset_size»))
+            (λ u. ap (plus k) (skip-one reads t rest pos j s (omega arith) u) ∙ later k ∙ ap (λ (m : ℕ). plus m rest) (omega arith))
+            (λ u. defined-one pos j s k here (omega arith) u ∙ later (k + 1) ∙ ap (λ (m : ℕ). plus m rest) (omega arith))
 
-    defined-one : (pos j s k : ℕ) → s < n → s < r .geometry .header .«num_elements» → undefinedAt file pos (r .geometry .«offset_size») ≡ false
-        → plus k (elements c pos (suc j) s (accepted [])) ≡ plus (k + 1) (elements c (pos + strideOf r) j (s + 1) (accepted []))
-    unfolding elements alsoElement
-    defined-one pos j s k h l u =
-        rw (lt-leb (c .header .«num_elements») s (rw (reads .header) l), chunk-is pos s h u, ← same-stride reads) (plus-also k _ _)
-
-    counted : (pos j s k : ℕ) → s + j ≤ n → s + j ≤ r .geometry .header .«num_elements»
-        → plus k (elements c pos j s (accepted [])) ≡ Count (k + definedCount file pos j (strideOf r) (r .geometry .«offset_size»))
-    unfolding definedCount elements
-    counted pos zero s k h l = plus-none k _ refl ∙ ap Count (omega arith)
-    counted pos (suc j) s k h l =
-        let d = definedCount file (pos + strideOf r) j (strideOf r) (r .geometry .«offset_size») in
-        let same : plus k (elements c (pos + strideOf r) j (s + 1) (accepted [])) ≡ Count (k + d) = counted (pos + strideOf r) j (s + 1) k (omega arith) (omega arith) in
-        let more : plus (k + 1) (elements c (pos + strideOf r) j (s + 1) (accepted [])) ≡ Count (k + 1 + d) = counted (pos + strideOf r) j (s + 1) (k + 1) (omega arith) (omega arith) in
-        by-cond (λ (m : ℕ). plus k (elements c pos (suc j) s (accepted [])) ≡ Count (k + (m + d))) (undefinedAt file pos (r .geometry .«offset_size»))
-        (λ u. ap (plus k) (skip-one reads t (accepted []) pos j s (omega arith) u) ∙ same ∙ ap Count (omega arith))
-        (λ u. defined-one pos j s k (omega arith) (omega arith) u ∙ more ∙ ap Count (omega arith))
-
-    pub all-counted : (pos j s : ℕ) → s + j ≤ n → s + j ≤ r .geometry .header .«num_elements»
+    -- the first n slots
+    pub all-counted : (n : ℕ) → allChunks c n ≡ true → (pos j s : ℕ) → s + j ≤ n → s + j ≤ r .geometry .header .«num_elements»
         → Count (definedCount file pos j (strideOf r) (r .geometry .«offset_size»)) ≡ countedOf (elements c pos j s (accepted []))
-    all-counted pos j s h l = ap Count (omega arith) ∙ sym (counted pos j s 0 h l) ∙ plus-zero _
+    unfolding allChunks
+    all-counted n all pos j s h l =
+        let parts = both (sizesFit c) (allInside (c .grid) n) all in
+        let reached = all-inside (c .grid) _ _ _ _ (reads .numbered) _ _ (reads .extended) n (parts .1) in
+        let e = inside-counted (parts .0) (accepted []) pos j s 0 (λ i b. reached (s + i) (omega arith)) l in
+        ap Count (omega arith) ∙ sym (e ∙ plus-none _ _ refl) ∙ plus-zero _

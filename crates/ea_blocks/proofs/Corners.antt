@@ -1,11 +1,11 @@
--- What reading an element that holds a chunk says: its size has passed its test, and the lent array begins with the chunk's corner. Assumes nothing.
-use Prim.Native.Nat.{ℕ, _+_, _≤_}
+-- What an accepted element says of its size and of its slot, and the corner of a slot's chunk in a lent array. Assumes nothing.
+use Prim.Native.Nat.{ℕ, _+_, _*_, _^_, _<_, _≤_, min}
 use mathlib.Core.Path.{_≡_, refl, sym, ap, _∙_}
 use mathlib.Core.Bool.{Bool, true, false, cond}
 use mathlib.Core.List.{List, [], _∷_, _++_}
 use native.Mathlib.Omega.{arith}
 use lib.Dec.{ltb}
-use lib.ListN.{length, take, drop}
+use lib.ListN.{length, getD, take, drop, set, length-take}
 use lib.Seq.{sets, sets-eq, length-sets, take-at}
 use Rattle.refusal.specs.declared.Checked.{Checked}
 use Rattle.refusal.specs.declared.Checked.the-variants.{Passed, Refused}
@@ -15,6 +15,7 @@ use Rattle.refusal.proofs.Outcomes.{never}
 use Rattle.fields.specs.Fields.{undefinedAt}
 use Rattle.chunk_grid.specs.Grid.{Grid, gridTest, pairwise, every, below, offsets, offsetsTest, insideOr, inExtent, numbersNothing}
 use Rattle.chunk_grid.specs.Values.{shown, handed}
+use Rattle.chunk_grid.specs.declared.Line.{Line}
 use Rattle.chunk_grid.specs.declared.Offsets.{Offsets}
 use Rattle.chunk_grid.specs.declared.Offsets.the-variants.{Inside, Dropped, Refused as OffsetsRefused}
 use Rattle.chunk_grid.proofs.Grids.{accepted as grid-accepted, length-offsets}
@@ -25,7 +26,7 @@ use Rattle.ea_blocks.specs.declared.Reading.{Reading}
 use Rattle.ea_blocks.specs.Call.{Call, Rec}
 use Rattle.ea_blocks.specs.Elements.{elementSizeTest, _gives_, insideOnly, element}
 use Rattle.ea_blocks.specs.Runs.{Listing, alsoElement}
-use Rattle.ea_blocks.specs.Values.{Reads, offsetsLeft}
+use Rattle.ea_blocks.specs.Values.{Reads, ReadsLine}
 
 -- offsets that all lie below the extents are handed over as they are
 shown-below : (os es : List ℕ) → below os es ≡ true → pairwise (λ (o e : ℕ). cond (ltb o e) o 0) os es ≡ os
@@ -79,31 +80,58 @@ module _ (c : Call) (pos s : ℕ) where
   unfolding element
   element-sized corner a l h = gives-listed _ _ corner a l h
 
-  element-chunk : (x : Entry) → element c pos s ≡ Chunk x → (undefinedAt (c .file) pos (c .offsetSize) ≡ false) × (inExtent (c .grid) s ≡ Inside)
+  -- an element that holds a chunk
+  pub chunk-inside : (x : Entry) → element c pos s ≡ Chunk x → inExtent (c .grid) s ≡ Inside
   unfolding element
-  element-chunk x h =
+  chunk-inside x h =
       by-cond P (undefinedAt (c .file) pos (c .offsetSize))
       (λ u k. let z : _≡_ {A = ℕ} 0 1 = cc in absurd (omega arith))
-      (λ u k. (u, inside-chunk _ _ x k))
+      (λ u k. inside-chunk _ _ x k)
       (gives-chunk _ _ x h)
     where
       P : Element → Type 0
-      P e = e ≡ Chunk x → (undefinedAt (c .file) pos (c .offsetSize) ≡ false) × (inExtent (c .grid) s ≡ Inside)
+      P e = e ≡ Chunk x → inExtent (c .grid) s ≡ Inside
 
-  -- the lent array keeps its length
-  pub length-left : (l : List ℕ) → length (offsetsLeft c pos s l) ≡ length l
-  unfolding offsetsLeft handed
-  length-left l =
-      by-cond (λ (m : List ℕ). length m ≡ length l) (undefinedAt (c .file) pos (c .offsetSize)) (λ u. refl)
-      (λ u. by-cond (λ (m : List ℕ). length m ≡ length l) (numbersNothing (c .grid)) (λ n. refl) (λ n. length-sets l 0 (shown (c .grid) s)))
+-- the corner of a slot's chunk
+module _ (c : Call) (s : ℕ) {file : List ℕ} {r : Reading} {chunk bound down : List ℕ} (q : Reads c file r chunk bound down) where
+  pub corner-rank : length (offsets (c .grid) s) ≡ r .rank
+  corner-rank = length-offsets (c .grid) (grid-accepted (c .grid) (q .numbered .built)) s ∙ sym (q .numbered .ranked)
 
-  -- and where the element holds a chunk, begins with the chunk's corner
-  module _ {file : List ℕ} {r : Reading} {chunk bound down : List ℕ} (q : Reads c file r chunk bound down) (x : Entry) (h : element c pos s ≡ Chunk x) where
-    pub chunk-corner : (l l′ : List ℕ) → r .rank ≤ length l → l′ ≡ offsetsLeft c pos s l → take (r .rank) l′ ≡ offsets (c .grid) s
-    unfolding offsetsLeft
-    chunk-corner l l′ fits e =
-        let i = element-chunk x h in
-        rw (e, i .0, q .numbered .ranked) (handed-inside (c .grid) s (q .numbered .built) (i .1) l (rw (q .numbered .ranked) at fits))
+  -- begins a lent array that its offsets are handed over in
+  pub inside-corner : inExtent (c .grid) s ≡ Inside → (l l′ : List ℕ) → length l ≡ 32 → l′ ≡ handed (c .grid) s l → take (r .rank) l′ ≡ offsets (c .grid) s
+  inside-corner h l l′ n e =
+      let fits : r .rank ≤ length l = omega (arith, n, reads-rank q) in
+      rw (e, q .numbered .ranked) (handed-inside (c .grid) s (q .numbered .built) h l (rw (q .numbered .ranked) at fits))
 
-    pub corner-rank : length (offsets (c .grid) s) ≡ r .rank
-    corner-rank = length-offsets (c .grid) (grid-accepted (c .grid) (q .numbered .built)) s ∙ sym (q .numbered .ranked)
+-- the array keeps its length
+pub length-handed : (g : Grid) (s : ℕ) (l : List ℕ) → length (handed g s l) ≡ length l
+unfolding handed
+length-handed g s l = by-cond (λ (m : List ℕ). length m ≡ length l) (numbersNothing g) (λ n. refl) (λ n. length-sets l 0 (shown g s))
+
+-- slot i of a line that begins with slot s
+module _ {c : Call} {s : ℕ} {file : List ℕ} {r : Reading} {corner : List ℕ} {line : Line} {chunk : List ℕ} (q : ReadsLine c s file r corner line chunk) (i : ℕ) (h : i < line .slots) where
+  abbrev pub stepOf : ℕ
+  stepOf = getD chunk (line .dim) 0
+
+  together : (line .first + i) * stepOf ≡ line .first * stepOf + i * stepOf
+  together = omega arith
+
+  pub line-fits : line .first * stepOf + i * stepOf < 2 ^ 64
+  line-fits = omega (arith, together, q .lies .fits i h)
+
+  pub line-grows : i * stepOf < 2 ^ 64
+  line-grows = omega (arith, line-fits)
+
+  pub line-corner : set (take (r .rank) corner) (line .dim) (line .first * stepOf + i * stepOf) ≡ offsets (c .grid) (s + i)
+  line-corner = rw (q .begins, ← together) (sym (q .lies .corner i h))
+
+-- its first
+pub line-begins : {c : Call} {s : ℕ} {file : List ℕ} {r : Reading} {corner : List ℕ} {line : Line} {chunk : List ℕ} → ReadsLine c s file r corner line chunk
+    → line .first * getD chunk (line .dim) 0 < 2 ^ 64
+line-begins q = omega (arith, line-fits q 0 (q .lies .some))
+
+-- and the array holds the corner
+pub line-array : {c : Call} {s : ℕ} {file : List ℕ} {r : Reading} {corner : List ℕ} {line : Line} {chunk : List ℕ} → ReadsLine c s file r corner line chunk → r .rank ≤ length corner
+line-array {c} {s} {r = r} {corner = corner} q =
+    let e : min (r .rank) (length corner) ≡ r .rank = sym (length-take (r .rank) corner) ∙ ap length (q .begins) ∙ corner-rank c s (q .reads) in
+    omega arith

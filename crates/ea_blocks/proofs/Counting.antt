@@ -1,26 +1,31 @@
 -- The loop that counts a run: what is counted and what is left make the whole. Assumes nothing.
 use Prim.Native.Nat.{ℕ, _+_, _-_, _*_, _<_, _≤_}
 use mathlib.Core.Path.{_≡_, sym, ap, _∙_}
+use mathlib.Core.Bool.{true}
 use mathlib.Core.List.{List, []}
 use native.Mathlib.Nat.{add-zero, sub-zero}
 use native.Mathlib.Omega.{arith}
+use lib.ListN.{getD}
 use Rattle.refusal.specs.declared.Refusal.{Refusal}
 use Rattle.refusal.specs.declared.Checked.the-variants.{Passed}
 use Rattle.refusal.specs.Outcome.{accepted}
-use Rattle.chunk_grid.specs.Grid.{offsets}
+use Rattle.chunk_grid.specs.Grid.{offsets, inExtent}
+use Rattle.chunk_grid.specs.declared.Offsets.the-variants.{Inside}
 use Rattle.ea_blocks.specs.declared.Element.{Element}
 use Rattle.ea_blocks.specs.declared.Element.the-variants.{Absent, Chunk, Refused as ElementRefused}
 use Rattle.ea_blocks.specs.declared.Entry.{Entry}
 use Rattle.ea_blocks.specs.declared.Counted.the-variants.{Count, Refused as CountedRefused}
 use Rattle.ea_blocks.specs.declared.Reading.{Reading}
 use Rattle.ea_blocks.specs.Call.{Call}
-use Rattle.ea_blocks.specs.Defined.{undefinedRun}
+use Rattle.ea_blocks.specs.Defined.{undefinedRun, definedCount, sizesFit}
 use Rattle.ea_blocks.specs.Elements.{elementSizeTest, element}
 use Rattle.ea_blocks.specs.Runs.{alsoElement, elements, countedOf}
 use Rattle.ea_blocks.specs.Values.{Reads}
 use Rattle.ea_blocks.proofs.Turns.{strideOf, same-stride}
 use Rattle.ea_blocks.proofs.Skipping.{skip-behind}
-use Rattle.ea_blocks.proofs.Runs.{plus, plus-zero, plus-none, plus-also, run-more, run-done}
+use Rattle.ea_blocks.proofs.DefinedRuns.{defined-few}
+use Rattle.ea_blocks.proofs.AllChunks.{inside-counted}
+use Rattle.ea_blocks.proofs.Runs.{plus, plus-zero, plus-none, plus-also, run-part, run-more, run-done}
 
 -- i of n elements from pos on are passed, and `count` records of them counted; the next is at `at`
 pub record Counting (file : List ℕ) (r : Reading) (chunk bound down : List ℕ) (pos n slot at i count : ℕ) : Type 0 where
@@ -69,4 +74,22 @@ pub counting-skip : {file : List ℕ} {r : Reading} {chunk bound down : List ℕ
 counting-skip {r = r} {n = n} {slot = slot} {count = count} at i k t b h m e = record {
   few = omega (arith, k .few);
   whole = λ c reads. ap (plus count) (skip-behind reads t (accepted []) n i at slot b h m e) ∙ k .whole c reads;
+}
+
+-- m elements more, whose slots all lie in the extents, where no size is refused: those that are defined are counted
+pub counting-inside : {file : List ℕ} {r : Reading} {chunk bound down : List ℕ} {pos n slot at i count : ℕ} → Counting file r chunk bound down pos n slot at i count
+    → ((j : ℕ) → getD file j 0 < 256) → elementSizeTest (r .geometry .header) (r .geometry .«offset_size») ≡ Passed → slot + n ≤ r .geometry .header .«num_elements»
+    → (m : ℕ) → i + m ≤ n
+    → ((c : Call) → Reads c file r chunk bound down → (sizesFit c ≡ true) × ((j : ℕ) → j < m → inExtent (c .grid) (slot + i + j) ≡ Inside))
+    → (d : ℕ) → d ≡ definedCount file at m (strideOf r) (r .geometry .«offset_size»)
+    → Counting file r chunk bound down pos n slot (at + m * strideOf r) (i + m) (count + d)
+counting-inside {file} {r} {n = n} {slot = slot} {at = at} {i = i} {count = count} k bytes t b m h all d q = record {
+  few = omega (arith, k .few, defined-few file at m (strideOf r) (r .geometry .«offset_size»));
+  whole = λ c reads.
+      let e : n - i ≡ m + (n - (i + m)) = omega arith in
+      let f : slot + (i + m) ≡ slot + i + m = omega arith in
+      let rest = elements c (at + m * strideOf r) (n - (i + m)) (slot + (i + m)) (accepted []) in
+      let p : elements c at (n - i) (slot + i) (accepted []) ≡ elements c at m (slot + i) rest = rw (e, f, same-stride reads) (run-part c at m (n - (i + m)) (slot + i) (accepted [])) in
+      let a = all c reads in
+      rw q (sym (ap (plus count) p ∙ inside-counted reads bytes t (a .0) rest at m (slot + i) count (a .1) (omega arith)) ∙ k .whole c reads);
 }

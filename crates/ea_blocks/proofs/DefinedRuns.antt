@@ -1,11 +1,12 @@
 -- Elements by their addresses alone: the loops that step over undefined ones, and that count defined ones. Assumes nothing.
-use Prim.Native.Nat.{ℕ, suc, _+_, _-_, _*_, _<_, _≤_}
+use Prim.Native.Nat.{ℕ, zero, suc, _+_, _-_, _*_, _<_, _≤_}
 use mathlib.Core.Path.{_≡_, refl, sym}
 use mathlib.Core.Bool.{Bool, true, false, cond}
 use mathlib.Core.List.{List}
 use native.Mathlib.Nat.{sub-zero}
 use native.Mathlib.Omega.{arith}
 use lib.ListN.{length}
+use Rattle.refusal.proofs.Tests.{by-cond}
 use Rattle.fields.specs.Fields.{undefined, addressAt, undefinedAt}
 use Rattle.ea_blocks.specs.Defined.{undefinedRun, definedCount}
 use Rattle.ea_blocks.proofs.Turns.{Within, within-first, within-more}
@@ -71,3 +72,11 @@ module _ {file : List ℕ} {stride o pos n at i count : ℕ} (s : Finding file s
       let e : n - i ≡ suc (n - (i + 1)) = omega arith in
       let f : definedCount file at (n - i) stride o ≡ cond b 0 1 + definedCount file (at + stride) (n - (i + 1)) stride o = rw (e, u) refl in
       record { lie = within-more (s .lie) h; few = l; whole = omega (arith, s .whole) }
+
+-- there are no more of them than elements
+pub defined-few : (file : List ℕ) (pos n stride o : ℕ) → definedCount file pos n stride o ≤ n
+unfolding definedCount
+defined-few file pos zero stride o = omega arith
+defined-few file pos (suc n) stride o =
+    let l = defined-few file (pos + stride) n stride o in
+    by-cond (λ (m : ℕ). m + definedCount file (pos + stride) n stride o ≤ suc n) (undefinedAt file pos o) (λ u. omega arith) (λ u. omega arith)

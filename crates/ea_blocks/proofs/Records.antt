@@ -5,8 +5,8 @@ use mathlib.Core.List.{List, [], _∷_, _++_, append-assoc}
 use native.Mathlib.Numerals.{add-one}
 use native.Mathlib.Omega.{arith}
 use lib.Dec.{leb}
-use lib.ListN.{length, getD, take, drop, set, length-take, length-append, drop-of-length-le}
-use lib.Seq.{sets, drop-cons, getD-take}
+use lib.ListN.{length, getD, take, drop, set, length-take, length-set, length-append, drop-of-length-le}
+use lib.Seq.{sets, drop-cons, getD-take, getD-set-same, getD-set-other}
 use Rattle.fields.specs.LittleEndian.{leBytes}
 use Rattle.fields.proofs.Stored.{length-bytes}
 use Rattle.refusal.specs.declared.Checked.the-variants.{Passed}
@@ -64,37 +64,31 @@ unfolding listBytes Ranked
 length-list rank [] h = omega arith
 length-list rank (r ∷ l) h = rw (length-append, length-record r, h .0, length-list rank l (h .1)) (omega arith)
 
--- offset i of `rank` stored: the others go behind it
-module _ (rank : ℕ) (offsets : List ℕ) (fits : rank ≤ length offsets) (at : ℕ) where
-  offset-stored : (out : List ℕ) (i : ℕ) → i < rank
-      → sets (sets out (at + 8 * i) (leBytes 8 (getD offsets i 0))) (at + 8 * (i + 1)) (offsetBytes (drop (i + 1) (take rank offsets)))
-      ≡ sets out (at + 8 * i) (offsetBytes (drop i (take rank offsets)))
+-- offset i of a corner stored: the others go behind it
+module _ (corner : List ℕ) (at : ℕ) where
+  pub offset-stored : (out : List ℕ) (i : ℕ) → i < length corner → (v : ℕ) → v ≡ getD corner i 0
+      → sets (sets out (at + 8 * i) (leBytes 8 v)) (at + 8 * (i + 1)) (offsetBytes (drop (i + 1) corner)) ≡ sets out (at + 8 * i) (offsetBytes (drop i corner))
   unfolding offsetBytes
-  offset-stored out i h =
-      let inside : i < length (take rank offsets) = rw length-take (omega arith) in
-      let d : drop i (take rank offsets) ≡ getD offsets i 0 ∷ drop (i + 1) (take rank offsets) =
-      rw (drop-cons (take rank offsets) i 0 inside, getD-take rank offsets i 0 h, add-one) refl in
+  offset-stored out i h v q =
+      let d : drop i corner ≡ v ∷ drop (i + 1) corner = rw (q, add-one) (drop-cons corner i 0 h) in
       let e : at + 8 * (i + 1) ≡ at + 8 * i + 8 = omega arith in
-      rw (d, e) (sym (sets-bytes out (at + 8 * i) 8 (getD offsets i 0) _))
-
-  -- and the next with it
-  pub pair-stored : (out : List ℕ) (i : ℕ) → i + 1 < rank
-      → sets (sets (sets out (at + 8 * i) (leBytes 8 (getD offsets i 0))) (at + 8 * i + 8) (leBytes 8 (getD offsets (i + 1) 0))) (at + 8 * (i + 2)) (offsetBytes (drop (i + 2) (take rank offsets)))
-      ≡ sets out (at + 8 * i) (offsetBytes (drop i (take rank offsets)))
-  pair-stored out i h =
-      let e : at + 8 * i + 8 ≡ at + 8 * (i + 1) = omega arith in
-      let f : i + 2 ≡ i + 1 + 1 = omega arith in
-      rw (e, f) (offset-stored (sets out (at + 8 * i) (leBytes 8 (getD offsets i 0))) (i + 1) h ∙ offset-stored out i (omega arith))
+      rw (d, e) (sym (sets-bytes out (at + 8 * i) 8 v _))
 
   -- none is left
-  pub offsets-stored : (out : List ℕ) (i : ℕ) → rank ≤ i → out ≡ sets out (at + 8 * i) (offsetBytes (drop i (take rank offsets)))
+  pub offsets-stored : (out : List ℕ) (i : ℕ) → length corner ≤ i → out ≡ sets out (at + 8 * i) (offsetBytes (drop i corner))
   unfolding offsetBytes
-  offsets-stored out i h = rw (drop-of-length-le (take rank offsets) {i = i} (rw length-take (omega arith))) refl
+  offsets-stored out i h = rw (drop-of-length-le corner {i = i} h) refl
 
-  -- the last is stored
-  pub last-stored : (out : List ℕ) (i : ℕ) → i < rank → rank ≤ i + 1
-      → sets out (at + 8 * i) (leBytes 8 (getD offsets i 0)) ≡ sets out (at + 8 * i) (offsetBytes (drop i (take rank offsets)))
-  last-stored out i h k = offsets-stored (sets out (at + 8 * i) (leBytes 8 (getD offsets i 0))) (i + 1) k ∙ offset-stored out i h
+-- a corner that is an array's, but for one dimension
+module _ (rank : ℕ) (offsets : List ℕ) (fits : rank ≤ length offsets) (dim offset : ℕ) where
+  pub length-set-corner : length (set (take rank offsets) dim offset) ≡ rank
+  length-set-corner = simp (length-set, length-take) (omega arith)
+
+  pub set-here : (i : ℕ) → i < rank → i ≡ dim → offset ≡ getD (set (take rank offsets) dim offset) i 0
+  set-here i h e = rw e (sym (getD-set-same (take rank offsets) dim offset 0 (rw length-take (omega arith))))
+
+  pub set-elsewhere : (i : ℕ) → i < rank → (i ≡ dim → ⊥) → getD offsets i 0 ≡ getD (set (take rank offsets) dim offset) i 0
+  set-elsewhere i h n = sym (getD-set-other (take rank offsets) dim i offset 0 n ∙ getD-take rank offsets i 0 h)
 
 -- a record, field by field
 pub record-stored : (out : List ℕ) (at : ℕ) (r : Rec)

@@ -1,5 +1,5 @@
 -- Runs of elements: what comes before and what is left of a list, its count, and one turn of a loop over a run. Assumes nothing.
-use Prim.Native.Nat.{ℕ, zero, suc, _+_, _-_, _<_, _≤_, min}
+use Prim.Native.Nat.{ℕ, zero, suc, _+_, _-_, _*_, _<_, _≤_, min}
 use mathlib.Core.Path.{_≡_, refl, sym, ap, _∙_}
 use mathlib.Core.Bool.{Bool, true, false, cond}
 use mathlib.Core.List.{List, [], _∷_, _++_}
@@ -168,6 +168,31 @@ run-clamp c pos (suc n) s rest =
     (λ (h : c .header .«num_elements» ≤ s).
     let e : min (suc n) (c .header .«num_elements» - s) ≡ 0 = omega arith in
     rw (e, le-leb (c .header .«num_elements») s h) refl)
+    (lt-or-ge s (c .header .«num_elements»))
+
+-- a run in two parts
+run-past : (c : Call) (pos n s : ℕ) (rest : Listing) → c .header .«num_elements» ≤ s → elements c pos n s rest ≡ rest
+unfolding elements
+run-past c pos zero s rest h = refl
+run-past c pos (suc n) s rest h = rw (le-leb (c .header .«num_elements») s h) refl
+
+pub run-part : (c : Call) (pos m n s : ℕ) (rest : Listing)
+    → elements c pos (m + n) s rest ≡ elements c pos m s (elements c (pos + m * elementStride (c .header) (c .offsetSize)) n (s + m) rest)
+unfolding elements
+run-part c pos zero n s rest =
+    let e : pos + 0 * elementStride (c .header) (c .offsetSize) ≡ pos = omega arith in
+    let f : s + 0 ≡ s = omega arith in
+    let g : 0 + n ≡ n = omega arith in
+    rw (e, f, g) refl
+run-part c pos (suc m) n s rest =
+    let stride = elementStride (c .header) (c .offsetSize) in
+    let e : pos + suc m * stride ≡ pos + stride + m * stride = omega arith in
+    let f : s + suc m ≡ s + 1 + m = omega arith in
+    let g : suc m + n ≡ suc (m + n) = omega arith in
+    let then = run-part c (pos + stride) m n (s + 1) rest in
+    ⊎-elim
+    (λ (h : s < c .header .«num_elements»). rw (e, f, g, lt-leb (c .header .«num_elements») s h) (ap (alsoElement (element c pos s) (offsets (c .grid) s)) then))
+    (λ (h : c .header .«num_elements» ≤ s). rw (g, le-leb (c .header .«num_elements») s h) (sym (run-past c _ n (s + suc m) rest (omega arith))))
     (lt-or-ge s (c .header .«num_elements»))
 
 -- the first of n elements, whose slot lies below the count, and the others

@@ -1,7 +1,7 @@
 -- Elements whose size has passed its test, and their entries. Assumes nothing.
 use Prim.Native.Nat.{ℕ, _+_, _-_, _^_, _<_, _≤_}
 use mathlib.Core.Path.{_≡_, refl, sym, ap, _∙_}
-use mathlib.Core.Bool.{Bool, true, false, _&&_}
+use mathlib.Core.Bool.{Bool, true, false, cond, _&&_}
 use mathlib.Core.List.{List}
 use mathlib.Core.Logic.{⊎-elim}
 use native.Mathlib.Omega.{arith}
@@ -20,6 +20,7 @@ use Rattle.fields.proofs.Numbers.{narrow-is, too-wide-is}
 use Rattle.chunk_grid.specs.Grid.{inExtent}
 use Rattle.chunk_grid.specs.Values.{handed}
 use Rattle.chunk_grid.specs.declared.Offsets.{Offsets}
+use Rattle.chunk_grid.specs.declared.Offsets.the-variants.{Inside}
 use Rattle.ea_header.specs.declared.ExtensibleArrayHeader.{ExtensibleArrayHeader}
 use Rattle.ea_geometry.specs.Extents.{elementStride}
 use Rattle.ea_blocks.specs.declared.Element.{Element}
@@ -146,6 +147,28 @@ module _ (c : Call) (pos address : ℕ) where
       unfolding entryTest sizeAt maskAt refuse _then_
       entry-filtered l n m e f = rw (header, offset, bytes, with-filter h p, ← width, le-ltb 8 w l, e, f) refl
 
+-- the address at pos, as it is read
+module _ (c : Call) (pos : ℕ) {file : List ℕ} {o : ℕ} (bytes : c .file ≡ file) (offset : c .offsetSize ≡ o) (a : ℕ) (e : a ≡ addressAt file pos o) where
+  same-address : addressAt (c .file) pos (c .offsetSize) ≡ a
+  same-address = rw (bytes, offset) (sym e)
+
+  same-undefined : (b : Bool) → undefined o a ≡ b → undefinedAt (c .file) pos (c .offsetSize) ≡ b
+  unfolding undefinedAt
+  same-undefined b u = rw (same-address, offset) u
+
+  -- the element of a slot in the extents
+  pub undefined-inside : undefined o a ≡ true → Absent ≡ cond (undefinedAt (c .file) pos (c .offsetSize)) Absent (entryTest c pos gives Chunk (entryAt c pos))
+  undefined-inside u = rw (same-undefined true u) refl
+
+  pub entry-inside : undefined o a ≡ false → entry c pos a ≡ cond (undefinedAt (c .file) pos (c .offsetSize)) Absent (entryTest c pos gives Chunk (entryAt c pos))
+  unfolding entryAt
+  entry-inside u = rw (same-undefined false u, same-address) refl
+
+pub element-inside : (c : Call) (pos s : ℕ) → elementSizeTest (c .header) (c .offsetSize) ≡ Passed → inExtent (c .grid) s ≡ Inside
+    → element c pos s ≡ cond (undefinedAt (c .file) pos (c .offsetSize)) Absent (entryTest c pos gives Chunk (entryAt c pos))
+unfolding element insideOnly
+element-inside c pos s t i = gives-passed _ _ t ∙ rw i refl
+
 pub same-test : {c : Call} {file : List ℕ} {r : Reading} {chunk bound down : List ℕ} → Reads c file r chunk bound down
     → elementSizeTest (c .header) (c .offsetSize) ≡ elementSizeTest (r .geometry .header) (r .geometry .«offset_size»)
 same-test reads = rw (reads .header, reads .offset) refl
@@ -157,25 +180,20 @@ module _ {c : Call} {file : List ℕ} {r : Reading} {chunk bound down : List ℕ
   sized = same-test reads ∙ t
 
   module _ (a : ℕ) (e : a ≡ addressAt file pos (r .geometry .«offset_size»)) where
-    same-address : addressAt (c .file) pos (c .offsetSize) ≡ a
-    same-address = rw (reads .bytes, reads .offset) (sym e)
-
-    module _ (b : Bool) (u : undefined (r .geometry .«offset_size») a ≡ b) where
-      same-undefined : undefinedAt (c .file) pos (c .offsetSize) ≡ b
-      unfolding undefinedAt
-      same-undefined = rw (same-address, reads .offset) u
+    is-undefined : (b : Bool) → undefined (r .geometry .«offset_size») a ≡ b → undefinedAt (c .file) pos (c .offsetSize) ≡ b
+    is-undefined = same-undefined c pos (reads .bytes) (reads .offset) a e
 
     pub element-undefined : undefined (r .geometry .«offset_size») a ≡ true → (Absent ≡ element c pos s) × (l ≡ offsetsLeft c pos s l)
     unfolding element offsetsLeft
-    element-undefined u = (sym (gives-passed _ _ sized ∙ rw (same-undefined true u) refl), rw (same-undefined true u) refl)
+    element-undefined u = (sym (gives-passed _ _ sized ∙ rw (is-undefined true u) refl), rw (is-undefined true u) refl)
 
     pub element-defined : undefined (r .geometry .«offset_size») a ≡ false → (k : Offsets) (l′ : List ℕ)
         → (k ≡ inExtent (c .grid) s) × (l′ ≡ handed (c .grid) s l)
         → (insideOnly k (entry c pos a) ≡ element c pos s) × (l′ ≡ offsetsLeft c pos s l)
     unfolding element offsetsLeft entryAt
     element-defined u k l′ o = (
-      sym (gives-passed _ _ sized ∙ rw (same-undefined false u, same-address, ← o .0) refl),
-      rw (same-undefined false u) (o .1),
+      sym (gives-passed _ _ sized ∙ rw (is-undefined false u, same-address c pos (reads .bytes) (reads .offset) a e, ← o .0) refl),
+      rw (is-undefined false u) (o .1),
     )
 
 -- the element of slot s at pos, by the test of its size

@@ -44,12 +44,13 @@ module _ {file : List ℕ} {stride n i at : ℕ} (w : Within file stride n i at)
   pub within-more : Within file stride n (i + 1) (at + stride)
   within-more = record { passed = omega arith; left = omega (arith, w .left, turn) }
 
-  -- behind it and m more, too
-  pub within-skip : (m : ℕ) → m ≤ n - (i + 1) → Within file stride n (i + (1 + m)) (at + (1 + m) * stride)
-  within-skip m l =
-      let f : n - (i + 1) ≡ m + (n - (i + (1 + m))) = omega arith in
-      let e : (n - (i + 1)) * stride ≡ m * stride + (n - (i + (1 + m))) * stride = ap (λ (k : ℕ). k * stride) f ∙ omega arith in
-      record { passed = omega arith; left = omega (arith, w .left, turn) }
+-- m of them do, and behind them the others
+pub within-pass : {file : List ℕ} {stride n i at : ℕ} → Within file stride n i at → (m : ℕ) → i + m ≤ n
+    → (at + m * stride ≤ length file) × Within file stride n (i + m) (at + m * stride)
+within-pass {stride = stride} {n = n} {i = i} w m l =
+    let f : n - i ≡ m + (n - (i + m)) = omega arith in
+    let e : (n - i) * stride ≡ m * stride + (n - (i + m)) * stride = ap (λ (k : ℕ). k * stride) f ∙ omega arith in
+    (omega (arith, w .left), record { passed = omega arith; left = omega (arith, w .left) })
 
 -- where fewer lie in the file, too
 pub fewer-lie : (stride pos n left m : ℕ) → left ≤ n → pos + n * stride ≤ m → pos + left * stride ≤ m

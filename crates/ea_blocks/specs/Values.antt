@@ -3,11 +3,15 @@ use Prim.Native.Nat.{ℕ}
 use mathlib.Core.Path.{_≡_}
 use mathlib.Core.Bool.{Bool, cond}
 use mathlib.Core.List.{List}
+use lib.ListN.{take}
 use Rattle.refusal.specs.declared.Checked.{Checked}
 use Rattle.refusal.specs.declared.Checked.the-variants.{Passed, Refused}
 use Rattle.refusal.specs.Refusals.{figure}
 use Rattle.fields.specs.Fields.{undefinedAt}
+use Rattle.chunk_grid.specs.Grid.{offsets}
 use Rattle.chunk_grid.specs.Values.{Numbers, Extents, handed}
+use Rattle.chunk_grid.specs.Lines.{InLine}
+use Rattle.chunk_grid.specs.declared.Line.{Line}
 use Rattle.checksum.specs.Lookup3.{lookup3}
 use Rattle.ea_geometry.specs.declared.EaGeometry.{EaGeometry}
 use Rattle.ea_blocks.specs.declared.Reading.{Reading}
@@ -24,6 +28,14 @@ pub record Reads (c : Call) (file : List ℕ) (r : Reading) (chunk bound down : 
   pub chunked : r .«chunk_bytes» ≡ figure (chunkBytes (c .grid) (c .elementBytes))
   pub numbered : Numbers (r .rank) (r .rotated) chunk down (c .grid)
   pub extended : Extents (r .rank) (r .numbers) bound (c .grid)
+
+-- What elements of slots in a line are read by, from slot s on: the same, an array that begins with the offsets of s, and the line.
+pub record ReadsLine (c : Call) (s : ℕ) (file : List ℕ) (r : Reading) (corner : List ℕ) (line : Line) (chunk : List ℕ) : Type 0 where
+  pub bound : List ℕ
+  pub down : List ℕ
+  pub reads : Reads c file r chunk bound down
+  pub begins : take (r .rank) corner ≡ offsets (c .grid) s
+  pub lies : InLine (c .grid) chunk s line
 
 -- An element that is read leaves its slot's offsets in a lent array l, as far as they are computed.
 unfoldable pub offsetsLeft : Call → ℕ → ℕ → List ℕ → List ℕ

@@ -1,10 +1,13 @@
 // A run of elements tested, and its records counted.
 ghost use mathlib.Core.Path.{_≡_};
 ghost use mathlib.Core.List.{List, []};
-ghost use Prim.Native.Nat.{ℕ, _+_, _-_, _*_, _≤_, min};
+ghost use Prim.Native.Nat.{ℕ, _+_, _-_, _*_, _<_, _≤_, min};
 ghost use lib.ListN.{length};
 ghost use Rattle.refusal.specs.declared.Checked.the-variants.{Passed};
 ghost use Rattle.refusal.specs.Outcome.{accepted};
+ghost use Rattle.chunk_grid.specs.declared.Offsets.the-variants.{Inside};
+ghost use Rattle.chunk_grid.specs.Grid.{inExtent};
+ghost use Rattle.chunk_grid.specs.Values.{handed};
 ghost use Rattle.ea_geometry.specs.Extents.{elementStride};
 ghost use Rattle.ea_blocks.specs.Call.{Call};
 ghost use Rattle.ea_blocks.specs.Defined.{sizesFit, allChunks};
@@ -18,7 +21,10 @@ use crate::defined::count_defined;
 use crate::defined::undefined_run;
 use crate::read::read_sized_element;
 use crate::read::test_element_size;
+use chunk_grid::Offsets;
 use chunk_grid::all_inside;
+use chunk_grid::line_from;
+use chunk_grid::offsets_in_extent;
 use refusal::Checked;
 
 // Tests and counts n elements from pos on, whose slots begin at `slot`, up to the published count.
@@ -119,7 +125,40 @@ fn sizes_fit(reading: Reading) -> bool
     header.element_size as u64 - 4 - reading.geometry.offset_size <= 4
 }
 
-// A run of such elements, one by one.
+// How many of n slots from `slot` on lie in a line in the present extents, as far as it reaches; 0 where the first one doesn't lie in them.
+fn inside_slots(
+    offsets: &mut [u64; 32],
+    slot: u64,
+    n: u64,
+    reading: Reading,
+    chunk: &[u64; 32],
+    bound: &[u64; 32],
+    down: &[u64; 32],
+) -> u64
+    requires { ⌜ ((c : Call) × (file : List ℕ) × Reads c file reading (now chunk) (now bound) (now down)) ⌝ }
+    ensures { λ r. ⌜ (r ≤ n) × ((c : Call) (file : List ℕ) → Reads c file reading (now (chunk .entry)) (now (bound .entry)) (now (down .entry))
+        → (now (offsets .exit) ≡ handed (c .grid) slot (now (offsets .entry))) × ((j : ℕ) → j < r → inExtent (c .grid) (slot + j) ≡ Inside)) ⌝ }
+{
+    let rank = reading.rank as usize;
+    let rotated = reading.rotated as usize;
+    let reached = offsets_in_extent(
+        offsets,
+        slot,
+        rank,
+        rotated,
+        reading.numbers,
+        chunk,
+        bound,
+        down,
+    );
+    if let Offsets::Inside = reached {
+        let line = line_from(slot, rank, rotated, bound, down);
+        return below_count(line.slots, 0, n);
+    }
+    0
+}
+
+// A run of such elements, line by line where no size can be refused, else one by one.
 fn count_each_element(
     file: &[u8],
     pos: usize,
@@ -139,11 +178,21 @@ fn count_each_element(
 {
     let stride = reading.geometry.element_stride() as usize;
     let width = reading.geometry.offset_size;
+    let fit = sizes_fit(reading);
     let mut offsets = [0u64; 32];
     let mut count = 0;
     let mut at = pos;
     let mut i = 0;
     while i < n {
+        if fit {
+            let m = inside_slots(&mut offsets, slot + i, n - i, reading, chunk, bound, down);
+            if 0 < m {
+                count += count_defined(file, at, m, stride, width);
+                at += m as usize * stride;
+                i += m;
+                continue;
+            }
+        }
         match read_sized_element(
             file,
             at,

@@ -1,16 +1,17 @@
 // One element of an index: its tests, and what it holds.
 ghost use mathlib.Core.Path.{_≡_};
-ghost use mathlib.Core.Bool.{_&&_};
+ghost use mathlib.Core.Bool.{cond, _&&_};
 ghost use Prim.Native.Nat.{_+_, _≤_};
 ghost use lib.Dec.{ltb};
 ghost use lib.ListN.{length};
 ghost use Rattle.refusal.specs.declared.Checked.the-variants.{Passed};
 ghost use Rattle.refusal.specs.Refusals.{figure};
+ghost use Rattle.fields.specs.Fields.{undefinedAt};
 ghost use Rattle.fields.specs.Numbers.{sizeTest};
 ghost use Rattle.ea_geometry.specs.Extents.{elementStride};
-ghost use Rattle.ea_blocks.specs.declared.Element.the-variants.{Chunk};
+ghost use Rattle.ea_blocks.specs.declared.Element.the-variants.{Absent, Chunk};
 ghost use Rattle.ea_blocks.specs.Call.{Call};
-ghost use Rattle.ea_blocks.specs.Elements.{filtered, chunkBytes, sizeAt, maskAt, elementSizeTest, entryTest, _gives_, element};
+ghost use Rattle.ea_blocks.specs.Elements.{filtered, chunkBytes, sizeAt, maskAt, entryAt, elementSizeTest, entryTest, _gives_, element};
 ghost use Rattle.ea_blocks.specs.Values.{Reads, offsetsLeft, offsetsAfter};
 use crate::Element;
 use crate::Entry;
@@ -131,6 +132,27 @@ pub fn read_sized_element(
         Offsets::Dropped => Element::Absent,
         Offsets::Refused(r) => Element::Refused(r),
     }
+}
+
+// The element at pos of a slot that lies in the present extents.
+pub fn read_inside_element(
+    file: &[u8],
+    pos: usize,
+    geometry: EaGeometry,
+    chunk_bytes: u64,
+) -> Element
+    requires { ⌜ (elementSizeTest (geometry .header) (geometry .«offset_size») ≡ Passed)
+        × (pos + elementStride (geometry .header) (geometry .«offset_size») ≤ length (now file)) ⌝ }
+    ensures { λ r. ⌜ ((c : Call) → c .file ≡ now (file .entry) → c .header ≡ geometry .header → c .offsetSize ≡ geometry .«offset_size»
+        → «chunk_bytes» ≡ figure (chunkBytes (c .grid) (c .elementBytes))
+        → r ≡ cond (undefinedAt (c .file) pos (c .offsetSize)) Absent (entryTest c pos gives Chunk (entryAt c pos))) ⌝ }
+{
+    let width = geometry.offset_size;
+    let address = read_address(file, pos, width as usize);
+    if is_undefined_addr(address, width) {
+        return Element::Absent;
+    }
+    read_entry(file, pos, geometry, chunk_bytes, address.value)
 }
 
 // The entry of a defined address at pos: 29, then 30. Filtered, its size and its mask lie behind the address.

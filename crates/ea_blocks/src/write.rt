@@ -1,48 +1,101 @@
 // Records written into a lent list.
 ghost use mathlib.Core.Path.{_≡_};
 ghost use mathlib.Core.List.{List, []};
-ghost use Prim.Native.Nat.{_+_, _*_, _≤_};
-ghost use lib.ListN.{length, take};
+ghost use Prim.Native.Nat.{ℕ, _+_, _*_, _≤_};
+ghost use lib.ListN.{length, take, set};
 ghost use lib.Seq.{sets};
 ghost use Rattle.refusal.specs.Outcome.{accepted};
 ghost use Rattle.ea_geometry.specs.Extents.{elementStride};
 ghost use Rattle.ea_blocks.specs.Call.{Call, Rec};
 ghost use Rattle.ea_blocks.specs.Records.{recordLength, offsetBytes, recordBytes, listBytes};
 ghost use Rattle.ea_blocks.specs.Runs.{elements};
-ghost use Rattle.ea_blocks.specs.Values.{Reads};
+ghost use Rattle.ea_blocks.specs.Values.{Reads, ReadsLine};
 use crate::Element;
 use crate::Entry;
 use crate::Reading;
 use crate::count::below_count;
 use crate::defined::undefined_run;
-use crate::read::read_sized_element;
+use crate::read::read_inside_element;
+use chunk_grid::Line;
+use chunk_grid::Offsets;
+use chunk_grid::line_from;
+use chunk_grid::offsets_in_extent;
 use fields::bytes::put_le;
 
-// Writes the record of an entry, and of the chunk whose corner the first `rank` offsets are, from `at` on.
-pub fn put_record(out: &mut [u8], at: usize, entry: Entry, rank: usize, offsets: &[u64; 32])
+// Writes the record of an entry, and of the chunk whose corner the first `rank` offsets are, but for dimension `dim`, whose offset is `offset`,
+// from `at` on.
+pub fn put_record(
+    out: &mut [u8],
+    at: usize,
+    entry: Entry,
+    rank: usize,
+    offsets: &[u64; 32],
+    dim: usize,
+    offset: u64,
+)
     requires { ⌜ (rank ≤ 32) × (rank ≤ length (now offsets)) × (at + recordLength rank ≤ length (now out)) ⌝ }
-    ensures { λ _. ⌜ now (out .exit) ≡ sets (now (out .entry)) at (recordBytes (record { entry = entry; corner = take rank (now (offsets .entry)) })) ⌝ }
+    ensures { λ _. ⌜ now (out .exit) ≡ sets (now (out .entry)) at (recordBytes (record { entry = entry; corner = set (take rank (now (offsets .entry))) dim offset })) ⌝ }
 {
     put_le(out, at, 8, entry.address);
     put_le(out, at + 8, 4, entry.size as u64);
     put_le(out, at + 12, 4, entry.mask as u64);
-    put_offsets(out, at + 16, rank, offsets);
+    put_offsets(out, at + 16, rank, offsets, dim, offset);
 }
 
-// Writes the first `rank` offsets from `at` on. (Two a turn: a loop of one a turn is compiled to a call of memcpy, for every record.)
-fn put_offsets(out: &mut [u8], at: usize, rank: usize, offsets: &[u64; 32])
+// Writes these offsets from `at` on.
+fn put_offsets(out: &mut [u8], at: usize, rank: usize, offsets: &[u64; 32], dim: usize, offset: u64)
     requires { ⌜ (rank ≤ 32) × (rank ≤ length (now offsets)) × (at + 8 * rank ≤ length (now out)) ⌝ }
-    ensures { λ _. ⌜ now (out .exit) ≡ sets (now (out .entry)) at (offsetBytes (take rank (now (offsets .entry)))) ⌝ }
+    ensures { λ _. ⌜ now (out .exit) ≡ sets (now (out .entry)) at (offsetBytes (set (take rank (now (offsets .entry))) dim offset)) ⌝ }
 {
     let mut i = 0;
-    while i + 1 < rank {
-        put_le(out, at + 8 * i, 8, offsets[i]);
-        put_le(out, at + 8 * i + 8, 8, offsets[i + 1]);
-        i += 2;
+    while i < rank {
+        let value = if i == dim { offset } else { offsets[i] };
+        put_le(out, at + 8 * i, 8, value);
+        i += 1;
     }
-    if i < rank {
-        put_le(out, at + 8 * i, 8, offsets[i]);
+}
+
+// Writes the records of n elements from pos on, whose slots lie in a line, into the list from `at` on; the first `rank` offsets are those of
+// the first slot. Gives where they end.
+fn write_line(
+    out: &mut [u8],
+    at: usize,
+    file: &[u8],
+    pos: usize,
+    n: u64,
+    reading: Reading,
+    offsets: &[u64; 32],
+    line: Line,
+    chunk: &[u64; 32],
+) -> usize
+    requires { ⌜ ((c : Call) × (s : ℕ) × (l : List Rec) × ReadsLine c s (now file) reading (now offsets) line (now chunk)
+        × (elements c pos n s (accepted []) ≡ accepted l) × (at + length (listBytes l) ≤ length (now out))
+        × (s + n ≤ reading .geometry .header .«num_elements»))
+        × (n ≤ line .slots)
+        × (pos + n * elementStride (reading .geometry .header) (reading .geometry .«offset_size») ≤ length (now file)) ⌝ }
+    ensures { λ r. ⌜ ((c : Call) (s : ℕ) (l : List Rec) → ReadsLine c s (now (file .entry)) reading (now (offsets .entry)) line (now (chunk .entry))
+        → elements c pos n s (accepted []) ≡ accepted l → s + n ≤ reading .geometry .header .«num_elements»
+        → (now (out .exit) ≡ sets (now (out .entry)) at (listBytes l)) × (r ≡ at + length (listBytes l))) ⌝ }
+{
+    let geometry = reading.geometry;
+    let stride = geometry.element_stride() as usize;
+    let rank = reading.rank as usize;
+    let dim = line.dim as usize;
+    let step = chunk[dim];
+    let first = line.first * step;
+    let mut to = at;
+    let mut from = pos;
+    let mut i = 0;
+    while i < n {
+        let element = read_inside_element(file, from, geometry, reading.chunk_bytes);
+        if let Element::Chunk(entry) = element {
+            put_record(out, to, entry, rank, offsets, dim, first + i * step);
+            to += 16 + 8 * rank;
+        }
+        from += stride;
+        i += 1;
     }
+    to
 }
 
 // Writes the records of n elements from pos on, whose slots begin at `slot`, up to the published count, into the list from `at` on.
@@ -70,26 +123,31 @@ pub fn write_elements(
     let stride = reading.geometry.element_stride() as usize;
     let width = reading.geometry.offset_size;
     let rank = reading.rank as usize;
+    let rotated = reading.rotated as usize;
     let mut offsets = [0u64; 32];
     let mut to = at;
     let mut from = pos as usize;
     let mut i = 0;
     while i < left {
-        let element = read_sized_element(
-            file,
-            from,
-            slot + i,
-            reading,
+        let here = slot + i;
+        let reached = offsets_in_extent(
             &mut offsets,
+            here,
+            rank,
+            rotated,
+            reading.numbers,
             chunk,
             bound,
             down,
         );
-        if let Element::Chunk(entry) = element {
-            put_record(out, to, entry, rank, &offsets);
-            to += 16 + 8 * rank;
-        }
-        let passed = 1 + undefined_run(file, from + stride, left - (i + 1), stride, width);
+        let passed = if let Offsets::Inside = reached {
+            let line = line_from(here, rank, rotated, bound, down);
+            let n = below_count(line.slots, i, left);
+            to = write_line(out, to, file, from, n, reading, &offsets, line, chunk);
+            n
+        } else {
+            1 + undefined_run(file, from + stride, left - (i + 1), stride, width)
+        };
         from += passed as usize * stride;
         i += passed;
     }

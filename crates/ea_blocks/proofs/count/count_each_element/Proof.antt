@@ -1,36 +1,103 @@
 -- `ea_blocks::count::count_each_element` meets its contract. Assumes nothing.
 use borrow.Author.Needs.{needs}
-use Prim.Native.Nat.{_+_, _-_, _*_}
+use Prim.Native.Nat.{ℕ, _+_, _-_, _*_, _≤_}
+use mathlib.Core.Path.{sym, _∙_}
 use mathlib.Core.Logic.{⊎-elim}
 use native.Mathlib.Omega.{arith}
+use lib.ListN.{length}
 use Rattle.ea_blocks.proofs.Sized.{sized-width, sized-stride}
-use Rattle.ea_blocks.proofs.Turns.{strideOf, Within, within-first, within-here, within-more, within-skip}
-use Rattle.ea_blocks.proofs.Counting.{Counting, counting-first, counting-done, counting-refused, counting-absent, counting-chunk, counting-same, counting-skip}
+use Rattle.ea_blocks.proofs.Turns.{strideOf, Within, within-first, within-here, within-more, within-pass}
+use Rattle.ea_blocks.proofs.Counting.{Counting, counting-first, counting-done, counting-refused, counting-absent, counting-chunk, counting-same, counting-skip, counting-inside}
 use Rattle.ea_blocks.proofs.count.count_each_element.Statement.{statement}
 use Rattle.ea_blocks.proofs.count.count_each_element.Tie as tie
 
 abbrev Inv-loop : tie.InvT-loop
-Inv-loop file pos n slot reading chunk bound down stride width offsets₀ count₀ at₀ i₀ offsets count at i =
+Inv-loop file pos n slot reading chunk bound down stride width fit offsets₀ count₀ at₀ i₀ offsets count at i =
     Within file (strideOf reading) n i at × Counting file reading chunk bound down pos n slot at i count
 
 abbrev μ-loop : tie.MeasureT-loop
-μ-loop file pos n slot reading chunk bound down stride width offsets₀ count₀ at₀ i₀ offsets count at i =
+μ-loop file pos n slot reading chunk bound down stride width fit offsets₀ count₀ at₀ i₀ offsets count at i =
     n - i
 
 element-stride-requires : tie.Need-element-stride-requires Inv-loop μ-loop
 element-stride-requires c κs = search needs
 
+sizes-fit-requires : tie.Need-sizes-fit-requires Inv-loop μ-loop
+sizes-fit-requires c κs = search needs
+
 loop-holds : tie.Need-loop-holds Inv-loop μ-loop
-loop-holds c = (within-first _ _ _ _ (c .before .before .pre .3), counting-first _ _ _ _ _ _ _ _)
+loop-holds c = (within-first _ _ _ _ (c .before .before .before .pre .3), counting-first _ _ _ _ _ _ _ _)
+
+abbrev start : tie.At-loop Inv-loop μ-loop → tie.Start Inv-loop μ-loop
+start c = c .before .before .before .before
+
+abbrev stride : tie.At-loop Inv-loop μ-loop → ℕ
+stride c = strideOf (start c .args .reading)
+
+add-inside-slots : tie.Need-add-inside-slots Inv-loop μ-loop
+add-inside-slots c = search needs
+
+sub-inside-slots : tie.Need-sub-inside-slots Inv-loop μ-loop
+sub-inside-slots c = search needs
+
+inside-slots-requires : tie.Need-inside-slots-requires Inv-loop μ-loop
+inside-slots-requires c κs = let p = start (c .before .before .before) .pre .0 in (p .0, start (c .before .before .before) .args .file .now, p .1)
+
+-- a line of elements inside the extents
+abbrev lineOf : tie.After-inside-slots Inv-loop μ-loop → tie.At-loop Inv-loop μ-loop
+lineOf c = c .before .before .before .before
+
+line-passed : (c : tie.After-inside-slots Inv-loop μ-loop)
+    → (lineOf c .loop .at + c .inside-slots .result * stride (lineOf c) ≤ length (start (lineOf c) .args .file .now))
+    × Within (start (lineOf c) .args .file .now) (stride (lineOf c)) (start (lineOf c) .args .n) (lineOf c .loop .i + c .inside-slots .result) (lineOf c .loop .at + c .inside-slots .result * stride (lineOf c))
+line-passed c = within-pass (lineOf c .loop .inv .0) (c .inside-slots .result) (omega (arith, c .inside-slots .ensures .0, lineOf c .loop .inv .0 .passed))
+
+count-defined-requires : tie.Need-count-defined-requires Inv-loop μ-loop
+count-defined-requires c κs =
+    let l = lineOf (c .before) in
+    let p = start l .pre in
+    rw (l .before .before .element-stride .ensures) (sized-width _ _ (p .1), sized-stride _ _ (p .1), line-passed (c .before) .0)
+
+line-counted : (c : tie.After-count-defined Inv-loop μ-loop)
+    → Counting (start (lineOf (c .before .before)) .args .file .now) (start (lineOf (c .before .before)) .args .reading) (start (lineOf (c .before .before)) .args .chunk .now)
+    (start (lineOf (c .before .before)) .args .bound .now) (start (lineOf (c .before .before)) .args .down .now) (start (lineOf (c .before .before)) .args .pos) (start (lineOf (c .before .before)) .args .n)
+    (start (lineOf (c .before .before)) .args .slot) (lineOf (c .before .before) .loop .at + c .before .before .inside-slots .result * stride (lineOf (c .before .before)))
+    (lineOf (c .before .before) .loop .i + c .before .before .inside-slots .result) (lineOf (c .before .before) .loop .count + c .count-defined .result)
+line-counted c =
+    let e = c .before .before in
+    let l = lineOf e in
+    let p = start l .pre in
+    let f = l .before .sizes-fit .ensures in
+    let d = c .count-defined .ensures in
+    counting-inside (l .loop .inv .1) (λ j. omega (arith, l .before .before .before .shared-slice-known .given j)) (p .1) (p .2) (e .inside-slots .result) (line-passed e .1 .passed)
+    (λ k q. (sym (f k _ _ _ _ q) ∙ e .before .before .if1 .taken, λ j h. e .inside-slots .ensures .1 k _ q .1 j h)) _ (rw (l .before .before .element-stride .ensures) at d)
+
+add-count : tie.Need-add-count Inv-loop μ-loop
+add-count c = omega (arith, line-counted c .few, line-passed (c .before .before) .1 .passed)
+
+mul-at : tie.Need-mul-at Inv-loop μ-loop
+mul-at c = let l = line-passed (c .before .before) .0 in rw (lineOf (c .before .before) .before .before .element-stride .ensures) (omega arith)
+
+add-at : tie.Need-add-at Inv-loop μ-loop
+add-at c = let l = line-passed (c .before .before) .0 in rw (lineOf (c .before .before) .before .before .element-stride .ensures) (omega arith)
+
+add-i : tie.Need-add-i Inv-loop μ-loop
+add-i c = omega (arith, line-passed (c .before .before) .1 .passed)
+
+loop-less : tie.Need-loop-less Inv-loop μ-loop
+loop-less c = omega (arith, line-passed (c .before .before) .1 .passed, c .before .if2 .taken)
+
+loop-again : tie.Need-loop-again Inv-loop μ-loop
+loop-again c = rw (lineOf (c .before .before) .before .before .element-stride .ensures) (line-passed (c .before .before) .1, line-counted c)
 
 add-read-sized-element : tie.Need-add-read-sized-element Inv-loop μ-loop
 add-read-sized-element c = search needs
 
 read-sized-element-requires : tie.Need-read-sized-element-requires Inv-loop μ-loop
 read-sized-element-requires c κs =
-    let l = c .before .before in
-    let p = l .before .before .before .pre in
-    (p .0, p .1, within-here (l .loop .inv .0) (c .before .loop-test .taken))
+    let l = c .before .before .before in
+    let p = start l .pre in
+    (p .0, p .1, within-here (l .loop .inv .0) (c .before .before .loop-test .taken))
 
 enum-told : tie.Need-enum-told Inv-loop μ-loop
 enum-told c = search needs
@@ -38,8 +105,8 @@ enum-told c = search needs
 enum-told-2 : tie.Need-enum-told-2 Inv-loop μ-loop
 enum-told-2 c = search needs
 
-add-count : tie.Need-add-count Inv-loop μ-loop
-add-count c = search needs
+add-count-2 : tie.Need-add-count-2 Inv-loop μ-loop
+add-count-2 c = let l = c .before .before .before .before .before .before in omega (arith, l .loop .inv .1 .few, l .loop .inv .0 .passed)
 
 enum-known-r : tie.Need-enum-known-r Inv-loop μ-loop
 enum-known-r c = search needs
@@ -47,77 +114,77 @@ enum-known-r c = search needs
 returns : tie.Need-returns Inv-loop μ-loop
 returns c =
     let t = c .before .before .before in
-    let l = t .before .before .before in
-    counting-refused (l .loop .inv .1) (t .before .before .loop-test .taken) (omega (arith, l .before .before .before .pre .2))
+    let l = t .before .before .before .before in
+    counting-refused (l .loop .inv .1) (t .before .before .before .loop-test .taken) (omega (arith, start l .pre .2, t .before .before .before .loop-test .taken))
     (λ k q. t .read-sized-element .ensures k q .0) _ (c .before .r .given .1)
 
 -- behind the element that was read
 abbrev loopOf : tie.At-match-came Inv-loop μ-loop → tie.At-loop Inv-loop μ-loop
-loopOf c = c .before .before .before .before
+loopOf c = c .before .before .before .before .before
 
-abbrev start : tie.At-match-came Inv-loop μ-loop → tie.Start Inv-loop μ-loop
-start c = loopOf c .before .before .before
+abbrev taken : (c : tie.At-match-came Inv-loop μ-loop) → tie.In-loop Inv-loop μ-loop
+taken c = c .before .before .before .before
 
 inside : (c : tie.At-match-came Inv-loop μ-loop)
-    → Within (start c .args .file .now) (strideOf (start c .args .reading)) (start c .args .n) (loopOf c .loop .i + 1) (loopOf c .loop .at + strideOf (start c .args .reading))
-inside c = within-more (loopOf c .loop .inv .0) (c .before .before .before .loop-test .taken)
+    → Within (start (loopOf c) .args .file .now) (stride (loopOf c)) (start (loopOf c) .args .n) (loopOf c .loop .i + 1) (loopOf c .loop .at + stride (loopOf c))
+inside c = within-more (loopOf c .loop .inv .0) (taken c .loop-test .taken)
 
 counted : (c : tie.At-match-came Inv-loop μ-loop)
-    → Counting (start c .args .file .now) (start c .args .reading) (start c .args .chunk .now) (start c .args .bound .now) (start c .args .down .now)
-    (start c .args .pos) (start c .args .n) (start c .args .slot) (loopOf c .loop .at + strideOf (start c .args .reading)) (loopOf c .loop .i + 1) (c .match .count)
+    → Counting (start (loopOf c) .args .file .now) (start (loopOf c) .args .reading) (start (loopOf c) .args .chunk .now) (start (loopOf c) .args .bound .now) (start (loopOf c) .args .down .now)
+    (start (loopOf c) .args .pos) (start (loopOf c) .args .n) (start (loopOf c) .args .slot) (loopOf c .loop .at + stride (loopOf c)) (loopOf c .loop .i + 1) (c .match .count)
 counted c =
     let l = loopOf c in
-    let t = c .before .before .before .loop-test .taken in
-    let b = start c .pre .2 in
+    let t = taken c .loop-test .taken in
+    let b = start l .pre .2 in
     ⊎-elim
     (λ w. counting-same (counting-absent (l .loop .inv .1) t (omega arith) (λ k q. c .before .read-sized-element .ensures k q .0) (w .1 .given .1)) _ (w .2))
     (λ w. counting-same (counting-chunk (l .loop .inv .1) t (omega arith) (λ k q. c .before .read-sized-element .ensures k q .0) _ (w .1 .given .1)) _ (w .2))
     (c .match .came)
 
 add-undefined-run : tie.Need-add-undefined-run Inv-loop μ-loop
-add-undefined-run c = omega (arith, loopOf c .before .element-stride .ensures, inside c)
+add-undefined-run c = omega (arith, loopOf c .before .before .element-stride .ensures, inside c)
 
 add-undefined-run-2 : tie.Need-add-undefined-run-2 Inv-loop μ-loop
-add-undefined-run-2 c = search needs
+add-undefined-run-2 c = omega (arith, taken c .loop-test .taken)
 
 sub-undefined-run : tie.Need-sub-undefined-run Inv-loop μ-loop
-sub-undefined-run c = search needs
+sub-undefined-run c = omega (arith, taken c .loop-test .taken)
 
 undefined-run-requires : tie.Need-undefined-run-requires Inv-loop μ-loop
 undefined-run-requires c κs =
-    let p = start c .pre in
-    rw (loopOf c .before .element-stride .ensures) (sized-width _ _ (p .1), sized-stride _ _ (p .1), inside c .left)
+    let p = start (loopOf c) .pre in
+    rw (loopOf c .before .before .element-stride .ensures) (sized-width _ _ (p .1), sized-stride _ _ (p .1), inside c .left)
 
 -- and behind the undefined ones
 skipped : (c : tie.After-undefined-run Inv-loop μ-loop)
-    → Within (start (c .before) .args .file .now) (strideOf (start (c .before) .args .reading)) (start (c .before) .args .n) (loopOf (c .before) .loop .i + (1 + c .undefined-run .result))
-    (loopOf (c .before) .loop .at + (1 + c .undefined-run .result) * strideOf (start (c .before) .args .reading))
+    → Within (start (loopOf (c .before)) .args .file .now) (stride (loopOf (c .before))) (start (loopOf (c .before)) .args .n) (loopOf (c .before) .loop .i + (1 + c .undefined-run .result))
+    (loopOf (c .before) .loop .at + (1 + c .undefined-run .result) * stride (loopOf (c .before)))
 skipped c =
-    within-skip (loopOf (c .before) .loop .inv .0) (c .before .before .before .before .loop-test .taken) _ (c .undefined-run .ensures .1)
+    within-pass (loopOf (c .before) .loop .inv .0) (1 + c .undefined-run .result) (omega (arith, c .undefined-run .ensures .1, taken (c .before) .loop-test .taken)) .1
 
 add-passed : tie.Need-add-passed Inv-loop μ-loop
-add-passed c = search needs
+add-passed c = omega (arith, skipped c .passed)
 
-mul-at : tie.Need-mul-at Inv-loop μ-loop
-mul-at c = let l = skipped c .left in rw (loopOf (c .before) .before .element-stride .ensures) (omega arith)
+mul-at-2 : tie.Need-mul-at-2 Inv-loop μ-loop
+mul-at-2 c = let l = skipped c .left in rw (loopOf (c .before) .before .before .element-stride .ensures) (omega arith)
 
-add-at : tie.Need-add-at Inv-loop μ-loop
-add-at c = let l = skipped c .left in rw (loopOf (c .before) .before .element-stride .ensures) (omega arith)
+add-at-2 : tie.Need-add-at-2 Inv-loop μ-loop
+add-at-2 c = let l = skipped c .left in rw (loopOf (c .before) .before .before .element-stride .ensures) (omega arith)
 
-add-i : tie.Need-add-i Inv-loop μ-loop
-add-i c = search needs
+add-i-2 : tie.Need-add-i-2 Inv-loop μ-loop
+add-i-2 c = omega (arith, skipped c .passed)
 
-loop-less : tie.Need-loop-less Inv-loop μ-loop
-loop-less c = search needs
+loop-less-2 : tie.Need-loop-less-2 Inv-loop μ-loop
+loop-less-2 c = omega (arith, skipped c .passed)
 
-loop-again : tie.Need-loop-again Inv-loop μ-loop
-loop-again c =
-    let p = start (c .before) .pre in
-    let e = loopOf (c .before) .before .element-stride .ensures in
+loop-again-2 : tie.Need-loop-again-2 Inv-loop μ-loop
+loop-again-2 c =
+    let p = start (loopOf (c .before)) .pre in
+    let e = loopOf (c .before) .before .before .element-stride .ensures in
     let u = c .undefined-run .ensures .0 in
     rw e (
       skipped c,
-      counting-skip _ _ (counted (c .before)) (p .1) (p .2) (c .before .before .before .before .loop-test .taken) _ (rw e at u),
+      counting-skip _ _ (counted (c .before)) (p .1) (p .2) (taken (c .before) .loop-test .taken) _ (rw e at u),
     )
 
 returns-2 : tie.Need-returns-2 Inv-loop μ-loop
@@ -130,12 +197,23 @@ count-each-element-spec =
     Inv-loop
     μ-loop
     element-stride-requires
+    sizes-fit-requires
     loop-holds
+    add-inside-slots
+    sub-inside-slots
+    inside-slots-requires
+    count-defined-requires
+    add-count
+    mul-at
+    add-at
+    add-i
+    loop-less
+    loop-again
     add-read-sized-element
     read-sized-element-requires
     enum-told
     enum-told-2
-    add-count
+    add-count-2
     enum-known-r
     returns
     add-undefined-run
@@ -143,9 +221,9 @@ count-each-element-spec =
     sub-undefined-run
     undefined-run-requires
     add-passed
-    mul-at
-    add-at
-    add-i
-    loop-less
-    loop-again
+    mul-at-2
+    add-at-2
+    add-i-2
+    loop-less-2
+    loop-again-2
     returns-2)

@@ -1,30 +1,27 @@
 -- `ea_blocks::write::write_elements` meets its contract. Assumes nothing.
 use borrow.Author.Needs.{needs}
 use Prim.Native.Nat.{ℕ, _+_, _-_, _*_, _<_, _≤_}
-use mathlib.Core.Path.{_≡_, refl, ap, _∙_}
+use mathlib.Core.Path.{_≡_, refl, sym, ap, _∙_}
 use mathlib.Core.Logic.{⊎-elim}
 use native.Mathlib.Omega.{arith}
 use mathlib.Core.List.{List}
 use lib.ListN.{length}
-use lib.Seq.{length-sets}
 use Rattle.refusal.specs.declared.Checked.the-variants.{Passed}
-use Rattle.ea_blocks.specs.declared.Entry.{Entry}
-use Rattle.ea_blocks.specs.declared.Element.the-variants.{Chunk}
 use Rattle.ea_blocks.specs.Call.{Call, Rec}
 use Rattle.ea_blocks.specs.Elements.{elementSizeTest}
-use Rattle.ea_blocks.specs.Records.{recordLength, listBytes}
+use Rattle.ea_blocks.specs.Records.{listBytes}
 use Rattle.ea_blocks.proofs.Sized.{sized-width, sized-stride}
-use Rattle.ea_blocks.proofs.Turns.{strideOf, Within, within-first, within-here, within-more, within-skip, fewer-lie}
-use Rattle.ea_blocks.proofs.Writing.{Listed, listed-left, Writing, writing-first, writing-done, writing-sized, writing-array, writing-other, writing-fits, writing-chunk, writing-same, writing-skip}
+use Rattle.ea_blocks.proofs.Turns.{strideOf, Within, within-first, within-more, within-pass, fewer-lie}
+use Rattle.ea_blocks.proofs.Writing.{Listed, listed-left, left-done, Writing, writing-first, writing-same, writing-sized, writing-array, writing-outside, line-some, line-required, line-length, writing-line}
 use Rattle.ea_blocks.proofs.write.write_elements.Statement.{statement}
 use Rattle.ea_blocks.proofs.write.write_elements.Tie as tie
 
 abbrev Inv-loop : tie.InvT-loop
-Inv-loop out₀ at file pos n slot reading chunk bound down left stride width rank offsets₀ to₀ from₀ i₀ out offsets to from i =
+Inv-loop out₀ at file pos n slot reading chunk bound down left stride width rank rotated offsets₀ to₀ from₀ i₀ out offsets to from i =
     Within file (strideOf reading) left i from × Writing file reading chunk bound down pos left slot out₀ at out from i to × (length out ≡ length out₀) × (length offsets ≡ 32)
 
 abbrev μ-loop : tie.MeasureT-loop
-μ-loop out₀ at file pos n slot reading chunk bound down left stride width rank offsets₀ to₀ from₀ i₀ out offsets to from i =
+μ-loop out₀ at file pos n slot reading chunk bound down left stride width rank rotated offsets₀ to₀ from₀ i₀ out offsets to from i =
     left - i
 
 below-count-requires : tie.Need-below-count-requires Inv-loop μ-loop
@@ -33,108 +30,73 @@ below-count-requires c κs = search needs
 element-stride-requires : tie.Need-element-stride-requires Inv-loop μ-loop
 element-stride-requires c κs = search needs
 
--- the run that was counted before
-abbrev start : tie.After-below-count Inv-loop μ-loop → tie.Start Inv-loop μ-loop
-start c = c .before .before .before
-
-given : (c : tie.After-below-count Inv-loop μ-loop)
-    → (k : Call) × (l : List Rec)
-    × Listed (start c .args .file .now) (start c .args .reading) (start c .args .chunk .now) (start c .args .bound .now) (start c .args .down .now) (start c .args .pos) (c .below-count .result) (start c .args .slot) k l
-    × (start c .args .at + length (listBytes l) ≤ length (start c .args .out .now))
-given c = let p = start c .pre .0 in (p .0, p .1, listed-left _ _ (p .2) _ _ _ _ (c .below-count .ensures) (p .3), p .4)
-
 loop-holds : tie.Need-loop-holds Inv-loop μ-loop
 loop-holds c =
     let p = c .before .before .before .before .pre in
     let e = c .before .below-count .ensures in
     (within-first _ _ _ _ (fewer-lie _ _ _ _ _ (omega arith) (p .1)), writing-first _ _ _ _ _ _ _ _ _ _, refl, search needs)
 
--- the element that is next lies below the count
-abbrev begun : tie.In-loop Inv-loop μ-loop → tie.After-below-count Inv-loop μ-loop
-begun c = c .before .before .before
+-- the run that was counted before, and how many of its elements lie below the count
+abbrev counted : tie.At-loop Inv-loop μ-loop → tie.After-below-count Inv-loop μ-loop
+counted c = c .before .before
 
-below : (c : tie.In-loop Inv-loop μ-loop) → start (begun c) .args .slot + c .before .loop .i < start (begun c) .args .reading .geometry .header .«num_elements»
-below c = omega (arith, begun c .below-count .ensures)
+abbrev start : tie.At-loop Inv-loop μ-loop → tie.Start Inv-loop μ-loop
+start c = counted c .before .before .before
 
-add-read-sized-element : tie.Need-add-read-sized-element Inv-loop μ-loop
-add-read-sized-element c = search needs
+abbrev stride : tie.At-loop Inv-loop μ-loop → ℕ
+stride c = strideOf (start c .args .reading)
 
-read-sized-element-requires : tie.Need-read-sized-element-requires Inv-loop μ-loop
-read-sized-element-requires c κs =
-    let l = c .before .before in
-    let t = c .before .loop-test .taken in
-    let d = given (l .before .before) in
-    ((d .0, d .2 .reads), writing-sized (l .loop .inv .1) t (below (c .before)) _ _ (d .2), within-here (l .loop .inv .0) t)
+given : (c : tie.At-loop Inv-loop μ-loop)
+    → (k : Call) × (l : List Rec)
+    × Listed (start c .args .file .now) (start c .args .reading) (start c .args .chunk .now) (start c .args .bound .now) (start c .args .down .now) (start c .args .pos) (counted c .below-count .result) (start c .args .slot) k l
+    × (start c .args .at + length (listBytes l) ≤ length (start c .args .out .now))
+given c = let p = start c .pre .0 in (p .0, p .1, listed-left _ _ (p .2) _ _ _ _ (counted c .below-count .ensures) (p .3), p .4)
 
-enum-known-element : tie.Need-enum-known-element Inv-loop μ-loop
-enum-known-element c = search needs
+below : (c : tie.In-loop Inv-loop μ-loop) → start (c .before) .args .slot + counted (c .before) .below-count .result ≤ start (c .before) .args .reading .geometry .header .«num_elements»
+below c = omega (arith, counted (c .before) .below-count .ensures, c .loop-test .taken)
 
--- the record of a chunk has room
-abbrev rankOf : tie.After-read-sized-element Inv-loop μ-loop → ℕ
-rankOf c = start (begun (c .before .before)) .args .reading .rank
+add-here : tie.Need-add-here Inv-loop μ-loop
+add-here c = omega (arith, below c, c .loop-test .taken)
 
-fits : (c : tie.After-read-sized-element Inv-loop μ-loop) (x : Entry) → c .read-sized-element .result ≡ Chunk x
-    → (rankOf c ≤ 32) × (rankOf c ≤ length (c .read-sized-element .last .1 .1 .1 .1 .0))
-    × (c .before .before .before .loop .to + recordLength (rankOf c) ≤ length (c .before .before .before .loop .out))
-fits c x e =
-    let l = c .before .before .before in
-    let d = given (l .before .before) in
-    let f = writing-fits (l .loop .inv .1) (c .before .before .loop-test .taken) (below (c .before .before)) _ (l .loop .inv .3) (c .read-sized-element .ensures) e _ _ (d .2) in
-    (f .0, f .1, omega (arith, f .2, d .3, l .loop .inv .2))
+offsets-in-extent-requires : tie.Need-offsets-in-extent-requires Inv-loop μ-loop
+offsets-in-extent-requires c κs = let d = given (c .before .before) in (d .0 .grid, d .2 .reads .numbered, d .2 .reads .extended)
 
-put-record-requires : tie.Need-put-record-requires Inv-loop μ-loop
-put-record-requires c κs = fits (c .before .before .before .before .before) _ (c .before .before .before .element .given .1)
+enum-told : tie.Need-enum-told Inv-loop μ-loop
+enum-told c = search needs
 
-mul-to : tie.Need-mul-to Inv-loop μ-loop
-mul-to c =
-    let r = c .before .before .before .before .before .before .before .before in
-    omega (arith, fits r _ (c .before .before .before .before .before .before .element .given .1))
+-- an element inside the extents
+abbrev loopOf : tie.After-offsets-in-extent Inv-loop μ-loop → tie.At-loop Inv-loop μ-loop
+loopOf c = c .before .before .before
 
-add-to : tie.Need-add-to Inv-loop μ-loop
-add-to c =
-    let r = c .before .before .before .before .before .before .before .before in
-    omega (arith, fits r _ (c .before .before .before .before .before .before .element .given .1))
+line-from-requires : tie.Need-line-from-requires Inv-loop μ-loop
+line-from-requires c κs =
+    let e = c .before .before in
+    let d = given (loopOf e) in
+    let q = d .2 .reads in
+    (d .0 .grid, start (loopOf e) .args .chunk .now, start (loopOf e) .args .reading .numbers, q .numbered, q .extended, sym (e .offsets-in-extent .ensures (d .0 .grid) (q .numbered) (q .extended) .0) ∙ c .enum-told .given .1)
 
-add-to-2 : tie.Need-add-to-2 Inv-loop μ-loop
-unfolding recordLength
-add-to-2 c =
-    let r = c .before .before .before .before .before .before .before .before in
-    omega (arith, fits r _ (c .before .before .before .before .before .before .element .given .1))
+below-count-requires-2 : tie.Need-below-count-requires-2 Inv-loop μ-loop
+below-count-requires-2 c κs = search needs
 
--- behind the element that was read
-abbrev loopOf : tie.At-match-came Inv-loop μ-loop → tie.At-loop Inv-loop μ-loop
-loopOf c = c .before .before .before .before
+write-line-requires : tie.Need-write-line-requires Inv-loop μ-loop
+write-line-requires c κs =
+    let m = c .before .before in
+    let e = m .before .before .before .before in
+    let l = loopOf e in
+    let d = given l in
+    let q = line-required (l .loop .inv .1) (e .before .before .loop-test .taken) (below (e .before .before)) _ (l .loop .inv .3) (e .offsets-in-extent .ensures) (m .before .before .enum-told .given .1) (m .before .line-from .ensures) (m .below-count2 .ensures) (d .2) (omega (arith, d .3, l .loop .inv .2)) in
+    (q .0, q .1, within-pass (l .loop .inv .0) (m .below-count2 .result) (omega (arith, m .below-count2 .ensures, l .loop .inv .0 .passed)) .0)
 
-abbrev args : (c : tie.At-match-came Inv-loop μ-loop) → tie.Start Inv-loop μ-loop
-args c = start (loopOf c .before .before)
+-- an element outside
+sized : (c : tie.After-offsets-in-extent Inv-loop μ-loop) → elementSizeTest (start (loopOf c) .args .reading .geometry .header) (start (loopOf c) .args .reading .geometry .«offset_size») ≡ Passed
+sized c = writing-sized (loopOf c .loop .inv .1) (c .before .before .loop-test .taken) (below (c .before .before)) (given (loopOf c) .2)
 
-inside : (c : tie.At-match-came Inv-loop μ-loop)
-    → Within (args c .args .file .now) (strideOf (args c .args .reading)) (loopOf c .before .before .below-count .result) (loopOf c .loop .i + 1)
-    (loopOf c .loop .from + strideOf (args c .args .reading))
-inside c = within-more (loopOf c .loop .inv .0) (c .before .before .before .loop-test .taken)
-
-sized : (c : tie.At-match-came Inv-loop μ-loop) → elementSizeTest (args c .args .reading .geometry .header) (args c .args .reading .geometry .«offset_size») ≡ Passed
-sized c =
-    let d = given (loopOf c .before .before) in
-    writing-sized (loopOf c .loop .inv .1) (c .before .before .before .loop-test .taken) (below (c .before .before .before)) _ _ (d .2)
-
-written : (c : tie.At-match-came Inv-loop μ-loop)
-    → Writing (args c .args .file .now) (args c .args .reading) (args c .args .chunk .now) (args c .args .bound .now) (args c .args .down .now)
-    (args c .args .pos) (loopOf c .before .before .below-count .result) (args c .args .slot) (args c .args .out .now) (args c .args .at)
-    (c .match .out) (loopOf c .loop .from + strideOf (args c .args .reading)) (loopOf c .loop .i + 1) (c .match .to)
-unfolding recordLength
-written c =
-    let r = c .before in
-    let l = loopOf c in
-    let t = r .before .before .loop-test .taken in
-    let b = below (r .before .before) in
-    ⊎-elim
-    (λ w. writing-same (writing-chunk (l .loop .inv .1) t b _ (l .loop .inv .3) (r .read-sized-element .ensures) (w .1 .given .1) _ (w .5 .ensures)) _ (w .8) _ (w .9))
-    (λ w. writing-same (writing-other (l .loop .inv .1) t b _ (l .loop .inv .3) (r .read-sized-element .ensures) (λ x q. ⊎-elim (λ z. omega arith) (λ z. omega arith) (rw q at (w .0 .keys2)))) _ (w .1) _ (w .2))
-    (c .match .came)
+inside : (c : tie.After-offsets-in-extent Inv-loop μ-loop)
+    → Within (start (loopOf c) .args .file .now) (stride (loopOf c)) (counted (loopOf c) .below-count .result) (loopOf c .loop .i + 1) (loopOf c .loop .from + stride (loopOf c))
+inside c = within-more (loopOf c .loop .inv .0) (c .before .before .loop-test .taken)
 
 add-undefined-run : tie.Need-add-undefined-run Inv-loop μ-loop
-add-undefined-run c = omega (arith, loopOf c .before .element-stride .ensures, inside c)
+add-undefined-run c = omega (arith, loopOf (c .before) .before .element-stride .ensures, inside (c .before))
 
 add-undefined-run-2 : tie.Need-add-undefined-run-2 Inv-loop μ-loop
 add-undefined-run-2 c = search needs
@@ -144,45 +106,77 @@ sub-undefined-run c = search needs
 
 undefined-run-requires : tie.Need-undefined-run-requires Inv-loop μ-loop
 undefined-run-requires c κs =
-    rw (loopOf c .before .element-stride .ensures) (sized-width _ _ (sized c), sized-stride _ _ (sized c), inside c .left)
-
--- and behind the undefined ones
-skipped : (c : tie.After-undefined-run Inv-loop μ-loop)
-    → Within (args (c .before) .args .file .now) (strideOf (args (c .before) .args .reading)) (loopOf (c .before) .before .before .below-count .result)
-    (loopOf (c .before) .loop .i + (1 + c .undefined-run .result)) (loopOf (c .before) .loop .from + (1 + c .undefined-run .result) * strideOf (args (c .before) .args .reading))
-skipped c =
-    within-skip (loopOf (c .before) .loop .inv .0) (c .before .before .before .before .loop-test .taken) _ (c .undefined-run .ensures .1)
+    let e = c .before in
+    rw (loopOf e .before .element-stride .ensures) (sized-width _ _ (sized e), sized-stride _ _ (sized e), inside e .left)
 
 add-passed : tie.Need-add-passed Inv-loop μ-loop
 add-passed c = search needs
 
+-- behind the elements that are passed
+passes : (c : tie.At-match-came Inv-loop μ-loop) → (0 < c .match .passed) × (loopOf (c .before) .loop .i + c .match .passed ≤ counted (loopOf (c .before)) .below-count .result)
+passes c =
+    let e = c .before in
+    let l = loopOf e in
+    let t = e .before .before .loop-test .taken in
+    ⊎-elim
+    (λ w. rw (w .11) (line-some (l .loop .inv .1) t (below (e .before .before)) _ (l .loop .inv .3) (e .offsets-in-extent .ensures) (w .1 .given .1) (w .2 .ensures) (w .3 .ensures) (given l .2 .reads)))
+    (λ w. (omega (arith, w .4), omega (arith, w .4, w .1 .ensures .1, t)))
+    (c .match .came)
+
+passed : (c : tie.At-match-came Inv-loop μ-loop)
+    → (loopOf (c .before) .loop .from + c .match .passed * stride (loopOf (c .before)) ≤ length (start (loopOf (c .before)) .args .file .now))
+    × Within (start (loopOf (c .before)) .args .file .now) (stride (loopOf (c .before))) (counted (loopOf (c .before)) .below-count .result) (loopOf (c .before) .loop .i + c .match .passed)
+    (loopOf (c .before) .loop .from + c .match .passed * stride (loopOf (c .before)))
+passed c = within-pass (loopOf (c .before) .loop .inv .0) (c .match .passed) (passes c .1)
+
+written : (c : tie.At-match-came Inv-loop μ-loop)
+    → Writing (start (loopOf (c .before)) .args .file .now) (start (loopOf (c .before)) .args .reading) (start (loopOf (c .before)) .args .chunk .now) (start (loopOf (c .before)) .args .bound .now)
+    (start (loopOf (c .before)) .args .down .now) (start (loopOf (c .before)) .args .pos) (counted (loopOf (c .before)) .below-count .result) (start (loopOf (c .before)) .args .slot)
+    (start (loopOf (c .before)) .args .out .now) (start (loopOf (c .before)) .args .at) (c .match .out) (loopOf (c .before) .loop .from + c .match .passed * stride (loopOf (c .before)))
+    (loopOf (c .before) .loop .i + c .match .passed) (c .match .to)
+written c =
+    let e = c .before in
+    let l = loopOf e in
+    let t = e .before .before .loop-test .taken in
+    let b = below (e .before .before) in
+    ⊎-elim
+    (λ w. rw (w .11) (writing-same (writing-line (l .loop .inv .1) t b _ (l .loop .inv .3) (e .offsets-in-extent .ensures) (w .1 .given .1) (w .2 .ensures) (w .3 .ensures) (w .6 .ensures)) (w .9) (w .10)))
+    (λ w.
+    let u = w .1 .ensures .0 in
+    rw (w .4) (writing-same (writing-outside (l .loop .inv .1) t b _ (l .loop .inv .3) (e .offsets-in-extent .ensures) (λ q. ⊎-elim (λ z. omega arith) (λ z. omega arith) (rw q at (w .0 .keys2))) (given l .2) _ (rw (l .before .element-stride .ensures) at u)) (w .2) (w .3)))
+    (c .match .came)
+
+kept : (c : tie.At-match-came Inv-loop μ-loop) → length (c .match .out) ≡ length (loopOf (c .before) .loop .out)
+kept c =
+    let e = c .before in
+    let l = loopOf e in
+    ⊎-elim
+    (λ w. ap length (w .9) ∙ line-length (l .loop .inv .1) (e .before .before .loop-test .taken) (below (e .before .before)) _ (l .loop .inv .3) (e .offsets-in-extent .ensures) (w .1 .given .1) (w .2 .ensures) (w .3 .ensures) (w .6 .ensures) (given l .2))
+    (λ w. ap length (w .2))
+    (c .match .came)
+
 mul-from : tie.Need-mul-from Inv-loop μ-loop
-mul-from c = let l = skipped c .left in rw (loopOf (c .before) .before .element-stride .ensures) (omega arith)
+mul-from c = let l = passed (c .before) .0 in rw (loopOf (c .before .before) .before .element-stride .ensures) (omega arith)
 
 add-from : tie.Need-add-from Inv-loop μ-loop
-add-from c = let l = skipped c .left in rw (loopOf (c .before) .before .element-stride .ensures) (omega arith)
+add-from c = let l = passed (c .before) .0 in rw (loopOf (c .before .before) .before .element-stride .ensures) (omega arith)
 
 add-i : tie.Need-add-i Inv-loop μ-loop
-add-i c = search needs
+add-i c = omega (arith, passes (c .before .before))
 
 loop-less : tie.Need-loop-less Inv-loop μ-loop
-loop-less c = search needs
+loop-less c = omega (arith, passes (c .before .before))
 
 loop-again : tie.Need-loop-again Inv-loop μ-loop
 loop-again c =
-    let m = c .before in
-    let r = m .before in
-    let l = loopOf m in
-    let t = r .before .before .loop-test .taken in
-    let d = given (l .before .before) in
-    let e = l .before .element-stride .ensures in
-    let u = c .undefined-run .ensures .0 in
-    let n = l .before .before .below-count .ensures in
-    rw e (
-      skipped c,
-      writing-skip _ _ (written m) (sized m) (omega arith) t _ (rw e at u),
-      ⊎-elim (λ w. ap length (w .8 ∙ w .5 .ensures) ∙ simp length-sets (l .loop .inv .2)) (λ w. ap length (w .1) ∙ l .loop .inv .2) (m .match .came),
-      writing-array (l .loop .inv .1) t (below (r .before .before)) _ (l .loop .inv .3) (r .read-sized-element .ensures) (d .0) (d .2 .reads),
+    let m = c .before .before in
+    let e = m .before in
+    let l = loopOf e in
+    rw (l .before .element-stride .ensures) (
+      passed m .1,
+      written m,
+      kept m ∙ l .loop .inv .2,
+      writing-array (l .loop .inv .1) (e .before .before .loop-test .taken) (below (e .before .before)) _ (l .loop .inv .3) (e .offsets-in-extent .ensures) (given l .2 .reads),
     )
 
 same-length : tie.Need-same-length Inv-loop μ-loop
@@ -190,7 +184,7 @@ same-length c = search needs
 
 returns : tie.Need-returns Inv-loop μ-loop
 returns c = λ k l q h.
-    writing-done (c .before .loop .inv .1) (c .loop-test .left) k l (listed-left k l q _ _ _ _ (c .before .before .before .below-count .ensures) h)
+    left-done (c .before .loop .inv .1 .whole k l (listed-left k l q _ _ _ _ (counted (c .before) .below-count .ensures) h)) (c .loop-test .left)
 
 pub write-elements-spec : {M : Type 1} → statement M
 write-elements-spec =
@@ -201,13 +195,12 @@ write-elements-spec =
     below-count-requires
     element-stride-requires
     loop-holds
-    add-read-sized-element
-    read-sized-element-requires
-    enum-known-element
-    put-record-requires
-    mul-to
-    add-to
-    add-to-2
+    add-here
+    offsets-in-extent-requires
+    enum-told
+    line-from-requires
+    below-count-requires-2
+    write-line-requires
     add-undefined-run
     add-undefined-run-2
     sub-undefined-run
