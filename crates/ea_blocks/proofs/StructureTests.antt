@@ -1,15 +1,19 @@
 -- Laws of structures and their tests: a structure that has passed lies in the file, with all its parts. Assumes nothing.
-use Prim.Native.Nat.{ℕ, _+_, _*_, _^_, _<_, _≤_}
-use mathlib.Core.Path.{_≡_, sym, _∙_}
+use Prim.Native.Nat.{ℕ, _+_, _-_, _*_, _^_, _<_, _≤_}
+use mathlib.Core.Path.{_≡_, sym, ap, _∙_}
 use mathlib.Core.Bool.{true, false}
 use mathlib.Core.List.{List}
 use mathlib.Core.Logic.{⊎-elim}
 use native.Mathlib.Omega.{arith}
-use lib.ListN.{length}
+use lib.ListN.{length, take, drop}
 use borrow.Author.Tests.{lt-ltb, le-ltb}
-use Rattle.refusal.specs.declared.Checked.the-variants.{Passed}
-use Rattle.refusal.specs.Refusals.{figure, largest64}
-use Rattle.refusal.proofs.Tests.{lt-or-ge, then-first, then-inv}
+use Rattle.refusal.specs.declared.Refusal.{Refusal}
+use Rattle.refusal.specs.declared.Checked.{Checked}
+use Rattle.refusal.specs.declared.Checked.the-variants.{Passed, Refused}
+use Rattle.refusal.specs.Refusals.{figure, largest64, _then_}
+use Rattle.refusal.proofs.Tests.{lt-or-ge, then-first, then-second, then-assoc, then-inv, then-passed}
+use Rattle.fields.specs.Fields.{inFile}
+use Rattle.checksum.specs.Trailing.{trailingTest}
 use Rattle.fields.proofs.Fields.{inside, past-end, figure-in-file}
 use Rattle.ea_geometry.specs.declared.EaGeometry.{EaGeometry}
 use Rattle.ea_geometry.specs.Sizes.{blockElements, directSuperBlocks, pageElements}
@@ -18,8 +22,28 @@ use Rattle.ea_geometry.specs.Place.{inPages}
 use Rattle.ea_geometry.proofs.Positions.{direct-pointers-inside, super-pointers-inside}
 use Rattle.ea_blocks.specs.declared.Kind.{Kind}
 use Rattle.ea_blocks.specs.Call.{Call}
-use Rattle.ea_blocks.specs.Structures.{structureTest, indexBlock, superBlock, dataBlock, dataPage, testOf, indexAt, isDirect, superAt, blockNamedAt, blockAt, dataPageAt}
+use Rattle.ea_blocks.specs.Structures.{signatureTest, structureTest, indexBlock, superBlock, dataBlock, dataPage, testOf, indexAt, isDirect, superAt, blockNamedAt, blockAt, dataPageAt}
 use Rattle.ea_blocks.specs.Values.{Sees}
+
+-- what the tests before the checksum say of the structure
+module _ (kind : Kind) (f : List ℕ) (pos len : ℕ) where
+  abbrev before : Checked
+  before = inFile f pos len then signatureTest kind f pos
+
+  pub before-inside : Passed ≡ before → pos + len ≤ length f
+  before-inside e = inside f pos len (then-passed _ _ e .0)
+
+  module _ (sum : List ℕ → ℕ) where
+    pub before-refused : {r : Refusal} → Refused r ≡ before → Refused r ≡ structureTest sum kind f pos len
+    unfolding structureTest
+    before-refused e = then-first _ _ e ∙ then-assoc _ _ _
+
+    -- its checksum decides; the code cuts the structure out from pos to pos + len
+    pub before-passed : Passed ≡ before → trailingTest sum (take (pos + len - pos) (drop pos f)) ≡ structureTest sum kind f pos len
+    unfolding structureTest
+    before-passed e =
+        let n : pos + len - pos ≡ len = omega arith in
+        ap (λ (k : ℕ). trailingTest sum (take k (drop pos f))) n ∙ then-second _ _ e ∙ then-assoc _ _ _
 
 module _ (sum : List ℕ → ℕ) (kind : Kind) (f : List ℕ) (pos len : ℕ) where
   pub structure-inside : structureTest sum kind f pos len ≡ Passed → pos + len ≤ length f

@@ -3,11 +3,24 @@ use Prim.Native.Nat.{ℕ}
 use mathlib.Core.Path.{_≡_}
 use mathlib.Core.Bool.{true, false}
 use mathlib.Core.Logic.{_⊎_}
+use Rattle.refusal.specs.declared.Checked.{Checked}
 use Rattle.refusal.specs.declared.Checked.the-variants.{Passed, Refused}
 use Rattle.ea_blocks.specs.declared.enter.Entered.{Entered}
 use Rattle.ea_blocks.specs.declared.enter.Entered.the-variants.{Absent, At, Refused as EnteredRefused}
+use Rattle.ea_blocks.specs.declared.enter.Ahead.{Ahead}
+use Rattle.ea_blocks.specs.declared.enter.Ahead.the-variants.{Unknown, Known}
 use Rattle.ea_blocks.specs.Call.{Call}
-use Rattle.ea_blocks.specs.Structures.{superBlock, dataBlock, dataPage, testOf, isDirect, superAt, blockAt, dataPageAt, superUndefined, blockUndefined, pageSet}
+use Rattle.ea_blocks.specs.Structures.{Structure, superBlock, dataBlock, dataPage, testOf, isDirect, superAt, blockAt, dataPageAt, superUndefined, blockUndefined, pageSet}
+
+-- What a verdict says of a structure that lies at `at`.
+unfoldable pub enteredOf : Checked → ℕ → Entered
+enteredOf Passed at = At at
+enteredOf (Refused r) at = EnteredRefused r
+
+-- A verdict ahead of its turn, of one of the structures that `structure` numbers, is the test of that structure.
+abbrev pub Foretold : Call → (ℕ → Structure) → Ahead → Type 0
+Foretold c structure Unknown = Unit {0}
+Foretold c structure (Known index checked) = checked ≡ testOf c (structure index)
 
 -- Super block u: its pointer is undefined, it has passed its test (or the index block names its data blocks, and nothing is said of the
 -- position), or its test refuses it.

@@ -9,9 +9,10 @@ ghost use Rattle.ea_geometry.specs.Sizes.{superBlocks, blocks, directSuperBlock
 ghost use Rattle.ea_geometry.specs.Extents.{indexExtent, superExtent};
 ghost use Rattle.ea_geometry.specs.Place.{inPages};
 ghost use Rattle.ea_blocks.specs.Call.{Call};
-ghost use Rattle.ea_blocks.specs.Structures.{isDirect, superAt, blockAt};
+ghost use Rattle.ea_blocks.specs.Structures.{dataBlock, dataPage, testOf, isDirect, superAt, blockAt};
 ghost use Rattle.ea_blocks.specs.Values.{Sees};
-ghost use Rattle.ea_blocks.specs.Entered.{EnteredSuper, EnteredBlock, EnteredPage};
+ghost use Rattle.ea_blocks.specs.declared.enter.Ahead.the-variants.{Known};
+ghost use Rattle.ea_blocks.specs.Entered.{enteredOf, EnteredSuper, EnteredBlock, EnteredPage, Foretold};
 use crate::structures::Pointer;
 use crate::structures::block_pointer;
 use crate::structures::page_set;
@@ -19,6 +20,9 @@ use crate::structures::super_pointer;
 use crate::structures::test_data_block;
 use crate::structures::test_page;
 use crate::structures::test_super_block;
+use crate::structures::test_two_blocks;
+use crate::structures::test_two_pages;
+use checksum::TwoChecked;
 use ea_geometry::EaGeometry;
 use refusal::Checked;
 use refusal::Refusal;
@@ -28,6 +32,24 @@ pub enum Entered {
     Absent,
     At(u64),
     Refused(Refusal),
+}
+
+// The verdict of a structure whose turn hasn't come: page or data block number `index`.
+pub enum Ahead {
+    Unknown,
+    Known { index: u64, checked: Checked },
+}
+
+// The verdict of a structure, and of the next one where both were tested.
+struct Verdict {
+    checked: Checked,
+    ahead: Ahead,
+}
+
+// What the walk finds where it steps into a structure, and the verdict of the next one where both were tested.
+pub struct Turn {
+    pub found: Entered,
+    pub ahead: Ahead,
 }
 
 // Steps into super block u. Where the index block names its data blocks there is none, and the position is 0.
@@ -41,10 +63,7 @@ pub fn enter_super(file: &[u8], geometry: EaGeometry, u: u64) -> Entered
     }
     match super_pointer(file, geometry, u) {
         Pointer::Undefined => Entered::Absent,
-        Pointer::At(at) => match test_super_block(file, geometry, u, at) {
-            Checked::Passed => Entered::At(at),
-            Checked::Refused(r) => Entered::Refused(r),
-        },
+        Pointer::At(at) => enter_by_verdict(test_super_block(file, geometry, u, at), at),
     }
 }
 
@@ -58,10 +77,77 @@ pub fn enter_block(file: &[u8], geometry: EaGeometry, u: u64, k: u64, super_at: 
 {
     match block_pointer(file, geometry, u, k, super_at) {
         Pointer::Undefined => Entered::Absent,
-        Pointer::At(at) => match test_data_block(file, geometry, u, at) {
-            Checked::Passed => Entered::At(at),
-            Checked::Refused(r) => Entered::Refused(r),
+        Pointer::At(at) => enter_by_verdict(test_data_block(file, geometry, u, at), at),
+    }
+}
+
+// The same in the turn of a walk from data block to data block, by a verdict that an earlier turn has left.
+pub fn enter_block_in_turn(
+    file: &[u8],
+    geometry: EaGeometry,
+    u: u64,
+    k: u64,
+    super_at: u64,
+    ahead: Ahead,
+) -> Turn
+    requires { ⌜ (u < superBlocks (geometry .header)) × (k < blocks u) × Bounded geometry × (isWidth (geometry .«offset_size») ≡ true)
+        × (geometry .header .«index_block_address» + indexExtent (geometry .header) (geometry .«offset_size») ≤ length (now file))
+        × (directSuperBlocks (geometry .header) ≤ u → «super_at» + superExtent (geometry .header) (geometry .«offset_size») u ≤ length (now file)) ⌝ }
+    ensures { λ r. ⌜ ((c : Call) → Sees c (now (file .entry)) geometry → (isDirect c u ≡ false → «super_at» ≡ superAt c u)
+        → Foretold c (dataBlock u) ahead → EnteredBlock c u k (r .found) × Foretold c (dataBlock u) (r .ahead)) ⌝ }
+{
+    match block_pointer(file, geometry, u, k, super_at) {
+        Pointer::Undefined => Turn {
+            found: Entered::Absent,
+            ahead,
         },
+        Pointer::At(at) => {
+            let verdict = block_verdict(file, geometry, u, k, super_at, at, ahead);
+            let checked = verdict.checked;
+            let ahead = verdict.ahead;
+            Turn {
+                found: enter_by_verdict(checked, at),
+                ahead,
+            }
+        }
+    }
+}
+
+// The verdict of data block k, which lies at `at`: the one that is known; with the next block's, where neither is read by pages; or alone.
+fn block_verdict(
+    file: &[u8],
+    geometry: EaGeometry,
+    u: u64,
+    k: u64,
+    super_at: u64,
+    at: u64,
+    ahead: Ahead,
+) -> Verdict
+    requires { ⌜ (u < superBlocks (geometry .header)) × (k < blocks u) × Bounded geometry × (isWidth (geometry .«offset_size») ≡ true)
+        × (geometry .header .«index_block_address» + indexExtent (geometry .header) (geometry .«offset_size») ≤ length (now file))
+        × (directSuperBlocks (geometry .header) ≤ u → «super_at» + superExtent (geometry .header) (geometry .«offset_size») u ≤ length (now file)) ⌝ }
+    ensures { λ r. ⌜ ((c : Call) → Sees c (now (file .entry)) geometry → (isDirect c u ≡ false → «super_at» ≡ superAt c u) → at ≡ blockAt c u k
+        → Foretold c (dataBlock u) ahead → (r .checked ≡ testOf c (dataBlock u k)) × Foretold c (dataBlock u) (r .ahead)) ⌝ }
+{
+    if let Ahead::Known { index, checked } = ahead {
+        if index == k {
+            return Verdict {
+                checked,
+                ahead: Ahead::Unknown,
+            };
+        }
+    }
+    let blocks = geometry.blocks(u);
+    if k + 1 < blocks {
+        if !geometry.in_pages(u) {
+            if let Pointer::At(next) = block_pointer(file, geometry, u, k + 1, super_at) {
+                return keep_second(test_two_blocks(file, geometry, u, at, next), k + 1);
+            }
+        }
+    }
+    Verdict {
+        checked: test_data_block(file, geometry, u, at),
+        ahead: Ahead::Unknown,
     }
 }
 
@@ -85,8 +171,103 @@ pub fn enter_page(
     if !page_set(file, geometry, super_at, u, k, p) {
         return Entered::Absent;
     }
-    match test_page(file, geometry, at, p) {
-        Checked::Passed => Entered::At(at + geometry.page_at(p)),
+    let pos = at + geometry.page_at(p);
+    enter_by_verdict(test_page(file, geometry, at, p), pos)
+}
+
+// The same in the turn of a walk from page to page, by a verdict that an earlier turn has left.
+pub fn enter_page_in_turn(
+    file: &[u8],
+    geometry: EaGeometry,
+    super_at: u64,
+    at: u64,
+    u: u64,
+    k: u64,
+    p: u64,
+    ahead: Ahead,
+) -> Turn
+    requires { ⌜ (u < superBlocks (geometry .header)) × (k < blocks u) × (p < pages (geometry .header) u) × Bounded geometry
+        × (inPages (geometry .header) u ≡ true)
+        × («super_at» + superExtent (geometry .header) (geometry .«offset_size») u ≤ length (now file))
+        × (at ≤ length (now file)) ⌝ }
+    ensures { λ r. ⌜ ((c : Call) → Sees c (now (file .entry)) geometry → «super_at» ≡ superAt c u → at ≡ blockAt c u k
+        → Foretold c (dataPage u k) ahead → EnteredPage c u k p (r .found) × Foretold c (dataPage u k) (r .ahead)) ⌝ }
+{
+    if !page_set(file, geometry, super_at, u, k, p) {
+        return Turn {
+            found: Entered::Absent,
+            ahead,
+        };
+    }
+    let pos = at + geometry.page_at(p);
+    let verdict = page_verdict(file, geometry, super_at, at, u, k, p, ahead);
+    let checked = verdict.checked;
+    let ahead = verdict.ahead;
+    Turn {
+        found: enter_by_verdict(checked, pos),
+        ahead,
+    }
+}
+
+// The verdict of page p: the one that is known; with the next page's, where that is set; or alone.
+fn page_verdict(
+    file: &[u8],
+    geometry: EaGeometry,
+    super_at: u64,
+    at: u64,
+    u: u64,
+    k: u64,
+    p: u64,
+    ahead: Ahead,
+) -> Verdict
+    requires { ⌜ (u < superBlocks (geometry .header)) × (k < blocks u) × (p < pages (geometry .header) u) × Bounded geometry
+        × (inPages (geometry .header) u ≡ true)
+        × («super_at» + superExtent (geometry .header) (geometry .«offset_size») u ≤ length (now file))
+        × (at ≤ length (now file)) ⌝ }
+    ensures { λ r. ⌜ ((c : Call) → Sees c (now (file .entry)) geometry → at ≡ blockAt c u k
+        → Foretold c (dataPage u k) ahead → (r .checked ≡ testOf c (dataPage u k p)) × Foretold c (dataPage u k) (r .ahead)) ⌝ }
+{
+    if let Ahead::Known { index, checked } = ahead {
+        if index == p {
+            return Verdict {
+                checked,
+                ahead: Ahead::Unknown,
+            };
+        }
+    }
+    let pages = geometry.pages(u);
+    if p + 1 < pages {
+        if page_set(file, geometry, super_at, u, k, p + 1) {
+            return keep_second(test_two_pages(file, geometry, at, p), p + 1);
+        }
+    }
+    Verdict {
+        checked: test_page(file, geometry, at, p),
+        ahead: Ahead::Unknown,
+    }
+}
+
+// The first of two verdicts, the second kept for structure number `index`.
+fn keep_second(two: TwoChecked, index: u64) -> Verdict
+    ensures { λ r. ⌜ (r .checked ≡ two .first) × (r .ahead ≡ Known index (two .second)) ⌝ }
+{
+    let first = two.first;
+    let second = two.second;
+    Verdict {
+        checked: first,
+        ahead: Ahead::Known {
+            index,
+            checked: second,
+        },
+    }
+}
+
+// What stepping into a structure at `at` finds by its verdict.
+fn enter_by_verdict(checked: Checked, at: u64) -> Entered
+    ensures { λ r. ⌜ r ≡ enteredOf checked at ⌝ }
+{
+    match checked {
+        Checked::Passed => Entered::At(at),
         Checked::Refused(r) => Entered::Refused(r),
     }
 }

@@ -15,6 +15,8 @@ ghost use Rattle.ea_blocks.specs.Structures.{superAt, blockAt, superUnde
 ghost use Rattle.ea_blocks.specs.Values.{Sees, pointerOf};
 use crate::Kind;
 use crate::test_structure;
+use crate::test_two_structures;
+use checksum::TwoChecked;
 use ea_geometry::EaGeometry;
 use ea_geometry::page_bits::page_is_initialized;
 use fields::address::is_undefined_addr;
@@ -90,6 +92,15 @@ pub fn test_data_block(file: &[u8], geometry: EaGeometry, u: u64, at: u64) -> Ch
     test_structure(file, Kind::DataBlock, at, len)
 }
 
+// Tests two data blocks of super block u, which aren't read by pages and lie at `at` and `other`.
+pub fn test_two_blocks(file: &[u8], geometry: EaGeometry, u: u64, at: u64, other: u64) -> TwoChecked
+    requires { ⌜ (u < superBlocks (geometry .header)) × Bounded geometry × (inPages (geometry .header) u ≡ false) ⌝ }
+    ensures { λ r. ⌜ ((c : Call) (k n : ℕ) → Sees c (now (file .entry)) geometry → at ≡ blockAt c u k → other ≡ blockAt c u n
+        → (r .first ≡ testOf c (dataBlock u k)) × (r .second ≡ testOf c (dataBlock u n))) ⌝ }
+{
+    test_two_structures(file, Kind::DataBlock, at, other, geometry.data_extent(u))
+}
+
 // Whether page p of data block k of super block u is set, in the page bits of the super block, which lies at super_at.
 pub fn page_set(file: &[u8], geometry: EaGeometry, super_at: u64, u: u64, k: u64, p: u64) -> bool
     requires { ⌜ (u < superBlocks (geometry .header)) × (k < blocks u) × (p < pages (geometry .header) u) × Bounded geometry
@@ -110,6 +121,18 @@ pub fn test_page(file: &[u8], geometry: EaGeometry, at: u64, p: u64) -> Checked
 {
     let pos = at + geometry.page_at(p);
     test_structure(file, Kind::Page, pos, geometry.page_extent())
+}
+
+// Tests pages p and p + 1 of it.
+pub fn test_two_pages(file: &[u8], geometry: EaGeometry, at: u64, p: u64) -> TwoChecked
+    requires { ⌜ ((u : ℕ) × (u < superBlocks (geometry .header)) × (p + 1 < pages (geometry .header) u)) × Bounded geometry
+        × (at ≤ length (now file)) ⌝ }
+    ensures { λ r. ⌜ ((c : Call) (u k : ℕ) → Sees c (now (file .entry)) geometry → at ≡ blockAt c u k
+        → (r .first ≡ testOf c (dataPage u k p)) × (r .second ≡ testOf c (dataPage u k (p + 1)))) ⌝ }
+{
+    let pos = at + geometry.page_at(p);
+    let other = at + geometry.page_at(p + 1);
+    test_two_structures(file, Kind::Page, pos, other, geometry.page_extent())
 }
 
 // The pointer in the `width` bytes from pos on.

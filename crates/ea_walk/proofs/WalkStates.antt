@@ -27,12 +27,13 @@ use Rattle.ea_geometry.proofs.Places.{next-slot, first-slot-zero}
 use Rattle.ea_blocks.specs.declared.Reading.{Reading}
 use Rattle.ea_blocks.specs.declared.Counted.{Counted}
 use Rattle.ea_blocks.specs.declared.Counted.the-variants.{Count, Refused as CountedRefused}
+use Rattle.ea_blocks.specs.declared.enter.Ahead.{Ahead}
 use Rattle.ea_blocks.specs.declared.enter.Entered.the-variants.{Absent, At, Refused as EnteredRefused}
 use Rattle.ea_blocks.specs.Call.{Call}
-use Rattle.ea_blocks.specs.Structures.{isDirect, superAt, blockAt, dataPageAt}
+use Rattle.ea_blocks.specs.Structures.{Structure, isDirect, superAt, blockAt, dataPageAt}
 use Rattle.ea_blocks.specs.Runs.{Listing, elements, countedOf}
 use Rattle.ea_blocks.specs.Values.{Sees}
-use Rattle.ea_blocks.specs.Entered.{EnteredSuper, EnteredBlock, EnteredPage}
+use Rattle.ea_blocks.specs.Entered.{EnteredSuper, EnteredBlock, EnteredPage, Foretold}
 use Rattle.ea_blocks.proofs.Runs.{plus, plus-none, run-count, run-refused, run-length, answered, counted-inv}
 use Rattle.ea_blocks.proofs.StructureTests.{is-direct, not-direct}
 use Rattle.ea_walk.specs.Walk.{pagesFrom, blocksFrom, supers}
@@ -49,6 +50,10 @@ module _ (f : List ℕ) (r : Reading) (first : ℕ) (chunk bound down : List ℕ
 
   pub sees : (c : Call) → Seen c → Sees c f (r .geometry)
   sees c w = record { bytes = w .reads .bytes; checksum = w .checksum; header = w .reads .header; offset = w .reads .offset }
+
+  -- a verdict ahead of its turn, for whatever call is walked
+  abbrev pub AllForetold : (ℕ → Structure) → Ahead → Type 0
+  AllForetold structure ahead = (c : Call) → Seen c → Foretold c structure ahead
 
   -- the whole
   abbrev whole : Call → Counted

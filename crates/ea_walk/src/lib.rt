@@ -14,9 +14,10 @@ ghost use Rattle.ea_walk.specs.Values.{Walks};
 use ea_blocks::Counted;
 use ea_blocks::Reading;
 use ea_blocks::count::count_elements;
+use ea_blocks::enter::Ahead;
 use ea_blocks::enter::Entered;
-use ea_blocks::enter::enter_block;
-use ea_blocks::enter::enter_page;
+use ea_blocks::enter::enter_block_in_turn;
+use ea_blocks::enter::enter_page_in_turn;
 use ea_blocks::enter::enter_super;
 use refusal::Checked;
 
@@ -61,6 +62,7 @@ pub fn count_blocks(
                 break 'supers;
             }
         };
+        let mut block_ahead = Ahead::Unknown;
         let mut k = 0;
         'blocks: while k < blocks {
             if u < directs {
@@ -68,7 +70,10 @@ pub fn count_blocks(
                     break 'supers;
                 }
             }
-            let at = match enter_block(file, geometry, u, k, super_at) {
+            let turn = enter_block_in_turn(file, geometry, u, k, super_at, block_ahead);
+            block_ahead = turn.ahead;
+            let found = turn.found;
+            let at = match found {
                 Entered::Absent => {
                     slot += elements;
                     k += 1;
@@ -83,9 +88,22 @@ pub fn count_blocks(
             if geometry.in_pages(u) {
                 let pages = geometry.pages(u);
                 let mut from = slot;
+                let mut page_ahead = Ahead::Unknown;
                 let mut p = 0;
                 'pages: while p < pages {
-                    let pos = match enter_page(file, geometry, super_at, at, u, k, p) {
+                    let turn = enter_page_in_turn(
+                        file,
+                        geometry,
+                        super_at,
+                        at,
+                        u,
+                        k,
+                        p,
+                        page_ahead,
+                    );
+                    page_ahead = turn.ahead;
+                    let found = turn.found;
+                    let pos = match found {
                         Entered::Absent => {
                             from += page;
                             p += 1;

@@ -64,6 +64,12 @@ module _ (a b : Checked) where
   unfolding _then_
   then-first e = ap (λ (t : Checked). t then b) e
 
+-- three in a row, taken from either end
+pub then-assoc : (a b c : Checked) → (a then b) then c ≡ a then (b then c)
+unfolding _then_
+then-assoc Passed b c = refl
+then-assoc (Refused r) b c = refl
+
 pub then-inv : (a b : Checked) → a then b ≡ Passed → (a ≡ Passed) × (b ≡ Passed)
 unfolding _then_
 then-inv Passed b h = (refl, h)

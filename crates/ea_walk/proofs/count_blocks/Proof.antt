@@ -1,6 +1,7 @@
 -- `ea_walk::count_blocks` meets its contract: at every super block, data block and page, what is counted and what is left are the
 -- whole. Assumes nothing.
 use borrow.Author.Needs.{needs}
+use Prim.{tt}
 use Prim.Native.Nat.{ℕ, _+_, _-_, _≤_, _<_}
 use mathlib.Core.Path.{_≡_, refl, sym, ap, subst, _∙_}
 use mathlib.Core.Bool.{true}
@@ -11,11 +12,11 @@ use Rattle.refusal.specs.declared.Checked.the-variants.{Passed, Refused}
 use Rattle.ea_geometry.specs.Sizes as sizes
 use Rattle.ea_geometry.specs.Sizes.{blockElements}
 use Rattle.ea_geometry.specs.Place.{inPages}
-use Rattle.ea_walk.proofs.WalkStates.{Fixed, AtSuper, AtBlock, AtPage, BehindBlock, Done, sees, at-first, supers-done, super-ended, super-skip, super-refused, super-in, blocks-done, block-behind, block-ended, block-skip, block-refused, block-run, block-run-refused, block-pages, pages-done, page-skip, page-refused, page-run-refused, page-run-last, page-run-on, slot-few, block-few, entered-at, count-few, page-ends, paged-behind, unpaged-room}
+use Rattle.ea_walk.proofs.WalkStates.{Fixed, AllForetold, AtSuper, AtBlock, AtPage, BehindBlock, Done, sees, at-first, supers-done, super-ended, super-skip, super-refused, super-in, blocks-done, block-behind, block-ended, block-skip, block-refused, block-run, block-run-refused, block-pages, pages-done, page-skip, page-refused, page-run-refused, page-run-last, page-run-on, slot-few, block-few, entered-at, count-few, page-ends, paged-behind, unpaged-room}
 use Rattle.fields.proofs.Widths.{width-le}
 use Rattle.ea_geometry.proofs.Counts.{all-few, pages-exact}
 use Rattle.ea_geometry.proofs.Places.{next-slot}
-use Rattle.ea_blocks.specs.Entered.{EnteredSuper, EnteredBlock, EnteredPage}
+use Rattle.ea_blocks.specs.Entered.{EnteredSuper, EnteredBlock, EnteredPage, Foretold}
 use Rattle.ea_blocks.proofs.StructureTests.{index-seen, not-direct}
 use Rattle.refusal.specs.Outcome.{accepted}
 use mathlib.Core.List.{[]}
@@ -25,7 +26,7 @@ use Rattle.ea_blocks.proofs.Runs.{answered}
 use Rattle.ea_blocks.specs.declared.Counted.{Counted}
 use Rattle.ea_blocks.specs.declared.Counted.the-variants.{Count}
 use Rattle.ea_header.specs.declared.ExtensibleArrayHeader.{ExtensibleArrayHeader}
-use Rattle.ea_blocks.specs.Structures.{blockAt}
+use Rattle.ea_blocks.specs.Structures.{dataBlock, dataPage, blockAt}
 use Rattle.ea_geometry.specs.Extents.{blockElementAt}
 use Rattle.ea_blocks.specs.declared.enter.Entered.{Entered}
 use Rattle.ea_walk.specs.Values.{Walks}
@@ -35,22 +36,22 @@ use Rattle.ea_walk.proofs.count_blocks.Statement.{statement}
 use Rattle.ea_walk.proofs.count_blocks.Tie as tie
 
 abbrev Inv-pages : tie.InvT-pages
-Inv-pages file reading first chunk bound down geometry count supers directs page refused₀ total₀ slot u blocks elements super-at k at pages from₀ p₀ refused total from p =
+Inv-pages file reading first chunk bound down geometry count supers directs page refused₀ total₀ slot u blocks elements super-at block-ahead k at pages from₀ page-ahead₀ p₀ refused total from page-ahead p =
     Fixed file reading chunk bound down count supers directs page × (u < supers) × (blocks ≡ sizes.blocks u) × (elements ≡ blockElements (reading .geometry .header) u) × (k < blocks) × (pages ≡ sizes.pages (reading .geometry .header) u)
     × (inPages (reading .geometry .header) u ≡ true) × (p ≤ pages) × (refused ≡ Passed)
-    × AtPage file reading first chunk bound down total from slot u super-at k at p
+    × AtPage file reading first chunk bound down total from slot u super-at k at p × AllForetold file reading first chunk bound down (dataPage u k) page-ahead
 
 abbrev μ-pages : tie.MeasureT-pages
-μ-pages file reading first chunk bound down geometry count supers directs page refused₀ total₀ slot u blocks elements super-at k at pages from₀ p₀ refused total from p =
+μ-pages file reading first chunk bound down geometry count supers directs page refused₀ total₀ slot u blocks elements super-at block-ahead k at pages from₀ page-ahead₀ p₀ refused total from page-ahead p =
     pages - p
 
 abbrev Inv-blocks2 : tie.InvT-blocks2
-Inv-blocks2 file reading first chunk bound down geometry count supers directs page refused₀ total₀ slot₀ u blocks elements super-at k₀ refused total slot k =
+Inv-blocks2 file reading first chunk bound down geometry count supers directs page refused₀ total₀ slot₀ u blocks elements super-at block-ahead₀ k₀ refused total slot block-ahead k =
     Fixed file reading chunk bound down count supers directs page × (u < supers) × (blocks ≡ sizes.blocks u) × (elements ≡ blockElements (reading .geometry .header) u) × (k ≤ blocks) × (refused ≡ Passed)
-    × AtBlock file reading first chunk bound down total slot u super-at k
+    × AtBlock file reading first chunk bound down total slot u super-at k × AllForetold file reading first chunk bound down (dataBlock u) block-ahead
 
 abbrev μ-blocks2 : tie.MeasureT-blocks2
-μ-blocks2 file reading first chunk bound down geometry count supers directs page refused₀ total₀ slot₀ u blocks elements super-at k₀ refused total slot k =
+μ-blocks2 file reading first chunk bound down geometry count supers directs page refused₀ total₀ slot₀ u blocks elements super-at block-ahead₀ k₀ refused total slot block-ahead k =
     blocks - k
 
 abbrev Inv-supers : tie.InvT-supers
@@ -70,41 +71,55 @@ opens c =
     let d = f .direct-ones in
     ⊎-elim (λ w. let t = w .0 .taken in let l = w .1 .left in ((λ e. l), inl (omega arith))) (λ w. let t = w .left in ((λ e. absurd (omega arith)), inr (omega arith))) (c .if2 .came)
 
--- what stepping into a data block and into a page has found
-stepped : (c : tie.After-enter-block Inv-pages μ-pages Inv-blocks2 μ-blocks2 Inv-supers μ-supers) (k : Call) → Walks k (c .before .before .before .before .before .before .before .before .before .before .before .before .before .before .before .before .before .before .before .args .file .now) (c .before .before .before .before .before .before .before .before .before .before .before .before .before .before .before .before .before .before .before .args .reading) (c .before .before .before .before .before .before .before .before .before .before .before .before .before .before .before .before .before .before .before .args .chunk .now) (c .before .before .before .before .before .before .before .before .before .before .before .before .before .before .before .before .before .before .before .args .bound .now) (c .before .before .before .before .before .before .before .before .before .before .before .before .before .before .before .before .before .before .before .args .down .now) → {e : Entered} → c .enter-block .result ≡ e
-    → EnteredBlock k (c .before .before .before .before .before .before .before .before .before .before .before .before .supers .u) (c .before .before .before .blocks2 .k) e
-stepped c k w q =
+-- what stepping into a data block and into a page has found, and the verdict that it has left for the next
+into-block : (c : tie.After-enter-block-in-turn Inv-pages μ-pages Inv-blocks2 μ-blocks2 Inv-supers μ-supers) (k : Call) → Walks k (c .before .before .before .before .before .before .before .before .before .before .before .before .before .before .before .before .before .before .before .args .file .now) (c .before .before .before .before .before .before .before .before .before .before .before .before .before .before .before .before .before .before .before .args .reading) (c .before .before .before .before .before .before .before .before .before .before .before .before .before .before .before .before .before .before .before .args .chunk .now) (c .before .before .before .before .before .before .before .before .before .before .before .before .before .before .before .before .before .before .before .args .bound .now) (c .before .before .before .before .before .before .before .before .before .before .before .before .before .before .before .before .before .before .before .args .down .now)
+    → EnteredBlock k (c .before .before .before .before .before .before .before .before .before .before .before .before .supers .u) (c .before .before .before .blocks2 .k) (c .enter-block-in-turn .result .found) × Foretold k (dataBlock (c .before .before .before .before .before .before .before .before .before .before .before .before .supers .u)) (c .enter-block-in-turn .result .ahead)
+into-block c k w =
     let s = c .before .before .before .blocks2 .inv .6 in
-    subst (EnteredBlock k _ _) q (c .enter-block .ensures k (sees _ _ 0 _ _ _ k w) (entered-at k _ _ (s .entered k w)))
+    c .enter-block-in-turn .ensures k (sees _ _ 0 _ _ _ k w) (entered-at k _ _ (s .entered k w)) (c .before .before .before .blocks2 .inv .7 k w)
 
-turned : (c : tie.After-enter-page Inv-pages μ-pages Inv-blocks2 μ-blocks2 Inv-supers μ-supers) (k : Call) → Walks k (c .before .before .before .before .before .before .before .before .before .before .before .before .before .before .before .before .before .before .before .before .before .before .before .before .before .before .before .before .args .file .now) (c .before .before .before .before .before .before .before .before .before .before .before .before .before .before .before .before .before .before .before .before .before .before .before .before .before .before .before .before .args .reading) (c .before .before .before .before .before .before .before .before .before .before .before .before .before .before .before .before .before .before .before .before .before .before .before .before .before .before .before .before .args .chunk .now) (c .before .before .before .before .before .before .before .before .before .before .before .before .before .before .before .before .before .before .before .before .before .before .before .before .before .before .before .before .args .bound .now) (c .before .before .before .before .before .before .before .before .before .before .before .before .before .before .before .before .before .before .before .before .before .before .before .before .before .before .before .before .args .down .now) → {e : Entered} → c .enter-page .result ≡ e
-    → EnteredPage k (c .before .before .before .before .before .before .before .before .before .before .before .before .before .before .before .before .before .before .before .before .before .supers .u) (c .before .before .before .before .before .before .before .before .before .before .before .before .blocks2 .k) (c .before .before .pages .p) e
-turned c k w q =
+stepped : (c : tie.After-enter-block-in-turn Inv-pages μ-pages Inv-blocks2 μ-blocks2 Inv-supers μ-supers) (k : Call) → Walks k (c .before .before .before .before .before .before .before .before .before .before .before .before .before .before .before .before .before .before .before .args .file .now) (c .before .before .before .before .before .before .before .before .before .before .before .before .before .before .before .before .before .before .before .args .reading) (c .before .before .before .before .before .before .before .before .before .before .before .before .before .before .before .before .before .before .before .args .chunk .now) (c .before .before .before .before .before .before .before .before .before .before .before .before .before .before .before .before .before .before .before .args .bound .now) (c .before .before .before .before .before .before .before .before .before .before .before .before .before .before .before .before .before .before .before .args .down .now) → {e : Entered} → c .enter-block-in-turn .result .found ≡ e
+    → EnteredBlock k (c .before .before .before .before .before .before .before .before .before .before .before .before .supers .u) (c .before .before .before .blocks2 .k) e
+stepped c k w q = subst (EnteredBlock k _ _) q (into-block c k w .0)
+
+kept-block : (c : tie.After-enter-block-in-turn Inv-pages μ-pages Inv-blocks2 μ-blocks2 Inv-supers μ-supers) (k : Call) → Walks k (c .before .before .before .before .before .before .before .before .before .before .before .before .before .before .before .before .before .before .before .args .file .now) (c .before .before .before .before .before .before .before .before .before .before .before .before .before .before .before .before .before .before .before .args .reading) (c .before .before .before .before .before .before .before .before .before .before .before .before .before .before .before .before .before .before .before .args .chunk .now) (c .before .before .before .before .before .before .before .before .before .before .before .before .before .before .before .before .before .before .before .args .bound .now) (c .before .before .before .before .before .before .before .before .before .before .before .before .before .before .before .before .before .before .before .args .down .now) → Foretold k (dataBlock (c .before .before .before .before .before .before .before .before .before .before .before .before .supers .u)) (c .enter-block-in-turn .result .ahead)
+kept-block c k w = into-block c k w .1
+
+into-page : (c : tie.After-enter-page-in-turn Inv-pages μ-pages Inv-blocks2 μ-blocks2 Inv-supers μ-supers) (k : Call) → Walks k (c .before .before .before .before .before .before .before .before .before .before .before .before .before .before .before .before .before .before .before .before .before .before .before .before .before .before .before .before .args .file .now) (c .before .before .before .before .before .before .before .before .before .before .before .before .before .before .before .before .before .before .before .before .before .before .before .before .before .before .before .before .args .reading) (c .before .before .before .before .before .before .before .before .before .before .before .before .before .before .before .before .before .before .before .before .before .before .before .before .before .before .before .before .args .chunk .now) (c .before .before .before .before .before .before .before .before .before .before .before .before .before .before .before .before .before .before .before .before .before .before .before .before .before .before .before .before .args .bound .now) (c .before .before .before .before .before .before .before .before .before .before .before .before .before .before .before .before .before .before .before .before .before .before .before .before .before .before .before .before .args .down .now)
+    → EnteredPage k (c .before .before .before .before .before .before .before .before .before .before .before .before .before .before .before .before .before .before .before .before .before .supers .u) (c .before .before .before .before .before .before .before .before .before .before .before .before .blocks2 .k) (c .before .before .pages .p) (c .enter-page-in-turn .result .found) × Foretold k (dataPage (c .before .before .before .before .before .before .before .before .before .before .before .before .before .before .before .before .before .before .before .before .before .supers .u) (c .before .before .before .before .before .before .before .before .before .before .before .before .blocks2 .k)) (c .enter-page-in-turn .result .ahead)
+into-page c k w =
     let x = c .before .before .pages .inv in
     let n = sees _ _ 0 _ _ _ k w in
     let s = x .9 in
-    subst (EnteredPage k _ _ _) q (c .enter-page .ensures k n (entered-at k _ _ (s .entered k w) (not-direct k _ _ n _ (paged-behind _ _ (x .6)))) (s .inside k w .2))
+    c .enter-page-in-turn .ensures k n (entered-at k _ _ (s .entered k w) (not-direct k _ _ n _ (paged-behind _ _ (x .6)))) (s .inside k w .2) (x .10 k w)
+
+turned : (c : tie.After-enter-page-in-turn Inv-pages μ-pages Inv-blocks2 μ-blocks2 Inv-supers μ-supers) (k : Call) → Walks k (c .before .before .before .before .before .before .before .before .before .before .before .before .before .before .before .before .before .before .before .before .before .before .before .before .before .before .before .before .args .file .now) (c .before .before .before .before .before .before .before .before .before .before .before .before .before .before .before .before .before .before .before .before .before .before .before .before .before .before .before .before .args .reading) (c .before .before .before .before .before .before .before .before .before .before .before .before .before .before .before .before .before .before .before .before .before .before .before .before .before .before .before .before .args .chunk .now) (c .before .before .before .before .before .before .before .before .before .before .before .before .before .before .before .before .before .before .before .before .before .before .before .before .before .before .before .before .args .bound .now) (c .before .before .before .before .before .before .before .before .before .before .before .before .before .before .before .before .before .before .before .before .before .before .before .before .before .before .before .before .args .down .now) → {e : Entered} → c .enter-page-in-turn .result .found ≡ e
+    → EnteredPage k (c .before .before .before .before .before .before .before .before .before .before .before .before .before .before .before .before .before .before .before .before .before .supers .u) (c .before .before .before .before .before .before .before .before .before .before .before .before .blocks2 .k) (c .before .before .pages .p) e
+turned c k w q = subst (EnteredPage k _ _ _) q (into-page c k w .0)
+
+kept-page : (c : tie.After-enter-page-in-turn Inv-pages μ-pages Inv-blocks2 μ-blocks2 Inv-supers μ-supers) (k : Call) → Walks k (c .before .before .before .before .before .before .before .before .before .before .before .before .before .before .before .before .before .before .before .before .before .before .before .before .before .before .before .before .args .file .now) (c .before .before .before .before .before .before .before .before .before .before .before .before .before .before .before .before .before .before .before .before .before .before .before .before .before .before .before .before .args .reading) (c .before .before .before .before .before .before .before .before .before .before .before .before .before .before .before .before .before .before .before .before .before .before .before .before .before .before .before .before .args .chunk .now) (c .before .before .before .before .before .before .before .before .before .before .before .before .before .before .before .before .before .before .before .before .before .before .before .before .before .before .before .before .args .bound .now) (c .before .before .before .before .before .before .before .before .before .before .before .before .before .before .before .before .before .before .before .before .before .before .before .before .before .before .before .before .args .down .now) → Foretold k (dataPage (c .before .before .before .before .before .before .before .before .before .before .before .before .before .before .before .before .before .before .before .before .before .supers .u) (c .before .before .before .before .before .before .before .before .before .before .before .before .blocks2 .k)) (c .enter-page-in-turn .result .ahead)
+kept-page c k w = into-page c k w .1
 
 -- the page's elements, counted
 ran : (c : tie.After-n Inv-pages μ-pages Inv-blocks2 μ-blocks2 Inv-supers μ-supers) (k : Call) → Walks k (c .before .before .before .before .before .before .before .before .before .before .before .before .before .before .before .before .before .before .before .before .before .before .before .before .before .before .before .before .before .before .before .before .before .before .args .file .now) (c .before .before .before .before .before .before .before .before .before .before .before .before .before .before .before .before .before .before .before .before .before .before .before .before .before .before .before .before .before .before .before .before .before .before .args .reading) (c .before .before .before .before .before .before .before .before .before .before .before .before .before .before .before .before .before .before .before .before .before .before .before .before .before .before .before .before .before .before .before .before .before .before .args .chunk .now) (c .before .before .before .before .before .before .before .before .before .before .before .before .before .before .before .before .before .before .before .before .before .before .before .before .before .before .before .before .before .before .before .before .before .before .args .bound .now) (c .before .before .before .before .before .before .before .before .before .before .before .before .before .before .before .before .before .before .before .before .before .before .before .before .before .before .before .before .before .before .before .before .before .before .args .down .now)
-    → Count (c .n .given .0 .0) ≡ countedOf (elements k (c .before .before .before .before .pos .given .0 .0) (sizes.pageElements (c .before .before .before .before .before .before .before .before .before .before .before .before .before .before .before .before .before .before .before .before .before .before .before .before .before .before .before .before .before .before .before .before .before .before .args .reading .geometry .header)) (c .before .before .before .before .before .before .before .before .pages .from) (accepted []))
+    → Count (c .n .given .0 .0) ≡ countedOf (elements k (c .before .before .before .before .found3 .given .0 .0) (sizes.pageElements (c .before .before .before .before .before .before .before .before .before .before .before .before .before .before .before .before .before .before .before .before .before .before .before .before .before .before .before .before .before .before .before .before .before .before .args .reading .geometry .header)) (c .before .before .before .before .before .before .before .before .pages .from) (accepted []))
 ran c k w =
     let z = c .before .before .before .before .before .before .before .before .pages .inv .0 .page-size in
-    sym (c .n .given .1) ∙ c .before .before .count-elements .ensures k (w .reads) ∙ ap (λ (y : ℕ). countedOf (elements k (c .before .before .before .before .pos .given .0 .0) y (c .before .before .before .before .before .before .before .before .pages .from) (accepted []))) z
+    sym (c .n .given .1) ∙ c .before .before .count-elements .ensures k (w .reads) ∙ ap (λ (y : ℕ). countedOf (elements k (c .before .before .before .before .found3 .given .0 .0) y (c .before .before .before .before .before .before .before .before .pages .from) (accepted []))) z
 
 -- the elements of an unpaged block: where they begin, and what was counted
 begins : (c : tie.After-block-element-at Inv-pages μ-pages Inv-blocks2 μ-blocks2 Inv-supers μ-supers) (k : Call) → Walks k (c .before .before .before .before .before .before .before .before .before .before .before .before .before .before .before .before .before .before .before .before .before .before .before .before .before .args .file .now) (c .before .before .before .before .before .before .before .before .before .before .before .before .before .before .before .before .before .before .before .before .before .before .before .before .before .args .reading) (c .before .before .before .before .before .before .before .before .before .before .before .before .before .before .before .before .before .before .before .before .before .before .before .before .before .args .chunk .now) (c .before .before .before .before .before .before .before .before .before .before .before .before .before .before .before .before .before .before .before .before .before .before .before .before .before .args .bound .now) (c .before .before .before .before .before .before .before .before .before .before .before .before .before .before .before .before .before .before .before .before .before .before .before .before .before .args .down .now)
-    → c .before .before .before .before .at2 .given .0 .0 + c .block-element-at .result ≡ blockAt k (c .before .before .before .before .before .before .before .before .before .before .before .before .before .before .before .before .before .before .supers .u) (c .before .before .before .before .before .before .before .before .before .blocks2 .k) + blockElementAt (k .header) (k .offsetSize) 0
+    → c .before .before .before .before .found .given .0 .0 + c .block-element-at .result ≡ blockAt k (c .before .before .before .before .before .before .before .before .before .before .before .before .before .before .before .before .before .before .supers .u) (c .before .before .before .before .before .before .before .before .before .blocks2 .k) + blockElementAt (k .header) (k .offsetSize) 0
 begins c k w =
-    let e = stepped (c .before .before .before .before .before .before) k w (c .before .before .before .before .at2 .given .1) in
-    ap (λ (z : ℕ). c .before .before .before .before .at2 .given .0 .0 + z) (c .block-element-at .ensures) ∙ ap (λ (z : ℕ). z + blockElementAt (c .before .before .before .before .before .before .before .before .before .before .before .before .before .before .before .before .before .before .before .before .before .before .before .before .before .args .reading .geometry .header) (c .before .before .before .before .before .before .before .before .before .before .before .before .before .before .before .before .before .before .before .before .before .before .before .before .before .args .reading .geometry .«offset_size») 0) (e .2)
+    let e = stepped (c .before .before .before .before .before .before) k w (c .before .before .before .before .found .given .1) in
+    ap (λ (z : ℕ). c .before .before .before .before .found .given .0 .0 + z) (c .block-element-at .ensures) ∙ ap (λ (z : ℕ). z + blockElementAt (c .before .before .before .before .before .before .before .before .before .before .before .before .before .before .before .before .before .before .before .before .before .before .before .before .before .args .reading .geometry .header) (c .before .before .before .before .before .before .before .before .before .before .before .before .before .before .before .before .before .before .before .before .before .before .before .before .before .args .reading .geometry .«offset_size») 0) (e .2)
     ∙ ap (λ (z : ExtensibleArrayHeader). blockAt k (c .before .before .before .before .before .before .before .before .before .before .before .before .before .before .before .before .before .before .supers .u) (c .before .before .before .before .before .before .before .before .before .blocks2 .k) + blockElementAt z (c .before .before .before .before .before .before .before .before .before .before .before .before .before .before .before .before .before .before .before .before .before .before .before .before .before .args .reading .geometry .«offset_size») 0) (sym (w .reads .header)) ∙ ap (λ (z : ℕ). blockAt k (c .before .before .before .before .before .before .before .before .before .before .before .before .before .before .before .before .before .before .supers .u) (c .before .before .before .before .before .before .before .before .before .blocks2 .k) + blockElementAt (k .header) z 0) (sym (w .reads .offset))
 
 ran2 : (c : tie.After-count-elements2 Inv-pages μ-pages Inv-blocks2 μ-blocks2 Inv-supers μ-supers) (k : Call) → Walks k (c .before .before .before .before .before .before .before .before .before .before .before .before .before .before .before .before .before .before .before .before .before .before .before .before .before .before .args .file .now) (c .before .before .before .before .before .before .before .before .before .before .before .before .before .before .before .before .before .before .before .before .before .before .before .before .before .before .args .reading) (c .before .before .before .before .before .before .before .before .before .before .before .before .before .before .before .before .before .before .before .before .before .before .before .before .before .before .args .chunk .now) (c .before .before .before .before .before .before .before .before .before .before .before .before .before .before .before .before .before .before .before .before .before .before .before .before .before .before .args .bound .now) (c .before .before .before .before .before .before .before .before .before .before .before .before .before .before .before .before .before .before .before .before .before .before .before .before .before .before .args .down .now) → {e : Counted} → c .count-elements2 .result ≡ e
-    → e ≡ countedOf (elements k (c .before .before .before .before .before .at2 .given .0 .0 + c .before .block-element-at .result) (blockElements (c .before .before .before .before .before .before .before .before .before .before .before .before .before .before .before .before .before .before .before .before .before .before .before .before .before .before .args .reading .geometry .header) (c .before .before .before .before .before .before .before .before .before .before .before .before .before .before .before .before .before .before .before .supers .u)) (c .before .before .before .before .before .before .before .before .before .before .blocks2 .slot) (accepted []))
+    → e ≡ countedOf (elements k (c .before .before .before .before .before .found .given .0 .0 + c .before .block-element-at .result) (blockElements (c .before .before .before .before .before .before .before .before .before .before .before .before .before .before .before .before .before .before .before .before .before .before .before .before .before .before .args .reading .geometry .header) (c .before .before .before .before .before .before .before .before .before .before .before .before .before .before .before .before .before .before .before .supers .u)) (c .before .before .before .before .before .before .before .before .before .before .blocks2 .slot) (accepted []))
 ran2 c k w q =
     let z = c .before .before .before .before .before .before .before .before .before .before .blocks2 .inv .3 in
-    sym q ∙ c .count-elements2 .ensures k (w .reads) ∙ ap (λ (y : ℕ). countedOf (elements k (c .before .before .before .before .before .at2 .given .0 .0 + c .before .block-element-at .result) y (c .before .before .before .before .before .before .before .before .before .before .blocks2 .slot) (accepted []))) z
+    sym q ∙ c .count-elements2 .ensures k (w .reads) ∙ ap (λ (y : ℕ). countedOf (elements k (c .before .before .before .before .before .found .given .0 .0 + c .before .block-element-at .result) y (c .before .before .before .before .before .before .before .before .before .before .blocks2 .slot) (accepted []))) z
 
 -- behind a page in which the count ends, behind an unpaged block
 last-page : (c : tie.Then5 Inv-pages μ-pages Inv-blocks2 μ-blocks2 Inv-supers μ-supers) → BehindBlock (c .before .before .before .before .before .before .before .before .before .before .before .before .before .before .before .before .before .before .before .before .before .before .before .before .before .before .before .before .before .before .before .before .before .before .before .before .args .file .now) (c .before .before .before .before .before .before .before .before .before .before .before .before .before .before .before .before .before .before .before .before .before .before .before .before .before .before .before .before .before .before .before .before .before .before .before .before .args .reading) (c .before .before .before .before .before .before .before .before .before .before .before .before .before .before .before .before .before .before .before .before .before .before .before .before .before .before .before .before .before .before .before .before .before .before .before .before .args .first) (c .before .before .before .before .before .before .before .before .before .before .before .before .before .before .before .before .before .before .before .before .before .before .before .before .before .before .before .before .before .before .before .before .before .before .before .before .args .chunk .now) (c .before .before .before .before .before .before .before .before .before .before .before .before .before .before .before .before .before .before .before .before .before .before .before .before .before .before .before .before .before .before .before .before .before .before .before .before .args .bound .now) (c .before .before .before .before .before .before .before .before .before .before .before .before .before .before .before .before .before .before .before .before .before .before .before .before .before .before .before .before .before .before .before .before .before .before .before .before .args .down .now) (c .before .before .before .before .before .before .before .before .before .before .pages .total + c .before .before .n .given .0 .0) (c .before .before .before .before .before .before .before .before .before .before .before .before .before .before .before .before .before .before .before .before .blocks2 .slot) (c .before .before .before .before .before .before .before .before .before .before .before .before .before .before .before .before .before .before .before .before .before .before .before .before .before .before .before .before .before .supers .u) (c .before .before .before .before .before .before .before .before .before .before .before .before .before .before .before .before .before .before .before .before .before .before .at .given .0 .0) (c .before .before .before .before .before .before .before .before .before .before .before .before .before .before .before .before .before .before .before .before .blocks2 .k)
@@ -124,7 +139,7 @@ last-page c =
     let w = f .some in
     let cf = count-few (w .0) _ _ _ _ (ran (c .before .before) (w .0) (w .1)) in
     let past = c .if5 .taken in
-    page-run-last _ _ _ _ _ _ _ _ _ _ _ _ _ _ s (omega arith) _ (λ k y. turned (c .before .before .before .before .before .before .before .before) k y (c .before .before .before .before .before .before .pos .given .1)) _ (omega arith) (ran (c .before .before)) (omega arith)
+    page-run-last _ _ _ _ _ _ _ _ _ _ _ _ _ _ s (omega arith) _ (λ k y. turned (c .before .before .before .before .before .before .before .before) k y (c .before .before .before .before .before .before .found3 .given .1)) _ (omega arith) (ran (c .before .before)) (omega arith)
     (pages-exact _ v us (omega arith) (in-pages-over _ us (x .6)))
 
 unpaged : (c : tie.After-known-told9 Inv-pages μ-pages Inv-blocks2 μ-blocks2 Inv-supers μ-supers) → BehindBlock (c .before .before .before .before .before .before .before .before .before .before .before .before .before .before .before .before .before .before .before .before .before .before .before .before .before .before .before .before .before .args .file .now) (c .before .before .before .before .before .before .before .before .before .before .before .before .before .before .before .before .before .before .before .before .before .before .before .before .before .before .before .before .before .args .reading) (c .before .before .before .before .before .before .before .before .before .before .before .before .before .before .before .before .before .before .before .before .before .before .before .before .before .before .before .before .before .args .first) (c .before .before .before .before .before .before .before .before .before .before .before .before .before .before .before .before .before .before .before .before .before .before .before .before .before .before .before .before .before .args .chunk .now) (c .before .before .before .before .before .before .before .before .before .before .before .before .before .before .before .before .before .before .before .before .before .before .before .before .before .before .before .before .before .args .bound .now) (c .before .before .before .before .before .before .before .before .before .before .before .before .before .before .before .before .before .before .before .before .before .before .before .before .before .before .before .before .before .args .down .now) (c .before .before .before .before .before .before .before .before .before .before .before .before .before .blocks2 .total + c .before .n2 .given .0 .0) (c .before .before .before .before .before .before .before .before .before .before .before .before .before .blocks2 .slot) (c .before .before .before .before .before .before .before .before .before .before .before .before .before .before .before .before .before .before .before .before .before .before .supers .u) (c .before .before .before .before .before .before .before .before .before .before .before .before .before .before .before .at .given .0 .0) (c .before .before .before .before .before .before .before .before .before .before .before .before .before .blocks2 .k)
@@ -141,7 +156,7 @@ unpaged c =
     let o = opens (c .before .before .before .before .before .before .before .before .before .before .before) in
     let q = sym (c .before .before .before .before .before .before .in-pages .ensures) ∙ c .before .before .before .before .before .if4 .left in
     let cf = count-few (w .0) _ _ _ _ (ran2 (c .before .before .before) (w .0) (w .1) (c .before .n2 .given .1)) in
-    block-run _ _ _ _ _ _ _ _ _ _ _ (x .6) (omega arith) (o .0) (o .1) _ (λ k y. stepped (c .before .before .before .before .before .before .before .before .before .before) k y (c .before .before .before .before .before .before .before .before .at2 .given .1)) q _ (begins (c .before .before .before .before)) _ cf
+    block-run _ _ _ _ _ _ _ _ _ _ _ (x .6) (omega arith) (o .0) (o .1) _ (λ k y. stepped (c .before .before .before .before .before .before .before .before .before .before) k y (c .before .before .before .before .before .before .before .before .found .given .1)) q _ (begins (c .before .before .before .before)) _ cf
     (λ k y. ran2 (c .before .before .before) k y (c .before .n2 .given .1))
 
 -- behind the data block, whichever way
@@ -161,7 +176,7 @@ behind-block c =
     (λ v. ⊎-elim
     (λ w. (
       subst (λ (y : ℕ). BehindBlock (c .before .before .before .before .before .before .before .before .before .before .before .before .before .before .before .before .before .before .before .before .before .before .before .before .args .file .now) (c .before .before .before .before .before .before .before .before .before .before .before .before .before .before .before .before .before .before .before .before .before .before .before .before .args .reading) (c .before .before .before .before .before .before .before .before .before .before .before .before .before .before .before .before .before .before .before .before .before .before .before .before .args .first) (c .before .before .before .before .before .before .before .before .before .before .before .before .before .before .before .before .before .before .before .before .before .before .before .before .args .chunk .now) (c .before .before .before .before .before .before .before .before .before .before .before .before .before .before .before .before .before .before .before .before .before .before .before .before .args .bound .now) (c .before .before .before .before .before .before .before .before .before .before .before .before .before .before .before .before .before .before .before .before .before .before .before .before .args .down .now) (y) (c .before .before .before .before .before .before .before .before .blocks2 .slot) (c .before .before .before .before .before .before .before .before .before .before .before .before .before .before .before .before .before .supers .u) (c .before .before .before .before .before .before .before .before .before .before .at .given .0 .0) (c .before .before .before .before .before .before .before .before .blocks2 .k)) (sym (w .14))
-          (last-page (record { before = record { before = record { before = record { before = record { before = record { before = record { before = record { before = record { before = record { before = record { before = record { before = record { before = c .before; if4 = w .0 }; pages2 = w .1 }; pages = w .2 }; pages-test = w .3 }; enter-page = w .4 }; match3 = w .5 }; pos = w .6 }; known-told5 = w .7 }; count-elements = w .8 }; match4 = w .9 }; n = w .10 }; known-told7 = w .11 }; if5 = w .12 })),
+          (last-page (record { before = record { before = record { before = record { before = record { before = record { before = record { before = record { before = record { before = record { before = record { before = record { before = record { before = c .before; if4 = w .0 }; pages2 = w .1 }; pages = w .2 }; pages-test = w .3 }; enter-page-in-turn = w .4 }; match3 = w .5 }; found3 = w .6 }; known-told5 = w .7 }; count-elements = w .8 }; match4 = w .9 }; n = w .10 }; known-told7 = w .11 }; if5 = w .12 })),
       w .13 ∙ w .2 .inv .8,
     ))
     (λ w. (
@@ -210,7 +225,7 @@ done-direct c =
     let t = c .before .if2 .taken in
     block-ended _ _ _ _ _ _ _ _ _ _ _ (x .6) (omega arith) (omega arith) (c .if3 .taken)
 
-done-block : (c : tie.After-known-told4 Inv-pages μ-pages Inv-blocks2 μ-blocks2 Inv-supers μ-supers) → Done (c .before .before .before .before .before .before .before .before .before .before .before .before .before .before .before .before .before .before .before .before .before .before .args .file .now) (c .before .before .before .before .before .before .before .before .before .before .before .before .before .before .before .before .before .before .before .before .before .before .args .reading) (c .before .before .before .before .before .before .before .before .before .before .before .before .before .before .before .before .before .before .before .before .before .before .args .first) (c .before .before .before .before .before .before .before .before .before .before .before .before .before .before .before .before .before .before .before .before .before .before .args .chunk .now) (c .before .before .before .before .before .before .before .before .before .before .before .before .before .before .before .before .before .before .before .before .before .before .args .bound .now) (c .before .before .before .before .before .before .before .before .before .before .before .before .before .before .before .before .before .before .before .before .before .before .args .down .now) (Refused (c .before .r2 .given .0 .0)) (c .before .before .before .before .before .before .blocks2 .total)
+done-block : (c : tie.After-known-told4 Inv-pages μ-pages Inv-blocks2 μ-blocks2 Inv-supers μ-supers) → Done (c .before .before .before .before .before .before .before .before .before .before .before .before .before .before .before .before .before .before .before .before .before .before .args .file .now) (c .before .before .before .before .before .before .before .before .before .before .before .before .before .before .before .before .before .before .before .before .before .before .args .reading) (c .before .before .before .before .before .before .before .before .before .before .before .before .before .before .before .before .before .before .before .before .before .before .args .first) (c .before .before .before .before .before .before .before .before .before .before .before .before .before .before .before .before .before .before .before .before .before .before .args .chunk .now) (c .before .before .before .before .before .before .before .before .before .before .before .before .before .before .before .before .before .before .before .before .before .before .args .bound .now) (c .before .before .before .before .before .before .before .before .before .before .before .before .before .before .before .before .before .before .before .before .before .before .args .down .now) (Refused (c .before .found2 .given .0 .0)) (c .before .before .before .before .before .before .blocks2 .total)
 done-block c =
     let a = c .before .before .before .before .before .before .before .before .before .before .before .before .before .before .before .before .before .before .before .before .before .before in
     let x = c .before .before .before .before .before .before .blocks2 .inv in
@@ -221,9 +236,9 @@ done-block c =
     let tk = c .before .before .before .before .before .blocks2-test .taken in
     let lu = x .1 in
     let o = opens (c .before .before .before .before) in
-    block-refused _ _ _ _ _ _ _ _ _ _ _ (x .6) (omega arith) (o .0) (o .1) _ (λ k w. stepped (c .before .before .before) k w (c .before .r2 .given .1))
+    block-refused _ _ _ _ _ _ _ _ _ _ _ (x .6) (omega arith) (o .0) (o .1) _ (λ k w. stepped (c .before .before .before) k w (c .before .found2 .given .1))
 
-done-page : (c : tie.After-known-told6 Inv-pages μ-pages Inv-blocks2 μ-blocks2 Inv-supers μ-supers) → Done (c .before .before .before .before .before .before .before .before .before .before .before .before .before .before .before .before .before .before .before .before .before .before .before .before .before .before .before .before .before .before .before .args .file .now) (c .before .before .before .before .before .before .before .before .before .before .before .before .before .before .before .before .before .before .before .before .before .before .before .before .before .before .before .before .before .before .before .args .reading) (c .before .before .before .before .before .before .before .before .before .before .before .before .before .before .before .before .before .before .before .before .before .before .before .before .before .before .before .before .before .before .before .args .first) (c .before .before .before .before .before .before .before .before .before .before .before .before .before .before .before .before .before .before .before .before .before .before .before .before .before .before .before .before .before .before .before .args .chunk .now) (c .before .before .before .before .before .before .before .before .before .before .before .before .before .before .before .before .before .before .before .before .before .before .before .before .before .before .before .before .before .before .before .args .bound .now) (c .before .before .before .before .before .before .before .before .before .before .before .before .before .before .before .before .before .before .before .before .before .before .before .before .before .before .before .before .before .before .before .args .down .now) (Refused (c .before .r3 .given .0 .0)) (c .before .before .before .before .before .pages .total)
+done-page : (c : tie.After-known-told6 Inv-pages μ-pages Inv-blocks2 μ-blocks2 Inv-supers μ-supers) → Done (c .before .before .before .before .before .before .before .before .before .before .before .before .before .before .before .before .before .before .before .before .before .before .before .before .before .before .before .before .before .before .before .args .file .now) (c .before .before .before .before .before .before .before .before .before .before .before .before .before .before .before .before .before .before .before .before .before .before .before .before .before .before .before .before .before .before .before .args .reading) (c .before .before .before .before .before .before .before .before .before .before .before .before .before .before .before .before .before .before .before .before .before .before .before .before .before .before .before .before .before .before .before .args .first) (c .before .before .before .before .before .before .before .before .before .before .before .before .before .before .before .before .before .before .before .before .before .before .before .before .before .before .before .before .before .before .before .args .chunk .now) (c .before .before .before .before .before .before .before .before .before .before .before .before .before .before .before .before .before .before .before .before .before .before .before .before .before .before .before .before .before .before .before .args .bound .now) (c .before .before .before .before .before .before .before .before .before .before .before .before .before .before .before .before .before .before .before .before .before .before .before .before .before .before .before .before .before .before .before .args .down .now) (Refused (c .before .found4 .given .0 .0)) (c .before .before .before .before .before .pages .total)
 done-page c =
     let a = c .before .before .before .before .before .before .before .before .before .before .before .before .before .before .before .before .before .before .before .before .before .before .before .before .before .before .before .before .before .before .before in
     let x = c .before .before .before .before .before .pages .inv in
@@ -237,9 +252,9 @@ done-page c =
     let s = x .9 in
     let v = f .bounded .served in
     let us = c .before .before .before .before .before .before .before .before .before .before .before .before .before .before .before .before .before .before .before .before .before .before .before .before .supers .u in
-    page-refused _ _ _ _ _ _ _ _ _ _ _ _ _ _ s (omega arith) _ (λ k w. turned (c .before .before .before) k w (c .before .r3 .given .1))
+    page-refused _ _ _ _ _ _ _ _ _ _ _ _ _ _ s (omega arith) _ (λ k w. turned (c .before .before .before) k w (c .before .found4 .given .1))
 
-done-page-run : (c : tie.After-known-told8 Inv-pages μ-pages Inv-blocks2 μ-blocks2 Inv-supers μ-supers) → Done (c .before .before .before .before .before .before .before .before .before .before .before .before .before .before .before .before .before .before .before .before .before .before .before .before .before .before .before .before .before .before .before .before .before .before .before .args .file .now) (c .before .before .before .before .before .before .before .before .before .before .before .before .before .before .before .before .before .before .before .before .before .before .before .before .before .before .before .before .before .before .before .before .before .before .before .args .reading) (c .before .before .before .before .before .before .before .before .before .before .before .before .before .before .before .before .before .before .before .before .before .before .before .before .before .before .before .before .before .before .before .before .before .before .before .args .first) (c .before .before .before .before .before .before .before .before .before .before .before .before .before .before .before .before .before .before .before .before .before .before .before .before .before .before .before .before .before .before .before .before .before .before .before .args .chunk .now) (c .before .before .before .before .before .before .before .before .before .before .before .before .before .before .before .before .before .before .before .before .before .before .before .before .before .before .before .before .before .before .before .before .before .before .before .args .bound .now) (c .before .before .before .before .before .before .before .before .before .before .before .before .before .before .before .before .before .before .before .before .before .before .before .before .before .before .before .before .before .before .before .before .before .before .before .args .down .now) (Refused (c .before .r4 .given .0 .0)) (c .before .before .before .before .before .before .before .before .before .pages .total)
+done-page-run : (c : tie.After-known-told8 Inv-pages μ-pages Inv-blocks2 μ-blocks2 Inv-supers μ-supers) → Done (c .before .before .before .before .before .before .before .before .before .before .before .before .before .before .before .before .before .before .before .before .before .before .before .before .before .before .before .before .before .before .before .before .before .before .before .args .file .now) (c .before .before .before .before .before .before .before .before .before .before .before .before .before .before .before .before .before .before .before .before .before .before .before .before .before .before .before .before .before .before .before .before .before .before .before .args .reading) (c .before .before .before .before .before .before .before .before .before .before .before .before .before .before .before .before .before .before .before .before .before .before .before .before .before .before .before .before .before .before .before .before .before .before .before .args .first) (c .before .before .before .before .before .before .before .before .before .before .before .before .before .before .before .before .before .before .before .before .before .before .before .before .before .before .before .before .before .before .before .before .before .before .before .args .chunk .now) (c .before .before .before .before .before .before .before .before .before .before .before .before .before .before .before .before .before .before .before .before .before .before .before .before .before .before .before .before .before .before .before .before .before .before .before .args .bound .now) (c .before .before .before .before .before .before .before .before .before .before .before .before .before .before .before .before .before .before .before .before .before .before .before .before .before .before .before .before .before .before .before .before .before .before .before .args .down .now) (Refused (c .before .r2 .given .0 .0)) (c .before .before .before .before .before .before .before .before .before .pages .total)
 done-page-run c =
     let a = c .before .before .before .before .before .before .before .before .before .before .before .before .before .before .before .before .before .before .before .before .before .before .before .before .before .before .before .before .before .before .before .before .before .before .before in
     let x = c .before .before .before .before .before .before .before .before .before .pages .inv in
@@ -253,11 +268,11 @@ done-page-run c =
     let s = x .9 in
     let v = f .bounded .served in
     let us = c .before .before .before .before .before .before .before .before .before .before .before .before .before .before .before .before .before .before .before .before .before .before .before .before .before .before .before .before .supers .u in
-    page-run-refused _ _ _ _ _ _ _ _ _ _ _ _ _ _ s (omega arith) _ (λ k w. turned (c .before .before .before .before .before .before .before) k w (c .before .before .before .before .before .pos .given .1)) _
-    (λ k w. sym (c .before .r4 .given .1) ∙ c .before .before .before .count-elements .ensures k (w .reads)
-    ∙ ap (λ (y : ℕ). countedOf (elements k (c .before .before .before .before .before .pos .given .0 .0) y (c .before .before .before .before .before .before .before .before .before .pages .from) (accepted []))) yz)
+    page-run-refused _ _ _ _ _ _ _ _ _ _ _ _ _ _ s (omega arith) _ (λ k w. turned (c .before .before .before .before .before .before .before) k w (c .before .before .before .before .before .found3 .given .1)) _
+    (λ k w. sym (c .before .r2 .given .1) ∙ c .before .before .before .count-elements .ensures k (w .reads)
+    ∙ ap (λ (y : ℕ). countedOf (elements k (c .before .before .before .before .before .found3 .given .0 .0) y (c .before .before .before .before .before .before .before .before .before .pages .from) (accepted []))) yz)
 
-done-block-run : (c : tie.After-known-told10 Inv-pages μ-pages Inv-blocks2 μ-blocks2 Inv-supers μ-supers) → Done (c .before .before .before .before .before .before .before .before .before .before .before .before .before .before .before .before .before .before .before .before .before .before .before .before .before .before .before .before .before .args .file .now) (c .before .before .before .before .before .before .before .before .before .before .before .before .before .before .before .before .before .before .before .before .before .before .before .before .before .before .before .before .before .args .reading) (c .before .before .before .before .before .before .before .before .before .before .before .before .before .before .before .before .before .before .before .before .before .before .before .before .before .before .before .before .before .args .first) (c .before .before .before .before .before .before .before .before .before .before .before .before .before .before .before .before .before .before .before .before .before .before .before .before .before .before .before .before .before .args .chunk .now) (c .before .before .before .before .before .before .before .before .before .before .before .before .before .before .before .before .before .before .before .before .before .before .before .before .before .before .before .before .before .args .bound .now) (c .before .before .before .before .before .before .before .before .before .before .before .before .before .before .before .before .before .before .before .before .before .before .before .before .before .before .before .before .before .args .down .now) (Refused (c .before .r5 .given .0 .0)) (c .before .before .before .before .before .before .before .before .before .before .before .before .before .blocks2 .total)
+done-block-run : (c : tie.After-known-told10 Inv-pages μ-pages Inv-blocks2 μ-blocks2 Inv-supers μ-supers) → Done (c .before .before .before .before .before .before .before .before .before .before .before .before .before .before .before .before .before .before .before .before .before .before .before .before .before .before .before .before .before .args .file .now) (c .before .before .before .before .before .before .before .before .before .before .before .before .before .before .before .before .before .before .before .before .before .before .before .before .before .before .before .before .before .args .reading) (c .before .before .before .before .before .before .before .before .before .before .before .before .before .before .before .before .before .before .before .before .before .before .before .before .before .before .before .before .before .args .first) (c .before .before .before .before .before .before .before .before .before .before .before .before .before .before .before .before .before .before .before .before .before .before .before .before .before .before .before .before .before .args .chunk .now) (c .before .before .before .before .before .before .before .before .before .before .before .before .before .before .before .before .before .before .before .before .before .before .before .before .before .before .before .before .before .args .bound .now) (c .before .before .before .before .before .before .before .before .before .before .before .before .before .before .before .before .before .before .before .before .before .before .before .before .before .before .before .before .before .args .down .now) (Refused (c .before .r3 .given .0 .0)) (c .before .before .before .before .before .before .before .before .before .before .before .before .before .blocks2 .total)
 done-block-run c =
     let a = c .before .before .before .before .before .before .before .before .before .before .before .before .before .before .before .before .before .before .before .before .before .before .before .before .before .before .before .before .before in
     let x = c .before .before .before .before .before .before .before .before .before .before .before .before .before .blocks2 .inv in
@@ -269,8 +284,8 @@ done-block-run c =
     let lu = x .1 in
     let o = opens (c .before .before .before .before .before .before .before .before .before .before .before) in
     let q = sym (c .before .before .before .before .before .before .in-pages .ensures) ∙ c .before .before .before .before .before .if4 .left in
-    block-run-refused _ _ _ _ _ _ _ _ _ _ _ (x .6) (omega arith) (o .0) (o .1) _ (λ k y. stepped (c .before .before .before .before .before .before .before .before .before .before) k y (c .before .before .before .before .before .before .before .before .at2 .given .1)) q _ (begins (c .before .before .before .before)) _
-    (λ k y. ran2 (c .before .before .before) k y (c .before .r5 .given .1))
+    block-run-refused _ _ _ _ _ _ _ _ _ _ _ (x .6) (omega arith) (o .0) (o .1) _ (λ k y. stepped (c .before .before .before .before .before .before .before .before .before .before) k y (c .before .before .before .before .before .before .before .before .found .given .1)) q _ (begins (c .before .before .before .before)) _
+    (λ k y. ran2 (c .before .before .before) k y (c .before .r3 .given .1))
 
 exit : (c : tie.Left-supers Inv-pages μ-pages Inv-blocks2 μ-blocks2 Inv-supers μ-supers) → Done (c .before .before .before .before .before .before .before .before .args .file .now) (c .before .before .before .before .before .before .before .before .args .reading) (c .before .before .before .before .before .before .before .before .args .first) (c .before .before .before .before .before .before .before .before .args .chunk .now) (c .before .before .before .before .before .before .before .before .args .bound .now) (c .before .before .before .before .before .before .before .before .args .down .now) (c .supers-test .refused) (c .supers-test .total)
 exit c k y =
@@ -283,12 +298,12 @@ exit c k y =
     (λ v. ⊎-elim
     (λ w. ap (λ (z : Checked). answered z (c .supers-test .total)) (w .12 ∙ w .8 .inv .5) ∙ ap (answered _) (w .13) ∙ done-direct (record { before = record { before = record { before = record { before = record { before = record { before = record { before = record { before = record { before = record { before = record { before = record { before = c .before; supers-test = w .0 }; if1 = w .1 }; blocks3 = w .2 }; block-elements = w .3 }; enter-super = w .4 }; match = w .5 }; at = w .6 }; known-told = w .7 }; blocks2 = w .8 }; blocks2-test = w .9 }; if2 = w .10 }; if3 = w .11 }) k y)
     (λ v. ⊎-elim
-    (λ w. ap (λ (z : Checked). answered z (c .supers-test .total)) (w .15) ∙ ap (answered _) (w .16) ∙ done-block (record { before = record { before = record { before = record { before = record { before = record { before = record { before = record { before = record { before = record { before = record { before = record { before = record { before = record { before = record { before = c .before; supers-test = w .0 }; if1 = w .1 }; blocks3 = w .2 }; block-elements = w .3 }; enter-super = w .4 }; match = w .5 }; at = w .6 }; known-told = w .7 }; blocks2 = w .8 }; blocks2-test = w .9 }; if2 = w .10 }; enter-block = w .11 }; match2 = w .12 }; r2 = w .13 }; known-told4 = w .14 }) k y)
+    (λ w. ap (λ (z : Checked). answered z (c .supers-test .total)) (w .15) ∙ ap (answered _) (w .16) ∙ done-block (record { before = record { before = record { before = record { before = record { before = record { before = record { before = record { before = record { before = record { before = record { before = record { before = record { before = record { before = record { before = c .before; supers-test = w .0 }; if1 = w .1 }; blocks3 = w .2 }; block-elements = w .3 }; enter-super = w .4 }; match = w .5 }; at = w .6 }; known-told = w .7 }; blocks2 = w .8 }; blocks2-test = w .9 }; if2 = w .10 }; enter-block-in-turn = w .11 }; match2 = w .12 }; found2 = w .13 }; known-told4 = w .14 }) k y)
     (λ v. ⊎-elim
-    (λ w. ap (λ (z : Checked). answered z (c .supers-test .total)) (w .24) ∙ ap (answered _) (w .25) ∙ done-page (record { before = record { before = record { before = record { before = record { before = record { before = record { before = record { before = record { before = record { before = record { before = record { before = record { before = record { before = record { before = record { before = record { before = record { before = record { before = record { before = record { before = record { before = record { before = record { before = c .before; supers-test = w .0 }; if1 = w .1 }; blocks3 = w .2 }; block-elements = w .3 }; enter-super = w .4 }; match = w .5 }; at = w .6 }; known-told = w .7 }; blocks2 = w .8 }; blocks2-test = w .9 }; if2 = w .10 }; enter-block = w .11 }; match2 = w .12 }; at2 = w .13 }; known-told3 = w .14 }; in-pages = w .15 }; if4 = w .16 }; pages2 = w .17 }; pages = w .18 }; pages-test = w .19 }; enter-page = w .20 }; match3 = w .21 }; r3 = w .22 }; known-told6 = w .23 }) k y)
+    (λ w. ap (λ (z : Checked). answered z (c .supers-test .total)) (w .24) ∙ ap (answered _) (w .25) ∙ done-page (record { before = record { before = record { before = record { before = record { before = record { before = record { before = record { before = record { before = record { before = record { before = record { before = record { before = record { before = record { before = record { before = record { before = record { before = record { before = record { before = record { before = record { before = record { before = record { before = c .before; supers-test = w .0 }; if1 = w .1 }; blocks3 = w .2 }; block-elements = w .3 }; enter-super = w .4 }; match = w .5 }; at = w .6 }; known-told = w .7 }; blocks2 = w .8 }; blocks2-test = w .9 }; if2 = w .10 }; enter-block-in-turn = w .11 }; match2 = w .12 }; found = w .13 }; known-told3 = w .14 }; in-pages = w .15 }; if4 = w .16 }; pages2 = w .17 }; pages = w .18 }; pages-test = w .19 }; enter-page-in-turn = w .20 }; match3 = w .21 }; found4 = w .22 }; known-told6 = w .23 }) k y)
     (λ v. ⊎-elim
-    (λ w. ap (λ (z : Checked). answered z (c .supers-test .total)) (w .28) ∙ ap (answered _) (w .29) ∙ done-page-run (record { before = record { before = record { before = record { before = record { before = record { before = record { before = record { before = record { before = record { before = record { before = record { before = record { before = record { before = record { before = record { before = record { before = record { before = record { before = record { before = record { before = record { before = record { before = record { before = record { before = record { before = record { before = record { before = c .before; supers-test = w .0 }; if1 = w .1 }; blocks3 = w .2 }; block-elements = w .3 }; enter-super = w .4 }; match = w .5 }; at = w .6 }; known-told = w .7 }; blocks2 = w .8 }; blocks2-test = w .9 }; if2 = w .10 }; enter-block = w .11 }; match2 = w .12 }; at2 = w .13 }; known-told3 = w .14 }; in-pages = w .15 }; if4 = w .16 }; pages2 = w .17 }; pages = w .18 }; pages-test = w .19 }; enter-page = w .20 }; match3 = w .21 }; pos = w .22 }; known-told5 = w .23 }; count-elements = w .24 }; match4 = w .25 }; r4 = w .26 }; known-told8 = w .27 }) k y)
-    (λ w. ap (λ (z : Checked). answered z (c .supers-test .total)) (w .22) ∙ ap (answered _) (w .23) ∙ done-block-run (record { before = record { before = record { before = record { before = record { before = record { before = record { before = record { before = record { before = record { before = record { before = record { before = record { before = record { before = record { before = record { before = record { before = record { before = record { before = record { before = record { before = record { before = c .before; supers-test = w .0 }; if1 = w .1 }; blocks3 = w .2 }; block-elements = w .3 }; enter-super = w .4 }; match = w .5 }; at = w .6 }; known-told = w .7 }; blocks2 = w .8 }; blocks2-test = w .9 }; if2 = w .10 }; enter-block = w .11 }; match2 = w .12 }; at2 = w .13 }; known-told3 = w .14 }; in-pages = w .15 }; if4 = w .16 }; block-element-at = w .17 }; count-elements2 = w .18 }; match5 = w .19 }; r5 = w .20 }; known-told10 = w .21 }) k y) v) v) v) v) v) v)
+    (λ w. ap (λ (z : Checked). answered z (c .supers-test .total)) (w .28) ∙ ap (answered _) (w .29) ∙ done-page-run (record { before = record { before = record { before = record { before = record { before = record { before = record { before = record { before = record { before = record { before = record { before = record { before = record { before = record { before = record { before = record { before = record { before = record { before = record { before = record { before = record { before = record { before = record { before = record { before = record { before = record { before = record { before = record { before = c .before; supers-test = w .0 }; if1 = w .1 }; blocks3 = w .2 }; block-elements = w .3 }; enter-super = w .4 }; match = w .5 }; at = w .6 }; known-told = w .7 }; blocks2 = w .8 }; blocks2-test = w .9 }; if2 = w .10 }; enter-block-in-turn = w .11 }; match2 = w .12 }; found = w .13 }; known-told3 = w .14 }; in-pages = w .15 }; if4 = w .16 }; pages2 = w .17 }; pages = w .18 }; pages-test = w .19 }; enter-page-in-turn = w .20 }; match3 = w .21 }; found3 = w .22 }; known-told5 = w .23 }; count-elements = w .24 }; match4 = w .25 }; r2 = w .26 }; known-told8 = w .27 }) k y)
+    (λ w. ap (λ (z : Checked). answered z (c .supers-test .total)) (w .22) ∙ ap (answered _) (w .23) ∙ done-block-run (record { before = record { before = record { before = record { before = record { before = record { before = record { before = record { before = record { before = record { before = record { before = record { before = record { before = record { before = record { before = record { before = record { before = record { before = record { before = record { before = record { before = record { before = c .before; supers-test = w .0 }; if1 = w .1 }; blocks3 = w .2 }; block-elements = w .3 }; enter-super = w .4 }; match = w .5 }; at = w .6 }; known-told = w .7 }; blocks2 = w .8 }; blocks2-test = w .9 }; if2 = w .10 }; enter-block-in-turn = w .11 }; match2 = w .12 }; found = w .13 }; known-told3 = w .14 }; in-pages = w .15 }; if4 = w .16 }; block-element-at = w .17 }; count-elements2 = w .18 }; match5 = w .19 }; r3 = w .20 }; known-told10 = w .21 }) k y) v) v) v) v) v) v)
     (c .supers-test .came)
 
 super-blocks-requires :
@@ -409,11 +424,12 @@ blocks2-holds c =
       x .2,
       super-in _ _ _ _ _ _ _ _ _ (x .3) (omega arith) (c .before .before .before .before .before .before .if1 .left) _
           (λ k w. subst (EnteredSuper k _) (c .before .at .given .1) (c .before .before .before .enter-super .ensures k (sees _ _ 0 _ _ _ k w))),
+      λ k w. tt,
     )
 
-enter-block-requires :
-    tie.Need-enter-block-requires Inv-pages μ-pages Inv-blocks2 μ-blocks2 Inv-supers μ-supers
-enter-block-requires c κs =
+enter-block-in-turn-requires :
+    tie.Need-enter-block-in-turn-requires Inv-pages μ-pages Inv-blocks2 μ-blocks2 Inv-supers μ-supers
+enter-block-in-turn-requires c κs =
     let a = c .before .before .before .before .before .before .before .before .before .before .before .before .before .before .before .before .before .before in
     let x = c .before .before .blocks2 .inv in
     let f = x .0 in
@@ -459,15 +475,15 @@ blocks2-again c =
     let tk = c .before .before .before .before .blocks2-test .taken in
     let lu = x .1 in
     let o = opens (c .before .before .before) in
-    (f, lu, yb, ye, omega arith, x .5, rw ye (block-behind _ _ _ _ _ _ _ _ _ _ _ (block-skip _ _ _ _ _ _ _ _ _ _ _ (x .6) (omega arith) (o .0) (o .1) (λ k w. stepped (c .before .before) k w (c .enum-told2 .given .1)))))
+    (f, lu, yb, ye, omega arith, x .5, rw ye (block-behind _ _ _ _ _ _ _ _ _ _ _ (block-skip _ _ _ _ _ _ _ _ _ _ _ (x .6) (omega arith) (o .0) (o .1) (λ k w. stepped (c .before .before) k w (c .enum-told2 .given .1)))), kept-block (c .before .before))
 
-enum-known-at-2 :
-    tie.Need-enum-known-at-2 Inv-pages μ-pages Inv-blocks2 μ-blocks2 Inv-supers μ-supers
-enum-known-at-2 c = search needs
+enum-known-found :
+    tie.Need-enum-known-found Inv-pages μ-pages Inv-blocks2 μ-blocks2 Inv-supers μ-supers
+enum-known-found c = search needs
 
-enum-known-r-2 :
-    tie.Need-enum-known-r-2 Inv-pages μ-pages Inv-blocks2 μ-blocks2 Inv-supers μ-supers
-enum-known-r-2 c = search needs
+enum-known-found-2 :
+    tie.Need-enum-known-found-2 Inv-pages μ-pages Inv-blocks2 μ-blocks2 Inv-supers μ-supers
+enum-known-found-2 c = search needs
 
 in-pages-requires :
     tie.Need-in-pages-requires Inv-pages μ-pages Inv-blocks2 μ-blocks2 Inv-supers μ-supers
@@ -498,12 +514,13 @@ pages-holds c =
       q,
       omega arith,
       x .5,
-      block-pages _ _ _ _ _ _ _ _ _ _ _ (x .6) (omega arith) (o .0) (o .1) _ (λ k w. stepped (c .before .before .before .before .before .before) k w (c .before .before .before .before .at2 .given .1)) q,
+      block-pages _ _ _ _ _ _ _ _ _ _ _ (x .6) (omega arith) (o .0) (o .1) _ (λ k w. stepped (c .before .before .before .before .before .before) k w (c .before .before .before .before .found .given .1)) q,
+      λ k w. tt,
     )
 
-enter-page-requires :
-    tie.Need-enter-page-requires Inv-pages μ-pages Inv-blocks2 μ-blocks2 Inv-supers μ-supers
-enter-page-requires c κs =
+enter-page-in-turn-requires :
+    tie.Need-enter-page-in-turn-requires Inv-pages μ-pages Inv-blocks2 μ-blocks2 Inv-supers μ-supers
+enter-page-in-turn-requires c κs =
     let a = c .before .before .before .before .before .before .before .before .before .before .before .before .before .before .before .before .before .before .before .before .before .before .before .before .before .before .before in
     let x = c .before .pages .inv in
     let f = x .0 in
@@ -563,15 +580,15 @@ pages-again c =
     let s = x .9 in
     let v = f .bounded .served in
     let us = c .before .before .before .before .before .before .before .before .before .before .before .before .before .before .before .before .before .before .before .before .before .before .before .supers .u in
-    (f, x .1, yb, ye, x .4, yp, x .6, omega arith, x .8, rw yz (page-skip _ _ _ _ _ _ _ _ _ _ _ _ _ _ s (omega arith) (λ k w. turned (c .before .before) k w (c .enum-told3 .given .1))))
+    (f, x .1, yb, ye, x .4, yp, x .6, omega arith, x .8, rw yz (page-skip _ _ _ _ _ _ _ _ _ _ _ _ _ _ s (omega arith) (λ k w. turned (c .before .before) k w (c .enum-told3 .given .1))), kept-page (c .before .before))
 
-enum-known-pos :
-    tie.Need-enum-known-pos Inv-pages μ-pages Inv-blocks2 μ-blocks2 Inv-supers μ-supers
-enum-known-pos c = search needs
+enum-known-found-3 :
+    tie.Need-enum-known-found-3 Inv-pages μ-pages Inv-blocks2 μ-blocks2 Inv-supers μ-supers
+enum-known-found-3 c = search needs
 
-enum-known-r-3 :
-    tie.Need-enum-known-r-3 Inv-pages μ-pages Inv-blocks2 μ-blocks2 Inv-supers μ-supers
-enum-known-r-3 c = search needs
+enum-known-found-4 :
+    tie.Need-enum-known-found-4 Inv-pages μ-pages Inv-blocks2 μ-blocks2 Inv-supers μ-supers
+enum-known-found-4 c = search needs
 
 count-elements-requires :
     tie.Need-count-elements-requires Inv-pages μ-pages Inv-blocks2 μ-blocks2 Inv-supers μ-supers
@@ -590,7 +607,7 @@ count-elements-requires c κs =
     let us = c .before .before .before .before .before .before .before .before .before .before .before .before .before .before .before .before .before .before .before .before .before .before .before .before .supers .u in
     let w = f .some in
     let n = sees _ _ 0 _ _ _ (w .0) (w .1) in
-    ((w .0, w .1 .reads), rw yz (entered-page-room (w .0) _ _ n _ _ _ _ (turned (c .before .before .before) (w .0) (w .1) (c .before .pos .given .1))))
+    ((w .0, w .1 .reads), rw yz (entered-page-room (w .0) _ _ n _ _ _ _ (turned (c .before .before .before) (w .0) (w .1) (c .before .found3 .given .1))))
 
 enum-known-n : tie.Need-enum-known-n Inv-pages μ-pages Inv-blocks2 μ-blocks2 Inv-supers μ-supers
 enum-known-n c = search needs
@@ -617,9 +634,9 @@ add-total c =
     let l = s .few in
     omega arith
 
-enum-known-r-4 :
-    tie.Need-enum-known-r-4 Inv-pages μ-pages Inv-blocks2 μ-blocks2 Inv-supers μ-supers
-enum-known-r-4 c = search needs
+enum-known-r-2 :
+    tie.Need-enum-known-r-2 Inv-pages μ-pages Inv-blocks2 μ-blocks2 Inv-supers μ-supers
+enum-known-r-2 c = search needs
 
 add-if5 : tie.Need-add-if5 Inv-pages μ-pages Inv-blocks2 μ-blocks2 Inv-supers μ-supers
 add-if5 c =
@@ -691,8 +708,9 @@ pages-again-2 c =
       x .6,
       omega arith,
       x .8,
-      rw yz (page-run-on _ _ _ _ _ _ _ _ _ _ _ _ _ _ s (omega arith) _ (λ k y. turned (c .before .before .before .before .before .before .before .before) k y (c .before .before .before .before .before .before .pos .given .1)) _ (omega arith)
+      rw yz (page-run-on _ _ _ _ _ _ _ _ _ _ _ _ _ _ s (omega arith) _ (λ k y. turned (c .before .before .before .before .before .before .before .before) k y (c .before .before .before .before .before .before .found3 .given .1)) _ (omega arith)
           (ran (c .before .before)) (omega arith)),
+      kept-page (c .before .before .before .before .before .before .before .before),
     )
 
 block-element-at-requires :
@@ -710,7 +728,7 @@ add-pos c =
     let tk = c .before .before .before .before .before .before .before .before .blocks2-test .taken in
     let lu = x .1 in
     let w = f .some in
-    let e = stepped (c .before .before .before .before .before .before) (w .0) (w .1) (c .before .before .before .before .at2 .given .1) in
+    let e = stepped (c .before .before .before .before .before .before) (w .0) (w .1) (c .before .before .before .before .found .given .1) in
     let q = sym (c .before .before .in-pages .ensures) ∙ c .before .if4 .left in
     let room = unpaged-room _ _ _ _ _ (entered-block-room (w .0) _ _ (sees _ _ 0 _ _ _ (w .0) (w .1)) _ _ _ e q) in
     rw (c .block-element-at .ensures) (omega arith)
@@ -727,7 +745,7 @@ count-elements-requires-2 c κs =
     let tk = c .before .before .before .before .before .before .before .before .blocks2-test .taken in
     let lu = x .1 in
     let w = f .some in
-    let e = stepped (c .before .before .before .before .before .before) (w .0) (w .1) (c .before .before .before .before .at2 .given .1) in
+    let e = stepped (c .before .before .before .before .before .before) (w .0) (w .1) (c .before .before .before .before .found .given .1) in
     let q = sym (c .before .before .in-pages .ensures) ∙ c .before .if4 .left in
     let room = unpaged-room _ _ _ _ _ (entered-block-room (w .0) _ _ (sees _ _ 0 _ _ _ (w .0) (w .1)) _ _ _ e q) in
     ((w .0, w .1 .reads), rw (c .block-element-at .ensures, ye) room)
@@ -753,9 +771,9 @@ add-total-2 c =
     let l = x .6 .few in
     omega arith
 
-enum-known-r-5 :
-    tie.Need-enum-known-r-5 Inv-pages μ-pages Inv-blocks2 μ-blocks2 Inv-supers μ-supers
-enum-known-r-5 c = search needs
+enum-known-r-3 :
+    tie.Need-enum-known-r-3 Inv-pages μ-pages Inv-blocks2 μ-blocks2 Inv-supers μ-supers
+enum-known-r-3 c = search needs
 
 add-slot-3 : tie.Need-add-slot-3 Inv-pages μ-pages Inv-blocks2 μ-blocks2 Inv-supers μ-supers
 add-slot-3 c =
@@ -790,7 +808,7 @@ blocks2-again-2 c =
     let tk = c .before .before .before .before .before .before .before .blocks2-test .taken in
     let lu = x .1 in
     let b = behind-block c in
-    (f, lu, yb, ye, omega arith, b .1, rw ye (block-behind _ _ _ _ _ _ _ _ _ _ _ (b .0)))
+    (f, lu, yb, ye, omega arith, b .1, rw ye (block-behind _ _ _ _ _ _ _ _ _ _ _ (b .0)), kept-block (c .before .before .before .before .before))
 
 add-u-2 : tie.Need-add-u-2 Inv-pages μ-pages Inv-blocks2 μ-blocks2 Inv-supers μ-supers
 add-u-2 c = search needs
@@ -849,29 +867,29 @@ count-blocks-spec =
     enum-known-at
     enum-known-r
     blocks2-holds
-    enter-block-requires
+    enter-block-in-turn-requires
     enum-told-2
     add-slot-2
     add-k
     blocks2-less
     blocks2-again
-    enum-known-at-2
-    enum-known-r-2
+    enum-known-found
+    enum-known-found-2
     in-pages-requires
     pages-requires
     pages-holds
-    enter-page-requires
+    enter-page-in-turn-requires
     enum-told-3
     add-from
     add-p
     pages-less
     pages-again
-    enum-known-pos
-    enum-known-r-3
+    enum-known-found-3
+    enum-known-found-4
     count-elements-requires
     enum-known-n
     add-total
-    enum-known-r-4
+    enum-known-r-2
     add-if5
     add-from-2
     add-p-2
@@ -882,7 +900,7 @@ count-blocks-spec =
     count-elements-requires-2
     enum-known-n-2
     add-total-2
-    enum-known-r-5
+    enum-known-r-3
     add-slot-3
     add-k-2
     blocks2-less-2

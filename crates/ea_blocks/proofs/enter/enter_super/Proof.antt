@@ -1,13 +1,15 @@
 -- `ea_blocks::enter::enter_super` meets its contract. Assumes nothing.
-use mathlib.Core.Path.{_≡_, sym, _∙_}
+use mathlib.Core.Path.{_≡_, sym, subst, _∙_}
 use mathlib.Core.Bool.{false}
-use mathlib.Core.Logic.{inl, inr}
+use mathlib.Core.Logic.{inl}
 use native.Mathlib.Omega.{arith}
 use Rattle.ea_blocks.specs.Call.{Call}
-use Rattle.ea_blocks.specs.Structures.{superBlock, testOf, isDirect, superAt, superUndefined}
+use Rattle.ea_blocks.specs.Structures.{isDirect}
 use Rattle.ea_blocks.specs.Values.{Sees}
+use Rattle.ea_blocks.specs.Entered.{EnteredSuper}
 use Rattle.ea_blocks.proofs.StructureTests.{is-direct, not-direct}
 use Rattle.ea_blocks.proofs.Pointers.{pointer-undefined, pointer-at}
+use Rattle.ea_blocks.proofs.Entering.{super-by-verdict}
 use borrow.Author.Needs.{needs}
 use Rattle.ea_blocks.proofs.enter.enter_super.Statement.{statement}
 use Rattle.ea_blocks.proofs.enter.enter_super.Tie as tie
@@ -32,11 +34,8 @@ enum-known-at c = search needs
 test-super-block-requires : tie.Need-test-super-block-requires
 test-super-block-requires c κs = search needs
 
-enum-told-2 : tie.Need-enum-told-2
-enum-told-2 c = search needs
-
-enum-known-r : tie.Need-enum-known-r
-enum-known-r c = search needs
+enter-by-verdict-requires : tie.Need-enter-by-verdict-requires
+enter-by-verdict-requires c κs = search needs
 
 -- the index block doesn't name the data blocks
 beyond : (c : tie.Else1) (k : Call) → Sees k (c .before .before .before .args .file .now) (c .before .before .before .args .geometry)
@@ -50,26 +49,12 @@ returns-2 c = λ k s.
     let b = c .before .before in
     (beyond (b .before) k s, pointer-undefined _ _ (sym (c .enum-told .given .1) ∙ b .super-pointer .ensures k s))
 
--- the pointer is defined, and the super block that it names is tested
-found : (c : tie.After-test-super-block) (k : Call)
-    → let a = c .before .before .before .before .before .before .before .before .args in
-    Sees k (a .file .now) (a .geometry)
-    → (isDirect k (a .u) ≡ false) × (superUndefined k (a .u) ≡ false)
-    × (c .test-super-block .result ≡ testOf k (superBlock (a .u))) × (c .before .before .at .given .0 .0 ≡ superAt k (a .u))
-found c k s =
-    let b = c .before .before .before .before in
-    let q = pointer-at _ _ _ (sym (c .before .before .at .given .1) ∙ b .super-pointer .ensures k s) in
-    (beyond (b .before) k s, q .0, c .test-super-block .ensures k s (q .1), q .1)
-
 returns-3 : tie.Need-returns-3
 returns-3 c = λ k s.
-    let f = found (c .before .before) k s in
-    inr (f .0, f .1, sym (f .2) ∙ c .enum-told2 .given .1, f .3)
-
-returns-4 : tie.Need-returns-4
-returns-4 c = λ k s.
-    let f = found (c .before .before .before) k s in
-    (f .0, f .1, sym (f .2) ∙ c .before .r .given .1)
+    let b = c .before .before .before .before .before in
+    let q = pointer-at _ _ _ (sym (c .before .before .before .at .given .1) ∙ b .super-pointer .ensures k s) in
+    subst (EnteredSuper k _) (sym (c .enter-by-verdict .ensures))
+    (super-by-verdict _ _ _ _ (beyond (b .before) k s) (q .0) (c .before .test-super-block .ensures k s (q .1)) (q .1))
 
 pub enter-super-spec : {M : Type 1} → statement M
 enter-super-spec =
@@ -81,8 +66,6 @@ enter-super-spec =
     enum-told
     enum-known-at
     test-super-block-requires
-    enum-told-2
-    enum-known-r
+    enter-by-verdict-requires
     returns-2
-    returns-3
-    returns-4)
+    returns-3)

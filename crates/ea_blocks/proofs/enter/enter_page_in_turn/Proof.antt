@@ -1,0 +1,50 @@
+-- `ea_blocks::enter::enter_page_in_turn` meets its contract. Assumes nothing.
+use mathlib.Core.Path.{sym, subst, _∙_}
+use native.Mathlib.Omega.{arith}
+use borrow.Author.Tests.{not-true, not-false}
+use Rattle.ea_blocks.specs.Structures.{dataPageAt}
+use Rattle.ea_blocks.specs.Entered.{EnteredPage}
+use Rattle.ea_blocks.proofs.Entering.{page-few, page-fits, page-by-verdict}
+use borrow.Author.Needs.{needs}
+use Rattle.ea_blocks.proofs.enter.enter_page_in_turn.Statement.{statement}
+use Rattle.ea_blocks.proofs.enter.enter_page_in_turn.Tie as tie
+
+page-set-requires : tie.Need-page-set-requires
+page-set-requires c κs = search needs
+
+returns : tie.Need-returns
+returns c = λ k s e i f. (sym (c .before .page-set .ensures k s e) ∙ not-true _ (c .if1 .taken), f)
+
+page-at-requires : tie.Need-page-at-requires
+page-at-requires c κs = let a = c .before .before .before in (page-few _ (a .pre .3 .served) _ _ (a .pre .0) (a .pre .2), a .pre .3)
+
+add-pos : tie.Need-add-pos
+add-pos c =
+    let a = c .before .before .before .before in
+    omega (arith, a .pre .6, c .page-at .ensures, page-fits _ (a .pre .3) (omega arith) _ (a .args .p) (a .args .at) (a .pre .0) (a .pre .2) (omega arith))
+
+page-verdict-requires : tie.Need-page-verdict-requires
+page-verdict-requires c κs = search needs
+
+enter-by-verdict-requires : tie.Need-enter-by-verdict-requires
+enter-by-verdict-requires c κs = search needs
+
+returns-2 : tie.Need-returns-2
+unfolding dataPageAt
+returns-2 c = λ k s e i f.
+    let v = c .before .page-verdict .ensures k s i f in (
+      subst (EnteredPage k _ _ _) (sym (c .enter-by-verdict .ensures)) (page-by-verdict _ _ _ _ _ _ (sym (c .before .before .before .before .page-set .ensures k s e) ∙ not-false _ (c .before .before .before .if1 .left)) (v .0) (rw (← i, s .header, s .offset, c .before .before .page-at .ensures))),
+      v .1,
+    )
+
+pub enter-page-in-turn-spec : {M : Type 1} → statement M
+enter-page-in-turn-spec =
+    tie.close
+    (tie.spec
+    page-set-requires
+    returns
+    page-at-requires
+    add-pos
+    page-verdict-requires
+    enter-by-verdict-requires
+    returns-2)

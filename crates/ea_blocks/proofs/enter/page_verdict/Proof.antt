@@ -1,0 +1,74 @@
+-- `ea_blocks::enter::page_verdict` meets its contract. Assumes nothing.
+use Prim.{tt}
+use Prim.Native.Nat.{ℕ}
+use mathlib.Core.Path.{sym, ap, subst, _∙_}
+use native.Mathlib.Omega.{arith}
+use Rattle.ea_blocks.specs.Structures.{dataPage, testOf}
+use Rattle.ea_blocks.specs.Entered.{Foretold}
+use borrow.Author.Needs.{needs}
+use Rattle.ea_blocks.proofs.enter.page_verdict.Statement.{statement}
+use Rattle.ea_blocks.proofs.enter.page_verdict.Tie as tie
+
+enum-known-ahead : tie.Need-enum-known-ahead
+enum-known-ahead c = search needs
+
+returns : tie.Need-returns
+returns c = λ k s i f.
+    let a = c .before .before .before .before .before .args in
+    (subst (Foretold k (dataPage (a .u) (a .k))) (c .before .before .ahead .given .1) f ∙ ap (λ (n : ℕ). testOf k (dataPage (a .u) (a .k) n)) (c .if1 .taken), tt)
+
+enum-told : tie.Need-enum-told
+enum-told c = search needs
+
+pages-requires : tie.Need-pages-requires
+pages-requires c κs = search needs
+
+add-if2 : tie.Need-add-if2
+add-if2 c = search needs
+
+add-page-set : tie.Need-add-page-set
+add-page-set c = search needs
+
+page-set-requires : tie.Need-page-set-requires
+page-set-requires c κs = search needs
+
+test-two-pages-requires : tie.Need-test-two-pages-requires
+test-two-pages-requires c κs =
+    let a = c .before .before .before .before .before .before in
+    ((a .args .u, a .pre .0, omega arith), a .pre .3, a .pre .6)
+
+add-keep-second : tie.Need-add-keep-second
+add-keep-second c = search needs
+
+keep-second-requires : tie.Need-keep-second-requires
+keep-second-requires c κs = search needs
+
+returns-2 : tie.Need-returns-2
+returns-2 c = λ k s i f.
+    let a = c .before .before .before .before .before .before .before .before .args in
+    let t = c .before .test-two-pages .ensures k _ _ s i in
+    (c .keep-second .ensures .0 ∙ t .0, subst (Foretold k (dataPage (a .u) (a .k))) (sym (c .keep-second .ensures .1)) (t .1))
+
+test-page-requires : tie.Need-test-page-requires
+test-page-requires c κs = search needs
+
+returns-3 : tie.Need-returns-3
+returns-3 c = λ k s i f. (c .test-page .ensures k _ _ s i, tt)
+
+pub page-verdict-spec : {M : Type 1} → statement M
+page-verdict-spec =
+    tie.close
+    (tie.spec
+    enum-known-ahead
+    returns
+    enum-told
+    pages-requires
+    add-if2
+    add-page-set
+    page-set-requires
+    test-two-pages-requires
+    add-keep-second
+    keep-second-requires
+    returns-2
+    test-page-requires
+    returns-3)
