@@ -113,7 +113,8 @@ pub fn enter_block_in_turn(
     }
 }
 
-// The verdict of data block k, which lies at `at`: the one that is known; with the next block's, where neither is read by pages; or alone.
+// The verdict of data block k, which lies at `at`: the one that is known; tested with the next block, where that is defined and
+// they aren't read by pages; or tested alone.
 fn block_verdict(
     file: &[u8],
     geometry: EaGeometry,
@@ -209,7 +210,7 @@ pub fn enter_page_in_turn(
     }
 }
 
-// The verdict of page p: the one that is known; with the next page's, where that is set; or alone.
+// The verdict of page p: the one that is known; tested with the next page, where that is set; or tested alone.
 fn page_verdict(
     file: &[u8],
     geometry: EaGeometry,

@@ -2,7 +2,6 @@
 use Prim.{tt}
 use Prim.Native.Nat.{ℕ}
 use mathlib.Core.Path.{sym, ap, subst, _∙_}
-use native.Mathlib.Omega.{arith}
 use Rattle.ea_blocks.specs.Structures.{dataBlock, testOf}
 use Rattle.ea_blocks.specs.Entered.{Foretold}
 use borrow.Author.Tests.{not-true}
