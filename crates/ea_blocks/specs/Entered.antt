@@ -18,9 +18,9 @@ enteredOf Passed at = At at
 enteredOf (Refused r) at = EnteredRefused r
 
 -- A verdict ahead of its turn, of one of the structures that `structure` numbers, is the test of that structure.
-abbrev pub Foretold : Call → (ℕ → Structure) → Ahead → Type 0
-Foretold c structure Unknown = Unit {0}
-Foretold c structure (Known index checked) = checked ≡ testOf c (structure index)
+abbrev pub TestedAhead : Call → (ℕ → Structure) → Ahead → Type 0
+TestedAhead c structure Unknown = Unit {0}
+TestedAhead c structure (Known index checked) = checked ≡ testOf c (structure index)
 
 -- Super block u: its pointer is undefined, it has passed its test (or the index block names its data blocks, and nothing is said of the
 -- position), or its test refuses it.

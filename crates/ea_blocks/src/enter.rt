@@ -12,7 +12,7 @@ ghost use Rattle.ea_blocks.specs.Call.{Call};
 ghost use Rattle.ea_blocks.specs.Structures.{dataBlock, dataPage, testOf, isDirect, superAt, blockAt};
 ghost use Rattle.ea_blocks.specs.Values.{Sees};
 ghost use Rattle.ea_blocks.specs.declared.enter.Ahead.the-variants.{Known};
-ghost use Rattle.ea_blocks.specs.Entered.{enteredOf, EnteredSuper, EnteredBlock, EnteredPage, Foretold};
+ghost use Rattle.ea_blocks.specs.Entered.{enteredOf, EnteredSuper, EnteredBlock, EnteredPage, TestedAhead};
 use crate::structures::Pointer;
 use crate::structures::block_pointer;
 use crate::structures::page_set;
@@ -94,7 +94,7 @@ pub fn enter_block_in_turn(
         × (geometry .header .«index_block_address» + indexExtent (geometry .header) (geometry .«offset_size») ≤ length (now file))
         × (directSuperBlocks (geometry .header) ≤ u → «super_at» + superExtent (geometry .header) (geometry .«offset_size») u ≤ length (now file)) ⌝ }
     ensures { λ r. ⌜ ((c : Call) → Sees c (now (file .entry)) geometry → (isDirect c u ≡ false → «super_at» ≡ superAt c u)
-        → Foretold c (dataBlock u) ahead → EnteredBlock c u k (r .found) × Foretold c (dataBlock u) (r .ahead)) ⌝ }
+        → TestedAhead c (dataBlock u) ahead → EnteredBlock c u k (r .found) × TestedAhead c (dataBlock u) (r .ahead)) ⌝ }
 {
     match block_pointer(file, geometry, u, k, super_at) {
         Pointer::Undefined => Turn {
@@ -128,7 +128,7 @@ fn block_verdict(
         × (geometry .header .«index_block_address» + indexExtent (geometry .header) (geometry .«offset_size») ≤ length (now file))
         × (directSuperBlocks (geometry .header) ≤ u → «super_at» + superExtent (geometry .header) (geometry .«offset_size») u ≤ length (now file)) ⌝ }
     ensures { λ r. ⌜ ((c : Call) → Sees c (now (file .entry)) geometry → (isDirect c u ≡ false → «super_at» ≡ superAt c u) → at ≡ blockAt c u k
-        → Foretold c (dataBlock u) ahead → (r .checked ≡ testOf c (dataBlock u k)) × Foretold c (dataBlock u) (r .ahead)) ⌝ }
+        → TestedAhead c (dataBlock u) ahead → (r .checked ≡ testOf c (dataBlock u k)) × TestedAhead c (dataBlock u) (r .ahead)) ⌝ }
 {
     if let Ahead::Known { index, checked } = ahead {
         if index == k {
@@ -192,7 +192,7 @@ pub fn enter_page_in_turn(
         × («super_at» + superExtent (geometry .header) (geometry .«offset_size») u ≤ length (now file))
         × (at ≤ length (now file)) ⌝ }
     ensures { λ r. ⌜ ((c : Call) → Sees c (now (file .entry)) geometry → «super_at» ≡ superAt c u → at ≡ blockAt c u k
-        → Foretold c (dataPage u k) ahead → EnteredPage c u k p (r .found) × Foretold c (dataPage u k) (r .ahead)) ⌝ }
+        → TestedAhead c (dataPage u k) ahead → EnteredPage c u k p (r .found) × TestedAhead c (dataPage u k) (r .ahead)) ⌝ }
 {
     if !page_set(file, geometry, super_at, u, k, p) {
         return Turn {
@@ -226,7 +226,7 @@ fn page_verdict(
         × («super_at» + superExtent (geometry .header) (geometry .«offset_size») u ≤ length (now file))
         × (at ≤ length (now file)) ⌝ }
     ensures { λ r. ⌜ ((c : Call) → Sees c (now (file .entry)) geometry → at ≡ blockAt c u k
-        → Foretold c (dataPage u k) ahead → (r .checked ≡ testOf c (dataPage u k p)) × Foretold c (dataPage u k) (r .ahead)) ⌝ }
+        → TestedAhead c (dataPage u k) ahead → (r .checked ≡ testOf c (dataPage u k p)) × TestedAhead c (dataPage u k) (r .ahead)) ⌝ }
 {
     if let Ahead::Known { index, checked } = ahead {
         if index == p {

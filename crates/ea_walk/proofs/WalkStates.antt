@@ -33,7 +33,7 @@ use Rattle.ea_blocks.specs.Call.{Call}
 use Rattle.ea_blocks.specs.Structures.{Structure, isDirect, superAt, blockAt, dataPageAt}
 use Rattle.ea_blocks.specs.Runs.{Listing, elements, countedOf}
 use Rattle.ea_blocks.specs.Values.{Sees}
-use Rattle.ea_blocks.specs.Entered.{EnteredSuper, EnteredBlock, EnteredPage, Foretold}
+use Rattle.ea_blocks.specs.Entered.{EnteredSuper, EnteredBlock, EnteredPage, TestedAhead}
 use Rattle.ea_blocks.proofs.Runs.{plus, plus-none, run-count, run-refused, run-length, answered, counted-inv}
 use Rattle.ea_blocks.proofs.StructureTests.{is-direct, not-direct}
 use Rattle.ea_walk.specs.Walk.{pagesFrom, blocksFrom, supers}
@@ -52,8 +52,8 @@ module _ (f : List ℕ) (r : Reading) (first : ℕ) (chunk bound down : List ℕ
   sees c w = record { bytes = w .reads .bytes; checksum = w .checksum; header = w .reads .header; offset = w .reads .offset }
 
   -- a verdict ahead of its turn, for whatever call is walked
-  abbrev pub AllForetold : (ℕ → Structure) → Ahead → Type 0
-  AllForetold structure ahead = (c : Call) → Seen c → Foretold c structure ahead
+  abbrev pub AllTestedAhead : (ℕ → Structure) → Ahead → Type 0
+  AllTestedAhead structure ahead = (c : Call) → Seen c → TestedAhead c structure ahead
 
   -- the whole
   abbrev whole : Call → Counted

@@ -12,11 +12,11 @@ use Rattle.refusal.specs.declared.Checked.the-variants.{Passed, Refused}
 use Rattle.ea_geometry.specs.Sizes as sizes
 use Rattle.ea_geometry.specs.Sizes.{blockElements}
 use Rattle.ea_geometry.specs.Place.{inPages}
-use Rattle.ea_walk.proofs.WalkStates.{Fixed, AllForetold, AtSuper, AtBlock, AtPage, BehindBlock, Done, sees, at-first, supers-done, super-ended, super-skip, super-refused, super-in, blocks-done, block-behind, block-ended, block-skip, block-refused, block-run, block-run-refused, block-pages, pages-done, page-skip, page-refused, page-run-refused, page-run-last, page-run-on, slot-few, block-few, entered-at, count-few, page-ends, paged-behind, unpaged-room}
+use Rattle.ea_walk.proofs.WalkStates.{Fixed, AllTestedAhead, AtSuper, AtBlock, AtPage, BehindBlock, Done, sees, at-first, supers-done, super-ended, super-skip, super-refused, super-in, blocks-done, block-behind, block-ended, block-skip, block-refused, block-run, block-run-refused, block-pages, pages-done, page-skip, page-refused, page-run-refused, page-run-last, page-run-on, slot-few, block-few, entered-at, count-few, page-ends, paged-behind, unpaged-room}
 use Rattle.fields.proofs.Widths.{width-le}
 use Rattle.ea_geometry.proofs.Counts.{all-few, pages-exact}
 use Rattle.ea_geometry.proofs.Places.{next-slot}
-use Rattle.ea_blocks.specs.Entered.{EnteredSuper, EnteredBlock, EnteredPage, Foretold}
+use Rattle.ea_blocks.specs.Entered.{EnteredSuper, EnteredBlock, EnteredPage, TestedAhead}
 use Rattle.ea_blocks.proofs.StructureTests.{index-seen, not-direct}
 use Rattle.refusal.specs.Outcome.{accepted}
 use mathlib.Core.List.{[]}
@@ -39,7 +39,7 @@ abbrev Inv-pages : tie.InvT-pages
 Inv-pages file reading first chunk bound down geometry count supers directs page refused₀ total₀ slot u blocks elements super-at block-ahead k at pages from₀ page-ahead₀ p₀ refused total from page-ahead p =
     Fixed file reading chunk bound down count supers directs page × (u < supers) × (blocks ≡ sizes.blocks u) × (elements ≡ blockElements (reading .geometry .header) u) × (k < blocks) × (pages ≡ sizes.pages (reading .geometry .header) u)
     × (inPages (reading .geometry .header) u ≡ true) × (p ≤ pages) × (refused ≡ Passed)
-    × AtPage file reading first chunk bound down total from slot u super-at k at p × AllForetold file reading first chunk bound down (dataPage u k) page-ahead
+    × AtPage file reading first chunk bound down total from slot u super-at k at p × AllTestedAhead file reading first chunk bound down (dataPage u k) page-ahead
 
 abbrev μ-pages : tie.MeasureT-pages
 μ-pages file reading first chunk bound down geometry count supers directs page refused₀ total₀ slot u blocks elements super-at block-ahead k at pages from₀ page-ahead₀ p₀ refused total from page-ahead p =
@@ -48,7 +48,7 @@ abbrev μ-pages : tie.MeasureT-pages
 abbrev Inv-blocks2 : tie.InvT-blocks2
 Inv-blocks2 file reading first chunk bound down geometry count supers directs page refused₀ total₀ slot₀ u blocks elements super-at block-ahead₀ k₀ refused total slot block-ahead k =
     Fixed file reading chunk bound down count supers directs page × (u < supers) × (blocks ≡ sizes.blocks u) × (elements ≡ blockElements (reading .geometry .header) u) × (k ≤ blocks) × (refused ≡ Passed)
-    × AtBlock file reading first chunk bound down total slot u super-at k × AllForetold file reading first chunk bound down (dataBlock u) block-ahead
+    × AtBlock file reading first chunk bound down total slot u super-at k × AllTestedAhead file reading first chunk bound down (dataBlock u) block-ahead
 
 abbrev μ-blocks2 : tie.MeasureT-blocks2
 μ-blocks2 file reading first chunk bound down geometry count supers directs page refused₀ total₀ slot₀ u blocks elements super-at block-ahead₀ k₀ refused total slot block-ahead k =
@@ -73,7 +73,7 @@ opens c =
 
 -- what stepping into a data block and into a page has found, and the verdict that it has left for the next
 into-block : (c : tie.After-enter-block-in-turn Inv-pages μ-pages Inv-blocks2 μ-blocks2 Inv-supers μ-supers) (k : Call) → Walks k (c .before .before .before .before .before .before .before .before .before .before .before .before .before .before .before .before .before .before .before .args .file .now) (c .before .before .before .before .before .before .before .before .before .before .before .before .before .before .before .before .before .before .before .args .reading) (c .before .before .before .before .before .before .before .before .before .before .before .before .before .before .before .before .before .before .before .args .chunk .now) (c .before .before .before .before .before .before .before .before .before .before .before .before .before .before .before .before .before .before .before .args .bound .now) (c .before .before .before .before .before .before .before .before .before .before .before .before .before .before .before .before .before .before .before .args .down .now)
-    → EnteredBlock k (c .before .before .before .before .before .before .before .before .before .before .before .before .supers .u) (c .before .before .before .blocks2 .k) (c .enter-block-in-turn .result .found) × Foretold k (dataBlock (c .before .before .before .before .before .before .before .before .before .before .before .before .supers .u)) (c .enter-block-in-turn .result .ahead)
+    → EnteredBlock k (c .before .before .before .before .before .before .before .before .before .before .before .before .supers .u) (c .before .before .before .blocks2 .k) (c .enter-block-in-turn .result .found) × TestedAhead k (dataBlock (c .before .before .before .before .before .before .before .before .before .before .before .before .supers .u)) (c .enter-block-in-turn .result .ahead)
 into-block c k w =
     let s = c .before .before .before .blocks2 .inv .6 in
     c .enter-block-in-turn .ensures k (sees _ _ 0 _ _ _ k w) (entered-at k _ _ (s .entered k w)) (c .before .before .before .blocks2 .inv .7 k w)
@@ -82,11 +82,11 @@ stepped : (c : tie.After-enter-block-in-turn Inv-pages μ-pages Inv-blocks2 μ-b
     → EnteredBlock k (c .before .before .before .before .before .before .before .before .before .before .before .before .supers .u) (c .before .before .before .blocks2 .k) e
 stepped c k w q = subst (EnteredBlock k _ _) q (into-block c k w .0)
 
-kept-block : (c : tie.After-enter-block-in-turn Inv-pages μ-pages Inv-blocks2 μ-blocks2 Inv-supers μ-supers) (k : Call) → Walks k (c .before .before .before .before .before .before .before .before .before .before .before .before .before .before .before .before .before .before .before .args .file .now) (c .before .before .before .before .before .before .before .before .before .before .before .before .before .before .before .before .before .before .before .args .reading) (c .before .before .before .before .before .before .before .before .before .before .before .before .before .before .before .before .before .before .before .args .chunk .now) (c .before .before .before .before .before .before .before .before .before .before .before .before .before .before .before .before .before .before .before .args .bound .now) (c .before .before .before .before .before .before .before .before .before .before .before .before .before .before .before .before .before .before .before .args .down .now) → Foretold k (dataBlock (c .before .before .before .before .before .before .before .before .before .before .before .before .supers .u)) (c .enter-block-in-turn .result .ahead)
+kept-block : (c : tie.After-enter-block-in-turn Inv-pages μ-pages Inv-blocks2 μ-blocks2 Inv-supers μ-supers) (k : Call) → Walks k (c .before .before .before .before .before .before .before .before .before .before .before .before .before .before .before .before .before .before .before .args .file .now) (c .before .before .before .before .before .before .before .before .before .before .before .before .before .before .before .before .before .before .before .args .reading) (c .before .before .before .before .before .before .before .before .before .before .before .before .before .before .before .before .before .before .before .args .chunk .now) (c .before .before .before .before .before .before .before .before .before .before .before .before .before .before .before .before .before .before .before .args .bound .now) (c .before .before .before .before .before .before .before .before .before .before .before .before .before .before .before .before .before .before .before .args .down .now) → TestedAhead k (dataBlock (c .before .before .before .before .before .before .before .before .before .before .before .before .supers .u)) (c .enter-block-in-turn .result .ahead)
 kept-block c k w = into-block c k w .1
 
 into-page : (c : tie.After-enter-page-in-turn Inv-pages μ-pages Inv-blocks2 μ-blocks2 Inv-supers μ-supers) (k : Call) → Walks k (c .before .before .before .before .before .before .before .before .before .before .before .before .before .before .before .before .before .before .before .before .before .before .before .before .before .before .before .before .args .file .now) (c .before .before .before .before .before .before .before .before .before .before .before .before .before .before .before .before .before .before .before .before .before .before .before .before .before .before .before .before .args .reading) (c .before .before .before .before .before .before .before .before .before .before .before .before .before .before .before .before .before .before .before .before .before .before .before .before .before .before .before .before .args .chunk .now) (c .before .before .before .before .before .before .before .before .before .before .before .before .before .before .before .before .before .before .before .before .before .before .before .before .before .before .before .before .args .bound .now) (c .before .before .before .before .before .before .before .before .before .before .before .before .before .before .before .before .before .before .before .before .before .before .before .before .before .before .before .before .args .down .now)
-    → EnteredPage k (c .before .before .before .before .before .before .before .before .before .before .before .before .before .before .before .before .before .before .before .before .before .supers .u) (c .before .before .before .before .before .before .before .before .before .before .before .before .blocks2 .k) (c .before .before .pages .p) (c .enter-page-in-turn .result .found) × Foretold k (dataPage (c .before .before .before .before .before .before .before .before .before .before .before .before .before .before .before .before .before .before .before .before .before .supers .u) (c .before .before .before .before .before .before .before .before .before .before .before .before .blocks2 .k)) (c .enter-page-in-turn .result .ahead)
+    → EnteredPage k (c .before .before .before .before .before .before .before .before .before .before .before .before .before .before .before .before .before .before .before .before .before .supers .u) (c .before .before .before .before .before .before .before .before .before .before .before .before .blocks2 .k) (c .before .before .pages .p) (c .enter-page-in-turn .result .found) × TestedAhead k (dataPage (c .before .before .before .before .before .before .before .before .before .before .before .before .before .before .before .before .before .before .before .before .before .supers .u) (c .before .before .before .before .before .before .before .before .before .before .before .before .blocks2 .k)) (c .enter-page-in-turn .result .ahead)
 into-page c k w =
     let x = c .before .before .pages .inv in
     let n = sees _ _ 0 _ _ _ k w in
@@ -97,7 +97,7 @@ turned : (c : tie.After-enter-page-in-turn Inv-pages μ-pages Inv-blocks2 μ-blo
     → EnteredPage k (c .before .before .before .before .before .before .before .before .before .before .before .before .before .before .before .before .before .before .before .before .before .supers .u) (c .before .before .before .before .before .before .before .before .before .before .before .before .blocks2 .k) (c .before .before .pages .p) e
 turned c k w q = subst (EnteredPage k _ _ _) q (into-page c k w .0)
 
-kept-page : (c : tie.After-enter-page-in-turn Inv-pages μ-pages Inv-blocks2 μ-blocks2 Inv-supers μ-supers) (k : Call) → Walks k (c .before .before .before .before .before .before .before .before .before .before .before .before .before .before .before .before .before .before .before .before .before .before .before .before .before .before .before .before .args .file .now) (c .before .before .before .before .before .before .before .before .before .before .before .before .before .before .before .before .before .before .before .before .before .before .before .before .before .before .before .before .args .reading) (c .before .before .before .before .before .before .before .before .before .before .before .before .before .before .before .before .before .before .before .before .before .before .before .before .before .before .before .before .args .chunk .now) (c .before .before .before .before .before .before .before .before .before .before .before .before .before .before .before .before .before .before .before .before .before .before .before .before .before .before .before .before .args .bound .now) (c .before .before .before .before .before .before .before .before .before .before .before .before .before .before .before .before .before .before .before .before .before .before .before .before .before .before .before .before .args .down .now) → Foretold k (dataPage (c .before .before .before .before .before .before .before .before .before .before .before .before .before .before .before .before .before .before .before .before .before .supers .u) (c .before .before .before .before .before .before .before .before .before .before .before .before .blocks2 .k)) (c .enter-page-in-turn .result .ahead)
+kept-page : (c : tie.After-enter-page-in-turn Inv-pages μ-pages Inv-blocks2 μ-blocks2 Inv-supers μ-supers) (k : Call) → Walks k (c .before .before .before .before .before .before .before .before .before .before .before .before .before .before .before .before .before .before .before .before .before .before .before .before .before .before .before .before .args .file .now) (c .before .before .before .before .before .before .before .before .before .before .before .before .before .before .before .before .before .before .before .before .before .before .before .before .before .before .before .before .args .reading) (c .before .before .before .before .before .before .before .before .before .before .before .before .before .before .before .before .before .before .before .before .before .before .before .before .before .before .before .before .args .chunk .now) (c .before .before .before .before .before .before .before .before .before .before .before .before .before .before .before .before .before .before .before .before .before .before .before .before .before .before .before .before .args .bound .now) (c .before .before .before .before .before .before .before .before .before .before .before .before .before .before .before .before .before .before .before .before .before .before .before .before .before .before .before .before .args .down .now) → TestedAhead k (dataPage (c .before .before .before .before .before .before .before .before .before .before .before .before .before .before .before .before .before .before .before .before .before .supers .u) (c .before .before .before .before .before .before .before .before .before .before .before .before .blocks2 .k)) (c .enter-page-in-turn .result .ahead)
 kept-page c k w = into-page c k w .1
 
 -- the page's elements, counted

@@ -3,7 +3,7 @@ use Prim.{tt}
 use Prim.Native.Nat.{ℕ}
 use mathlib.Core.Path.{sym, ap, subst, _∙_}
 use Rattle.ea_blocks.specs.Structures.{dataBlock, testOf}
-use Rattle.ea_blocks.specs.Entered.{Foretold}
+use Rattle.ea_blocks.specs.Entered.{TestedAhead}
 use borrow.Author.Tests.{not-true}
 use Rattle.ea_blocks.proofs.Pointers.{pointer-at}
 use borrow.Author.Needs.{needs}
@@ -16,7 +16,7 @@ enum-known-ahead c = search needs
 returns : tie.Need-returns
 returns c = λ k s e i f.
     let a = c .before .before .before .before .before .args in
-    (subst (Foretold k (dataBlock (a .u))) (c .before .before .ahead .given .1) f ∙ ap (λ (n : ℕ). testOf k (dataBlock (a .u) n)) (c .if1 .taken), tt)
+    (subst (TestedAhead k (dataBlock (a .u))) (c .before .before .ahead .given .1) f ∙ ap (λ (n : ℕ). testOf k (dataBlock (a .u) n)) (c .if1 .taken), tt)
 
 enum-told : tie.Need-enum-told
 enum-told c = search needs
@@ -55,7 +55,7 @@ returns-2 c = λ k s e i f.
     let a = c .before .before .before .before .before .before .before .before .before .before .before .before .args in
     let q = pointer-at _ _ _ (sym (c .before .before .before .next .given .1) ∙ c .before .before .before .before .before .block-pointer .ensures k s e) in
     let t = c .before .test-two-blocks .ensures k _ _ s i (q .1) in
-    (c .keep-second .ensures .0 ∙ t .0, subst (Foretold k (dataBlock (a .u))) (sym (c .keep-second .ensures .1)) (t .1))
+    (c .keep-second .ensures .0 ∙ t .0, subst (TestedAhead k (dataBlock (a .u))) (sym (c .keep-second .ensures .1)) (t .1))
 
 enum-told-2 : tie.Need-enum-told-2
 enum-told-2 c = search needs

@@ -4,7 +4,7 @@ use Prim.Native.Nat.{ℕ}
 use mathlib.Core.Path.{sym, ap, subst, _∙_}
 use native.Mathlib.Omega.{arith}
 use Rattle.ea_blocks.specs.Structures.{dataPage, testOf}
-use Rattle.ea_blocks.specs.Entered.{Foretold}
+use Rattle.ea_blocks.specs.Entered.{TestedAhead}
 use borrow.Author.Needs.{needs}
 use Rattle.ea_blocks.proofs.enter.page_verdict.Statement.{statement}
 use Rattle.ea_blocks.proofs.enter.page_verdict.Tie as tie
@@ -15,7 +15,7 @@ enum-known-ahead c = search needs
 returns : tie.Need-returns
 returns c = λ k s i f.
     let a = c .before .before .before .before .before .args in
-    (subst (Foretold k (dataPage (a .u) (a .k))) (c .before .before .ahead .given .1) f ∙ ap (λ (n : ℕ). testOf k (dataPage (a .u) (a .k) n)) (c .if1 .taken), tt)
+    (subst (TestedAhead k (dataPage (a .u) (a .k))) (c .before .before .ahead .given .1) f ∙ ap (λ (n : ℕ). testOf k (dataPage (a .u) (a .k) n)) (c .if1 .taken), tt)
 
 enum-told : tie.Need-enum-told
 enum-told c = search needs
@@ -47,7 +47,7 @@ returns-2 : tie.Need-returns-2
 returns-2 c = λ k s i f.
     let a = c .before .before .before .before .before .before .before .before .args in
     let t = c .before .test-two-pages .ensures k _ _ s i in
-    (c .keep-second .ensures .0 ∙ t .0, subst (Foretold k (dataPage (a .u) (a .k))) (sym (c .keep-second .ensures .1)) (t .1))
+    (c .keep-second .ensures .0 ∙ t .0, subst (TestedAhead k (dataPage (a .u) (a .k))) (sym (c .keep-second .ensures .1)) (t .1))
 
 test-page-requires : tie.Need-test-page-requires
 test-page-requires c κs = search needs
