@@ -27,12 +27,12 @@ use Rattle.ea_blocks.specs.declared.Counted.the-variants.{Count}
 use Rattle.ea_blocks.specs.Call.{Call}
 use Rattle.ea_blocks.specs.Defined.{definedCount, sizesFit, allChunks}
 use Rattle.ea_blocks.specs.Elements.{filtered, chunkBytes, sizeBytes, sizeAt, entryAt, elementSizeTest, entryTest, element}
-use Rattle.ea_blocks.specs.Runs.{Listing, alsoElement, elements, countedOf}
+use Rattle.ea_blocks.specs.Runs.{Listing, alsoElement, elements, countedOf, plus}
 use Rattle.ea_blocks.specs.Values.{Reads}
 use Rattle.ea_blocks.proofs.Sized.{plain, with-filter, same-test, gives-passed, element-inside}
 use Rattle.ea_blocks.proofs.Turns.{strideOf, same-stride}
 use Rattle.ea_blocks.proofs.Skipping.{skip-one}
-use Rattle.ea_blocks.proofs.Runs.{plus, plus-zero, plus-none, plus-also}
+use Rattle.ea_blocks.proofs.Runs.{plus-zero, plus-none, plus-also}
 
 -- a size that passes its test
 small-size : (n : ℕ) → n < 2 ^ 32 → sizeTest n ≡ Passed

@@ -19,13 +19,13 @@ use Rattle.ea_blocks.specs.declared.Reading.{Reading}
 use Rattle.ea_blocks.specs.Call.{Call}
 use Rattle.ea_blocks.specs.Defined.{undefinedRun, definedCount, sizesFit}
 use Rattle.ea_blocks.specs.Elements.{elementSizeTest, element}
-use Rattle.ea_blocks.specs.Runs.{alsoElement, elements, countedOf}
+use Rattle.ea_blocks.specs.Runs.{alsoElement, elements, countedOf, plus}
 use Rattle.ea_blocks.specs.Values.{Reads}
 use Rattle.ea_blocks.proofs.Turns.{strideOf, same-stride}
 use Rattle.ea_blocks.proofs.Skipping.{skip-behind}
 use Rattle.ea_blocks.proofs.DefinedRuns.{defined-few}
 use Rattle.ea_blocks.proofs.AllChunks.{inside-counted}
-use Rattle.ea_blocks.proofs.Runs.{plus, plus-zero, plus-none, plus-also, run-part, run-more, run-done}
+use Rattle.ea_blocks.proofs.Runs.{plus-zero, plus-none, plus-also, run-part, run-more, run-done}
 
 -- i of n elements from pos on are passed, and `count` records of them counted; the next is at `at`
 pub record Counting (file : List ℕ) (r : Reading) (chunk bound down : List ℕ) (pos n slot at i count : ℕ) : Type 0 where

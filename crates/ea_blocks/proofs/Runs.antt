@@ -22,7 +22,7 @@ use Rattle.ea_blocks.specs.declared.Counted.{Counted}
 use Rattle.ea_blocks.specs.declared.Counted.the-variants.{Count, Refused as CountedRefused}
 use Rattle.ea_blocks.specs.Call.{Call, Rec}
 use Rattle.ea_blocks.specs.Elements.{element}
-use Rattle.ea_blocks.specs.Runs.{Listing, alsoElement, elements, countedOf}
+use Rattle.ea_blocks.specs.Runs.{plus, Listing, alsoElement, elements, countedOf}
 
 -- a count, or a refusal, is that of an outcome
 module _ {A : Type 0} where
@@ -40,11 +40,6 @@ module _ {A : Type 0} where
 unfoldable pub answered : Checked → ℕ → Counted
 answered Passed total = Count total
 answered (Refused r) total = CountedRefused r
-
--- what is counted so far, and what is left
-unfoldable pub plus : {A : Type 0} → ℕ → Outcome (List A) → Counted
-plus n (refused r) = CountedRefused r
-plus n (accepted l) = Count (n + length l)
 
 module _ {A : Type 0} where
   pub plus-zero : (a : Outcome (List A)) → plus 0 a ≡ countedOf a

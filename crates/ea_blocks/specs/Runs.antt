@@ -37,3 +37,8 @@ elements c pos (suc j) s rest =
 unfoldable pub countedOf : {A : Type 0} → Outcome (List A) → Counted
 countedOf (refused r) = CountedRefused r
 countedOf (accepted l) = Count (length l)
+
+-- the same, behind n that are counted already
+unfoldable pub plus : {A : Type 0} → ℕ → Outcome (List A) → Counted
+plus n (refused r) = CountedRefused r
+plus n (accepted l) = Count (n + length l)

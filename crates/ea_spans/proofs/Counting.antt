@@ -24,8 +24,8 @@ use Rattle.ea_blocks.specs.declared.Counted.{Counted}
 use Rattle.ea_blocks.specs.declared.enter.Entered.the-variants.{Absent, At, Refused as EnteredRefused}
 use Rattle.ea_blocks.specs.Call.{Call}
 use Rattle.ea_blocks.specs.Structures.{isDirect, superAt, blockUndefined}
-use Rattle.ea_blocks.specs.Runs.{countedOf}
-use Rattle.ea_blocks.proofs.Runs.{answered, plus, plus-zero, plus-none, plus-also}
+use Rattle.ea_blocks.specs.Runs.{countedOf, plus}
+use Rattle.ea_blocks.proofs.Runs.{answered, plus-zero, plus-none, plus-also}
 use Rattle.ea_blocks.proofs.StructureTests.{super-seen, not-direct}
 use Rattle.ea_spans.specs.Spans.{superSpan, blockSpan}
 use Rattle.ea_spans.specs.Walk.{superTest, blocksFrom, supersFrom}

@@ -21,8 +21,8 @@ use Rattle.ea_blocks.specs.declared.Counted.the-variants.{Count, Refused as Cou
 use Rattle.ea_blocks.specs.Call.{Call}
 use Rattle.ea_blocks.specs.Structures.{indexBlock, testOf, indexAt}
 use Rattle.ea_blocks.specs.Elements.{filtered, elementSizeTest, element, _gives_}
-use Rattle.ea_blocks.specs.Runs.{Listing, alsoElement, elements, countedOf}
-use Rattle.ea_blocks.proofs.Runs.{plus, plus-zero, plus-none, run-count, run-refused}
+use Rattle.ea_blocks.specs.Runs.{Listing, alsoElement, elements, countedOf, plus}
+use Rattle.ea_blocks.proofs.Runs.{plus-zero, plus-none, run-count, run-refused}
 use Rattle.ea_walk.specs.Walk.{supers, behindInline, fromInline, walk}
 
 module _ (c : Call) where

@@ -22,9 +22,8 @@ use Rattle.ea_blocks.specs.declared.Counted.the-variants.{Count, Refused as Cou
 use Rattle.ea_blocks.specs.declared.Reading.{Reading}
 use Rattle.ea_blocks.specs.Call.{Call, Rec}
 use Rattle.ea_blocks.specs.Structures.{indexBlock, testOf, indexAt}
-use Rattle.ea_blocks.specs.Runs.{elements, countedOf}
+use Rattle.ea_blocks.specs.Runs.{elements, countedOf, plus}
 use Rattle.ea_blocks.specs.Values.{Sees}
-use Rattle.ea_blocks.proofs.Runs.{plus}
 use Rattle.ea_blocks.proofs.StructureTests.{inline-inside}
 use Rattle.ea_walk.specs.Walk.{supers, fromInline, walk}
 use Rattle.ea_walk.specs.Values.{Walks}

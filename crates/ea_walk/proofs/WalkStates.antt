@@ -31,10 +31,10 @@ use Rattle.ea_blocks.specs.declared.enter.Ahead.{Ahead}
 use Rattle.ea_blocks.specs.declared.enter.Entered.the-variants.{Absent, At, Refused as EnteredRefused}
 use Rattle.ea_blocks.specs.Call.{Call}
 use Rattle.ea_blocks.specs.Structures.{Structure, isDirect, superAt, blockAt, dataPageAt}
-use Rattle.ea_blocks.specs.Runs.{Listing, elements, countedOf}
+use Rattle.ea_blocks.specs.Runs.{Listing, elements, countedOf, plus}
 use Rattle.ea_blocks.specs.Values.{Sees}
 use Rattle.ea_blocks.specs.Entered.{EnteredSuper, EnteredBlock, EnteredPage, TestedAhead}
-use Rattle.ea_blocks.proofs.Runs.{plus, plus-none, run-count, run-refused, run-length, answered, counted-inv}
+use Rattle.ea_blocks.proofs.Runs.{plus-none, run-count, run-refused, run-length, answered, counted-inv}
 use Rattle.ea_blocks.proofs.StructureTests.{is-direct, not-direct}
 use Rattle.ea_walk.specs.Walk.{pagesFrom, blocksFrom, supers}
 use Rattle.ea_walk.specs.Values.{Walks}

@@ -8,7 +8,7 @@ ghost use Rattle.ea_header.specs.Served.{Served};
 ghost use Rattle.ea_geometry.specs.Sizes.{superBlocks};
 ghost use Rattle.ea_blocks.specs.Call.{Call};
 ghost use Rattle.ea_blocks.specs.Structures.{indexBlock, testOf};
-ghost use Rattle.ea_blocks.proofs.Runs.{plus};
+ghost use Rattle.ea_blocks.specs.Runs.{plus};
 ghost use Rattle.ea_walk.specs.Walk.{supers};
 ghost use Rattle.ea_walk.specs.Values.{Walks};
 use ea_blocks::Counted;
