@@ -1,5 +1,6 @@
 // A run of elements tested, and its records counted.
 ghost use mathlib.Core.Path.{_≡_};
+ghost use mathlib.Core.Bool.{true};
 ghost use mathlib.Core.List.{List, []};
 ghost use Prim.Native.Nat.{ℕ, _+_, _-_, _*_, _<_, _≤_, min};
 ghost use lib.ListN.{length};
@@ -19,13 +20,19 @@ use crate::Element;
 use crate::Reading;
 use crate::defined::count_defined;
 use crate::defined::undefined_run;
-use crate::read::read_sized_element;
+use crate::read::read_reached_element;
 use crate::read::test_element_size;
 use chunk_grid::Offsets;
 use chunk_grid::all_inside;
 use chunk_grid::line_from;
 use chunk_grid::offsets_in_extent;
 use refusal::Checked;
+
+// What a slot's offsets come to, and how many slots from it on are known to lie in the present extents.
+struct Reach {
+    reached: Offsets,
+    slots: u64,
+}
 
 // Tests and counts n elements from pos on, whose slots begin at `slot`, up to the published count.
 pub fn count_elements(
@@ -125,19 +132,23 @@ fn sizes_fit(reading: Reading) -> bool
     header.element_size as u64 - 4 - reading.geometry.offset_size <= 4
 }
 
-// How many of n slots from `slot` on lie in a line in the present extents, as far as it reaches; 0 where the first one doesn't lie in them.
-fn inside_slots(
+// What the offsets of a slot come to. Where lines are asked for and the slot lies in the present extents, also how many of n slots from it on lie in
+// its line.
+fn reach_from(
     offsets: &mut [u64; 32],
     slot: u64,
     n: u64,
+    lines: bool,
     reading: Reading,
     chunk: &[u64; 32],
     bound: &[u64; 32],
     down: &[u64; 32],
-) -> u64
+) -> Reach
     requires { ⌜ ((c : Call) × (file : List ℕ) × Reads c file reading (now chunk) (now bound) (now down)) ⌝ }
-    ensures { λ r. ⌜ (r ≤ n) × ((c : Call) (file : List ℕ) → Reads c file reading (now (chunk .entry)) (now (bound .entry)) (now (down .entry))
-        → (now (offsets .exit) ≡ handed (c .grid) slot (now (offsets .entry))) × ((j : ℕ) → j < r → inExtent (c .grid) (slot + j) ≡ Inside)) ⌝ }
+    ensures { λ r. ⌜ (r .slots ≤ n) × (0 < r .slots → lines ≡ true)
+        × ((c : Call) (file : List ℕ) → Reads c file reading (now (chunk .entry)) (now (bound .entry)) (now (down .entry))
+        → (r .reached ≡ inExtent (c .grid) slot) × (now (offsets .exit) ≡ handed (c .grid) slot (now (offsets .entry)))
+        × ((j : ℕ) → j < r .slots → inExtent (c .grid) (slot + j) ≡ Inside)) ⌝ }
 {
     let rank = reading.rank as usize;
     let rotated = reading.rotated as usize;
@@ -151,11 +162,14 @@ fn inside_slots(
         bound,
         down,
     );
-    if let Offsets::Inside = reached {
-        let line = line_from(slot, rank, rotated, bound, down);
-        return below_count(line.slots, 0, n);
+    let mut slots = 0;
+    if lines {
+        if let Offsets::Inside = reached {
+            let line = line_from(slot, rank, rotated, bound, down);
+            slots = below_count(line.slots, 0, n);
+        }
     }
-    0
+    Reach { reached, slots }
 }
 
 // A run of such elements, line by line where no size can be refused, else one by one.
@@ -184,25 +198,25 @@ fn count_each_element(
     let mut at = pos;
     let mut i = 0;
     while i < n {
-        if fit {
-            let m = inside_slots(&mut offsets, slot + i, n - i, reading, chunk, bound, down);
-            if 0 < m {
-                count += count_defined(file, at, m, stride, width);
-                at += m as usize * stride;
-                i += m;
-                continue;
-            }
-        }
-        match read_sized_element(
-            file,
-            at,
-            slot + i,
-            reading,
+        let reach = reach_from(
             &mut offsets,
+            slot + i,
+            n - i,
+            fit,
+            reading,
             chunk,
             bound,
             down,
-        ) {
+        );
+        let m = reach.slots;
+        if 0 < m {
+            count += count_defined(file, at, m, stride, width);
+            at += m as usize * stride;
+            i += m;
+            continue;
+        }
+        let reached = reach.reached;
+        match read_reached_element(file, at, reading, reached) {
             Element::Absent => {}
             Element::Chunk(_) => count += 1,
             Element::Refused(r) => return Counted::Refused(r),

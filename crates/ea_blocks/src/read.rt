@@ -1,13 +1,15 @@
 // One element of an index: its tests, and what it holds.
 ghost use mathlib.Core.Path.{_≡_};
 ghost use mathlib.Core.Bool.{cond, _&&_};
-ghost use Prim.Native.Nat.{_+_, _≤_};
+ghost use mathlib.Core.List.{List};
+ghost use Prim.Native.Nat.{ℕ, _+_, _≤_};
 ghost use lib.Dec.{ltb};
 ghost use lib.ListN.{length};
 ghost use Rattle.refusal.specs.declared.Checked.the-variants.{Passed};
 ghost use Rattle.refusal.specs.Refusals.{figure};
 ghost use Rattle.fields.specs.Fields.{undefinedAt};
 ghost use Rattle.fields.specs.Numbers.{sizeTest};
+ghost use Rattle.chunk_grid.specs.Grid.{inExtent};
 ghost use Rattle.ea_geometry.specs.Extents.{elementStride};
 ghost use Rattle.ea_blocks.specs.declared.Element.the-variants.{Absent, Chunk};
 ghost use Rattle.ea_blocks.specs.Call.{Call};
@@ -122,6 +124,31 @@ pub fn read_sized_element(
         bound,
         down,
     ) {
+        Offsets::Inside => read_entry(
+            file,
+            pos,
+            reading.geometry,
+            reading.chunk_bytes,
+            address.value,
+        ),
+        Offsets::Dropped => Element::Absent,
+        Offsets::Refused(r) => Element::Refused(r),
+    }
+}
+
+// The same where the slot's offsets are known to come to `reached`.
+pub fn read_reached_element(file: &[u8], pos: usize, reading: Reading, reached: Offsets) -> Element
+    requires { ⌜ (elementSizeTest (reading .geometry .header) (reading .geometry .«offset_size») ≡ Passed)
+        × (pos + elementStride (reading .geometry .header) (reading .geometry .«offset_size») ≤ length (now file)) ⌝ }
+    ensures { λ r. ⌜ ((c : Call) (chunk bound down : List ℕ) (s : ℕ) → Reads c (now (file .entry)) reading chunk bound down → reached ≡ inExtent (c .grid) s
+        → r ≡ element c pos s) ⌝ }
+{
+    let width = reading.geometry.offset_size;
+    let address = read_address(file, pos, width as usize);
+    if is_undefined_addr(address, width) {
+        return Element::Absent;
+    }
+    match reached {
         Offsets::Inside => read_entry(
             file,
             pos,

@@ -1,10 +1,13 @@
 -- `ea_blocks::count::count_each_element` meets its contract. Assumes nothing.
 use borrow.Author.Needs.{needs}
 use Prim.Native.Nat.{ℕ, _+_, _-_, _*_, _≤_}
-use mathlib.Core.Path.{sym, _∙_}
+use mathlib.Core.Path.{_≡_, sym, _∙_}
 use mathlib.Core.Logic.{⊎-elim}
 use native.Mathlib.Omega.{arith}
 use lib.ListN.{length}
+use Rattle.ea_blocks.specs.Call.{Call}
+use Rattle.ea_blocks.specs.Elements.{element}
+use Rattle.ea_blocks.specs.Values.{Reads}
 use Rattle.ea_blocks.proofs.Sized.{sized-width, sized-stride}
 use Rattle.ea_blocks.proofs.Turns.{strideOf, Within, within-first, within-here, within-more, within-pass}
 use Rattle.ea_blocks.proofs.Counting.{Counting, counting-first, counting-done, counting-refused, counting-absent, counting-chunk, counting-same, counting-skip, counting-inside}
@@ -34,23 +37,23 @@ start c = c .before .before .before .before
 abbrev stride : tie.At-loop Inv-loop μ-loop → ℕ
 stride c = strideOf (start c .args .reading)
 
-add-inside-slots : tie.Need-add-inside-slots Inv-loop μ-loop
-add-inside-slots c = search needs
+add-reach-from : tie.Need-add-reach-from Inv-loop μ-loop
+add-reach-from c = search needs
 
-sub-inside-slots : tie.Need-sub-inside-slots Inv-loop μ-loop
-sub-inside-slots c = search needs
+sub-reach-from : tie.Need-sub-reach-from Inv-loop μ-loop
+sub-reach-from c = search needs
 
-inside-slots-requires : tie.Need-inside-slots-requires Inv-loop μ-loop
-inside-slots-requires c κs = let p = start (c .before .before .before) .pre .0 in (p .0, start (c .before .before .before) .args .file .now, p .1)
+reach-from-requires : tie.Need-reach-from-requires Inv-loop μ-loop
+reach-from-requires c κs = let p = start (c .before .before) .pre .0 in (p .0, start (c .before .before) .args .file .now, p .1)
 
 -- a line of elements inside the extents
-abbrev lineOf : tie.After-inside-slots Inv-loop μ-loop → tie.At-loop Inv-loop μ-loop
-lineOf c = c .before .before .before .before
+abbrev lineOf : tie.After-reach-from Inv-loop μ-loop → tie.At-loop Inv-loop μ-loop
+lineOf c = c .before .before .before
 
-line-passed : (c : tie.After-inside-slots Inv-loop μ-loop)
-    → (lineOf c .loop .at + c .inside-slots .result * stride (lineOf c) ≤ length (start (lineOf c) .args .file .now))
-    × Within (start (lineOf c) .args .file .now) (stride (lineOf c)) (start (lineOf c) .args .n) (lineOf c .loop .i + c .inside-slots .result) (lineOf c .loop .at + c .inside-slots .result * stride (lineOf c))
-line-passed c = within-pass (lineOf c .loop .inv .0) (c .inside-slots .result) (omega (arith, c .inside-slots .ensures .0, lineOf c .loop .inv .0 .passed))
+line-passed : (c : tie.After-reach-from Inv-loop μ-loop)
+    → (lineOf c .loop .at + c .reach-from .result .slots * stride (lineOf c) ≤ length (start (lineOf c) .args .file .now))
+    × Within (start (lineOf c) .args .file .now) (stride (lineOf c)) (start (lineOf c) .args .n) (lineOf c .loop .i + c .reach-from .result .slots) (lineOf c .loop .at + c .reach-from .result .slots * stride (lineOf c))
+line-passed c = within-pass (lineOf c .loop .inv .0) (c .reach-from .result .slots) (omega (arith, c .reach-from .ensures .0, lineOf c .loop .inv .0 .passed))
 
 count-defined-requires : tie.Need-count-defined-requires Inv-loop μ-loop
 count-defined-requires c κs =
@@ -61,16 +64,16 @@ count-defined-requires c κs =
 line-counted : (c : tie.After-count-defined Inv-loop μ-loop)
     → Counting (start (lineOf (c .before .before)) .args .file .now) (start (lineOf (c .before .before)) .args .reading) (start (lineOf (c .before .before)) .args .chunk .now)
     (start (lineOf (c .before .before)) .args .bound .now) (start (lineOf (c .before .before)) .args .down .now) (start (lineOf (c .before .before)) .args .pos) (start (lineOf (c .before .before)) .args .n)
-    (start (lineOf (c .before .before)) .args .slot) (lineOf (c .before .before) .loop .at + c .before .before .inside-slots .result * stride (lineOf (c .before .before)))
-    (lineOf (c .before .before) .loop .i + c .before .before .inside-slots .result) (lineOf (c .before .before) .loop .count + c .count-defined .result)
+    (start (lineOf (c .before .before)) .args .slot) (lineOf (c .before .before) .loop .at + c .before .before .reach-from .result .slots * stride (lineOf (c .before .before)))
+    (lineOf (c .before .before) .loop .i + c .before .before .reach-from .result .slots) (lineOf (c .before .before) .loop .count + c .count-defined .result)
 line-counted c =
     let e = c .before .before in
     let l = lineOf e in
     let p = start l .pre in
     let f = l .before .sizes-fit .ensures in
     let d = c .count-defined .ensures in
-    counting-inside (l .loop .inv .1) (λ j. omega (arith, l .before .before .before .shared-slice-known .given j)) (p .1) (p .2) (e .inside-slots .result) (line-passed e .1 .passed)
-    (λ k q. (sym (f k _ _ _ _ q) ∙ e .before .before .if1 .taken, λ j h. e .inside-slots .ensures .1 k _ q .1 j h)) _ (rw (l .before .before .element-stride .ensures) at d)
+    counting-inside (l .loop .inv .1) (λ j. omega (arith, l .before .before .before .shared-slice-known .given j)) (p .1) (p .2) (e .reach-from .result .slots) (line-passed e .1 .passed)
+    (λ k q. (sym (f k _ _ _ _ q) ∙ e .reach-from .ensures .1 (c .before .if1 .taken), λ j h. e .reach-from .ensures .2 k _ q .2 j h)) _ (rw (l .before .before .element-stride .ensures) at d)
 
 add-count : tie.Need-add-count Inv-loop μ-loop
 add-count c = omega (arith, line-counted c .few, line-passed (c .before .before) .1 .passed)
@@ -85,19 +88,22 @@ add-i : tie.Need-add-i Inv-loop μ-loop
 add-i c = omega (arith, line-passed (c .before .before) .1 .passed)
 
 loop-less : tie.Need-loop-less Inv-loop μ-loop
-loop-less c = omega (arith, line-passed (c .before .before) .1 .passed, c .before .if2 .taken)
+loop-less c = omega (arith, line-passed (c .before .before) .1 .passed, c .before .if1 .taken)
 
 loop-again : tie.Need-loop-again Inv-loop μ-loop
 loop-again c = rw (lineOf (c .before .before) .before .before .element-stride .ensures) (line-passed (c .before .before) .1, line-counted c)
 
-add-read-sized-element : tie.Need-add-read-sized-element Inv-loop μ-loop
-add-read-sized-element c = search needs
+-- the next element
+is-element : (c : tie.After-read-reached-element Inv-loop μ-loop) (k : Call)
+    → Reads k (start (lineOf (c .before .before)) .args .file .now) (start (lineOf (c .before .before)) .args .reading) (start (lineOf (c .before .before)) .args .chunk .now)
+    (start (lineOf (c .before .before)) .args .bound .now) (start (lineOf (c .before .before)) .args .down .now)
+    → c .read-reached-element .result ≡ element k (lineOf (c .before .before) .loop .at) (start (lineOf (c .before .before)) .args .slot + lineOf (c .before .before) .loop .i)
+is-element c k q = c .read-reached-element .ensures k _ _ _ _ q (c .before .before .reach-from .ensures .2 k _ q .0)
 
-read-sized-element-requires : tie.Need-read-sized-element-requires Inv-loop μ-loop
-read-sized-element-requires c κs =
-    let l = c .before .before .before in
-    let p = start l .pre in
-    (p .0, p .1, within-here (l .loop .inv .0) (c .before .before .loop-test .taken))
+read-reached-element-requires : tie.Need-read-reached-element-requires Inv-loop μ-loop
+read-reached-element-requires c κs =
+    let l = lineOf (c .before) in
+    (start l .pre .1, within-here (l .loop .inv .0) (c .before .before .before .loop-test .taken))
 
 enum-told : tie.Need-enum-told Inv-loop μ-loop
 enum-told c = search needs
@@ -106,24 +112,24 @@ enum-told-2 : tie.Need-enum-told-2 Inv-loop μ-loop
 enum-told-2 c = search needs
 
 add-count-2 : tie.Need-add-count-2 Inv-loop μ-loop
-add-count-2 c = let l = c .before .before .before .before .before .before in omega (arith, l .loop .inv .1 .few, l .loop .inv .0 .passed)
+add-count-2 c = let l = lineOf (c .before .before .before .before) in omega (arith, l .loop .inv .1 .few, l .loop .inv .0 .passed)
 
 enum-known-r : tie.Need-enum-known-r Inv-loop μ-loop
 enum-known-r c = search needs
 
 returns : tie.Need-returns Inv-loop μ-loop
 returns c =
-    let t = c .before .before .before in
-    let l = t .before .before .before .before in
-    counting-refused (l .loop .inv .1) (t .before .before .before .loop-test .taken) (omega (arith, start l .pre .2, t .before .before .before .loop-test .taken))
-    (λ k q. t .read-sized-element .ensures k q .0) _ (c .before .r .given .1)
+    let r = c .before .before .before in
+    let l = lineOf (r .before .before) in
+    let t = r .before .before .before .before .loop-test .taken in
+    counting-refused (l .loop .inv .1) t (omega (arith, start l .pre .2, t)) (is-element r) _ (c .before .r .given .1)
 
 -- behind the element that was read
 abbrev loopOf : tie.At-match-came Inv-loop μ-loop → tie.At-loop Inv-loop μ-loop
-loopOf c = c .before .before .before .before .before
+loopOf c = lineOf (c .before .before .before)
 
 abbrev taken : (c : tie.At-match-came Inv-loop μ-loop) → tie.In-loop Inv-loop μ-loop
-taken c = c .before .before .before .before
+taken c = c .before .before .before .before .before
 
 inside : (c : tie.At-match-came Inv-loop μ-loop)
     → Within (start (loopOf c) .args .file .now) (stride (loopOf c)) (start (loopOf c) .args .n) (loopOf c .loop .i + 1) (loopOf c .loop .at + stride (loopOf c))
@@ -137,8 +143,8 @@ counted c =
     let t = taken c .loop-test .taken in
     let b = start l .pre .2 in
     ⊎-elim
-    (λ w. counting-same (counting-absent (l .loop .inv .1) t (omega arith) (λ k q. c .before .read-sized-element .ensures k q .0) (w .1 .given .1)) _ (w .2))
-    (λ w. counting-same (counting-chunk (l .loop .inv .1) t (omega arith) (λ k q. c .before .read-sized-element .ensures k q .0) _ (w .1 .given .1)) _ (w .2))
+    (λ w. counting-same (counting-absent (l .loop .inv .1) t (omega arith) (is-element (c .before)) (w .1 .given .1)) _ (w .2))
+    (λ w. counting-same (counting-chunk (l .loop .inv .1) t (omega arith) (is-element (c .before)) _ (w .1 .given .1)) _ (w .2))
     (c .match .came)
 
 add-undefined-run : tie.Need-add-undefined-run Inv-loop μ-loop
@@ -199,9 +205,9 @@ count-each-element-spec =
     element-stride-requires
     sizes-fit-requires
     loop-holds
-    add-inside-slots
-    sub-inside-slots
-    inside-slots-requires
+    add-reach-from
+    sub-reach-from
+    reach-from-requires
     count-defined-requires
     add-count
     mul-at
@@ -209,8 +215,7 @@ count-each-element-spec =
     add-i
     loop-less
     loop-again
-    add-read-sized-element
-    read-sized-element-requires
+    read-reached-element-requires
     enum-told
     enum-told-2
     add-count-2
