@@ -22,7 +22,7 @@ use Rattle.ea_blocks.specs.Elements.{elementSizeTest, element}
 use Rattle.ea_blocks.specs.Runs.{alsoElement, elements, countedOf, plus}
 use Rattle.ea_blocks.specs.Values.{Reads}
 use Rattle.ea_blocks.proofs.Turns.{strideOf, same-stride}
-use Rattle.ea_blocks.proofs.Skipping.{skip-behind}
+use Rattle.ea_blocks.proofs.Skipping.{skip-here}
 use Rattle.ea_blocks.proofs.DefinedRuns.{defined-few}
 use Rattle.ea_blocks.proofs.AllChunks.{inside-counted}
 use Rattle.ea_blocks.proofs.Runs.{plus-zero, plus-none, plus-also, run-part, run-more, run-done}
@@ -65,15 +65,14 @@ module _ {file : List ℕ} {r : Reading} {chunk bound down : List ℕ} {pos n sl
     unfolding alsoElement
     counting-chunk x f = record { few = omega (arith, k .few); whole = λ c reads. sym (plus-also count _ _) ∙ (rw f at (turned c reads)) }
 
--- behind element i undefined ones are stepped over, m of them
-pub counting-skip : {file : List ℕ} {r : Reading} {chunk bound down : List ℕ} {pos n slot count : ℕ} (at i : ℕ)
-    → Counting file r chunk bound down pos n slot (at + strideOf r) (i + 1) count
+-- from element i on undefined ones are stepped over, m of them
+pub counting-skip : {file : List ℕ} {r : Reading} {chunk bound down : List ℕ} {pos n slot at i count : ℕ} → Counting file r chunk bound down pos n slot at i count
     → elementSizeTest (r .geometry .header) (r .geometry .«offset_size») ≡ Passed → slot + n ≤ r .geometry .header .«num_elements» → i < n
-    → (m : ℕ) → m ≡ undefinedRun file (at + strideOf r) (n - (i + 1)) (strideOf r) (r .geometry .«offset_size»)
-    → Counting file r chunk bound down pos n slot (at + (1 + m) * strideOf r) (i + (1 + m)) count
-counting-skip {r = r} {n = n} {slot = slot} {count = count} at i k t b h m e = record {
+    → (m : ℕ) → m ≡ undefinedRun file at (n - i) (strideOf r) (r .geometry .«offset_size»)
+    → Counting file r chunk bound down pos n slot (at + m * strideOf r) (i + m) count
+counting-skip {n = n} {slot = slot} {at = at} {i = i} {count = count} k t b h m e = record {
   few = omega (arith, k .few);
-  whole = λ c reads. ap (plus count) (skip-behind reads t (accepted []) n i at slot b h m e) ∙ k .whole c reads;
+  whole = λ c reads. ap (plus count) (skip-here reads t (accepted []) n i at slot b h m e) ∙ k .whole c reads;
 }
 
 -- m elements more, whose slots all lie in the extents, where no size is refused: those that are defined are counted

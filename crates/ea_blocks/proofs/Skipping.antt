@@ -51,11 +51,10 @@ module _ {c : Call} {file : List ℕ} {r : Reading} {chunk bound down : List ℕ
       let g : s + 0 ≡ s = omega arith in
       rw (e, f, g) refl)
 
-  -- behind element i of n, which is at `at`
-  pub skip-behind : (n i at s : ℕ) → s + n ≤ r .geometry .header .«num_elements» → i < n → (m : ℕ) → m ≡ undefinedFrom (at + strideOf r) (n - (i + 1))
-      → elements c (at + (1 + m) * strideOf r) (n - (i + (1 + m))) (s + (i + (1 + m))) rest ≡ elements c (at + strideOf r) (n - (i + 1)) (s + (i + 1)) rest
-  skip-behind n i at s l h m q =
-      let e : at + (1 + m) * strideOf r ≡ at + strideOf r + m * strideOf r = omega arith in
-      let f : n - (i + (1 + m)) ≡ n - (i + 1) - m = omega arith in
-      let g : s + (i + (1 + m)) ≡ s + (i + 1) + m = omega arith in
-      rw (e, f, g, q) (sym (run-skip (at + strideOf r) (n - (i + 1)) (s + (i + 1)) (omega arith)))
+  -- from element i of n on, which is at `at`
+  pub skip-here : (n i at s : ℕ) → s + n ≤ r .geometry .header .«num_elements» → i < n → (m : ℕ) → m ≡ undefinedFrom at (n - i)
+      → elements c (at + m * strideOf r) (n - (i + m)) (s + (i + m)) rest ≡ elements c at (n - i) (s + i) rest
+  skip-here n i at s l h m q =
+      let f : n - (i + m) ≡ n - i - m = omega arith in
+      let g : s + (i + m) ≡ s + i + m = omega arith in
+      rw (f, g, q) (sym (run-skip at (n - i) (s + i) (omega arith)))

@@ -30,7 +30,7 @@ use Rattle.ea_blocks.specs.Runs.{Listing, alsoElement, elements}
 use Rattle.ea_blocks.specs.Values.{Reads, ReadsLine}
 use Rattle.ea_blocks.proofs.Sized.{same-test, element-inside}
 use Rattle.ea_blocks.proofs.Runs.{run-split, run-more, run-done, run-part}
-use Rattle.ea_blocks.proofs.Skipping.{skip-behind}
+use Rattle.ea_blocks.proofs.Skipping.{skip-here}
 use Rattle.ea_blocks.proofs.Turns.{strideOf, same-stride, left-run}
 use Rattle.ea_blocks.proofs.Records.{sets-append, length-record, list-append}
 use Rattle.ea_blocks.proofs.Corners.{element-sized, chunk-inside, corner-rank, inside-corner, length-handed, line-corner}
@@ -141,15 +141,6 @@ module _ {n slot : ℕ} {c : Call} {from i : ℕ} {out : List ℕ} {to : ℕ} {W
         pub left-chunk : Left n slot c (from + strideOf r) (i + 1) (sets out to (recordBytes written)) (to + recordLength (r .rank)) W end
         left-chunk = record { records = chunk-next .0; is = chunk-next .1; makes = chunk-makes; ends = lengths }
 
--- behind element i undefined ones are stepped over, m of them
-pub left-skip : {n slot : ℕ} {c : Call} {out : List ℕ} {to : ℕ} {W : List ℕ} {end : ℕ} {file : List ℕ} {r : Reading} {chunk bound down : List ℕ} (from i : ℕ)
-    → Left n slot c (from + strideOf r) (i + 1) out to W end → Reads c file r chunk bound down
-    → elementSizeTest (r .geometry .header) (r .geometry .«offset_size») ≡ Passed → slot + n ≤ r .geometry .header .«num_elements» → i < n
-    → (m : ℕ) → m ≡ undefinedRun file (from + strideOf r) (n - (i + 1)) (strideOf r) (r .geometry .«offset_size»)
-    → Left n slot c (from + (1 + m) * strideOf r) (i + (1 + m)) out to W end
-left-skip {n = n} {slot = slot} from i w q t b h m e =
-    record { records = w .records; is = skip-behind q t (accepted []) n i from slot b h m e ∙ w .is; makes = w .makes; ends = w .ends }
-
 -- the run of n elements from pos on, of a call c, is accepted with the records l
 pub record Listed (file : List ℕ) (r : Reading) (chunk bound down : List ℕ) (pos n slot : ℕ) (c : Call) (l : List Rec) : Type 0 where
   pub reads : Reads c file r chunk bound down
@@ -181,20 +172,26 @@ module _ {file : List ℕ} {r : Reading} {chunk bound down : List ℕ} {pos n sl
   pub writing-sized : {c : Call} {l : List Rec} → Listed file r chunk bound down pos n slot c l → elementSizeTest (r .geometry .header) (r .geometry .«offset_size») ≡ Passed
   writing-sized {c} {l} h = left-sized (w .whole c l h) (h .reads) k (omega arith)
 
+  -- undefined ones are stepped over, m of them
+  pub writing-skip : {c : Call} {l : List Rec} → Listed file r chunk bound down pos n slot c l → (m : ℕ) → m ≡ undefinedRun file from (n - i) (strideOf r) (r .geometry .«offset_size»)
+      → Writing file r chunk bound down pos n slot out₀ at out (from + m * strideOf r) (i + m) to
+  writing-skip given m e = record {
+    whole = λ c l h.
+        let z = w .whole c l h in
+        record { records = z .records; is = skip-here (h .reads) (writing-sized given) (accepted []) n i from slot b k m e ∙ z .is; makes = z .makes; ends = z .ends };
+  }
+
   module _ (a : List ℕ) (array : length a ≡ 32) {o : Offsets} {a′ : List ℕ}
       (told : (g : Grid) → Numbers (r .rank) (r .rotated) chunk down g → Extents (r .rank) (r .numbers) bound g → (o ≡ inExtent g (slot + i)) × (a′ ≡ handed g (slot + i) a)) where
     pub writing-array : {c : Call} → Reads c file r chunk bound down → length a′ ≡ 32
     writing-array {c} q = ap length (told (c .grid) (q .numbered) (q .extended) .1) ∙ length-handed (c .grid) (slot + i) a ∙ array
 
-    -- outside the extents nothing is written: an accepted listing has no record of it; behind it undefined ones are stepped over, m of them
-    pub writing-outside : (o ≡ Inside → ⊥) → {c : Call} {l : List Rec} → Listed file r chunk bound down pos n slot c l
-        → (m : ℕ) → m ≡ undefinedRun file (from + strideOf r) (n - (i + 1)) (strideOf r) (r .geometry .«offset_size»)
-        → Writing file r chunk bound down pos n slot out₀ at out (from + (1 + m) * strideOf r) (i + (1 + m)) to
-    writing-outside not given m e = record {
+    -- outside the extents nothing is written: an accepted listing has no record of it
+    pub writing-outside : (o ≡ Inside → ⊥) → Writing file r chunk bound down pos n slot out₀ at out (from + strideOf r) (i + 1) to
+    writing-outside not = record {
       whole = λ c l h.
           let q = h .reads in
-          let z = left-other (w .whole c l h) q k (omega arith) (λ x f. not (told (c .grid) (q .numbered) (q .extended) .0 ∙ chunk-inside c from (slot + i) x f)) in
-          left-skip from i z q (writing-sized given) b k m e;
+          left-other (w .whole c l h) q k (omega arith) (λ x f. not (told (c .grid) (q .numbered) (q .extended) .0 ∙ chunk-inside c from (slot + i) x f));
     }
 
     -- inside them a line is written, m elements of it

@@ -198,6 +198,12 @@ fn count_each_element(
     let mut at = pos;
     let mut i = 0;
     while i < n {
+        let gap = undefined_run(file, at, n - i, stride, width);
+        if 0 < gap {
+            at += gap as usize * stride;
+            i += gap;
+            continue;
+        }
         let reach = reach_from(
             &mut offsets,
             slot + i,
@@ -221,9 +227,8 @@ fn count_each_element(
             Element::Chunk(_) => count += 1,
             Element::Refused(r) => return Counted::Refused(r),
         }
-        let passed = 1 + undefined_run(file, at + stride, n - (i + 1), stride, width);
-        at += passed as usize * stride;
-        i += passed;
+        at += stride;
+        i += 1;
     }
     Counted::Count(count)
 }

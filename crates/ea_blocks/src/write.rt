@@ -129,6 +129,12 @@ pub fn write_elements(
     let mut from = pos as usize;
     let mut i = 0;
     while i < left {
+        let gap = undefined_run(file, from, left - i, stride, width);
+        if 0 < gap {
+            from += gap as usize * stride;
+            i += gap;
+            continue;
+        }
         let here = slot + i;
         let reached = offsets_in_extent(
             &mut offsets,
@@ -146,7 +152,7 @@ pub fn write_elements(
             to = write_line(out, to, file, from, n, reading, &offsets, line, chunk);
             n
         } else {
-            1 + undefined_run(file, from + stride, left - (i + 1), stride, width)
+            1
         };
         from += passed as usize * stride;
         i += passed;

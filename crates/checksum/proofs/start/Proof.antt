@@ -1,6 +1,6 @@
 -- `checksum::start` meets its contract. Assumes nothing.
 use Prim.Native.Nat.{ℕ, _+_, _%_, _^_}
-use mathlib.Core.Path.{_≡_, ap, _∙_}
+use mathlib.Core.Path.{ap, _∙_}
 use Rattle.checksum.specs.Lookup3.{seeded}
 use Rattle.checksum.proofs.Lookup3.{seed-mod}
 use borrow.Author.Needs.{needs}

@@ -37,6 +37,45 @@ start c = c .before .before .before .before
 abbrev stride : tie.At-loop Inv-loop μ-loop → ℕ
 stride c = strideOf (start c .args .reading)
 
+-- undefined elements are stepped over
+abbrev gapOf : tie.After-undefined-run Inv-loop μ-loop → tie.At-loop Inv-loop μ-loop
+gapOf c = c .before .before
+
+sub-undefined-run : tie.Need-sub-undefined-run Inv-loop μ-loop
+sub-undefined-run c = search needs
+
+undefined-run-requires : tie.Need-undefined-run-requires Inv-loop μ-loop
+undefined-run-requires c κs =
+    let l = c .before in
+    let p = start l .pre in
+    rw (l .before .before .element-stride .ensures) (sized-width _ _ (p .1), sized-stride _ _ (p .1), l .loop .inv .0 .left)
+
+gap-passed : (c : tie.After-undefined-run Inv-loop μ-loop)
+    → (gapOf c .loop .at + c .undefined-run .result * stride (gapOf c) ≤ length (start (gapOf c) .args .file .now))
+    × Within (start (gapOf c) .args .file .now) (stride (gapOf c)) (start (gapOf c) .args .n) (gapOf c .loop .i + c .undefined-run .result) (gapOf c .loop .at + c .undefined-run .result * stride (gapOf c))
+gap-passed c = within-pass (gapOf c .loop .inv .0) (c .undefined-run .result) (omega (arith, c .undefined-run .ensures .1, gapOf c .loop .inv .0 .passed))
+
+mul-at : tie.Need-mul-at Inv-loop μ-loop
+mul-at c = let l = gap-passed (c .before) .0 in rw (gapOf (c .before) .before .before .element-stride .ensures) (omega arith)
+
+add-at : tie.Need-add-at Inv-loop μ-loop
+add-at c = let l = gap-passed (c .before) .0 in rw (gapOf (c .before) .before .before .element-stride .ensures) (omega arith)
+
+add-i : tie.Need-add-i Inv-loop μ-loop
+add-i c = omega (arith, gap-passed (c .before) .1 .passed)
+
+loop-less : tie.Need-loop-less Inv-loop μ-loop
+loop-less c = omega (arith, gap-passed (c .before) .1 .passed, c .if1 .taken)
+
+loop-again : tie.Need-loop-again Inv-loop μ-loop
+loop-again c =
+    let g = c .before in
+    let l = gapOf g in
+    let p = start l .pre in
+    let e = l .before .before .element-stride .ensures in
+    let u = g .undefined-run .ensures .0 in
+    rw e (gap-passed g .1, counting-skip (l .loop .inv .1) (p .1) (p .2) (g .before .loop-test .taken) _ (rw e at u))
+
 add-reach-from : tie.Need-add-reach-from Inv-loop μ-loop
 add-reach-from c = search needs
 
@@ -44,11 +83,11 @@ sub-reach-from : tie.Need-sub-reach-from Inv-loop μ-loop
 sub-reach-from c = search needs
 
 reach-from-requires : tie.Need-reach-from-requires Inv-loop μ-loop
-reach-from-requires c κs = let p = start (c .before .before) .pre .0 in (p .0, start (c .before .before) .args .file .now, p .1)
+reach-from-requires c κs = let l = c .before .before .before .before in let p = start l .pre .0 in (p .0, start l .args .file .now, p .1)
 
 -- a line of elements inside the extents
 abbrev lineOf : tie.After-reach-from Inv-loop μ-loop → tie.At-loop Inv-loop μ-loop
-lineOf c = c .before .before .before
+lineOf c = c .before .before .before .before .before
 
 line-passed : (c : tie.After-reach-from Inv-loop μ-loop)
     → (lineOf c .loop .at + c .reach-from .result .slots * stride (lineOf c) ≤ length (start (lineOf c) .args .file .now))
@@ -73,25 +112,25 @@ line-counted c =
     let f = l .before .sizes-fit .ensures in
     let d = c .count-defined .ensures in
     counting-inside (l .loop .inv .1) (λ j. omega (arith, l .before .before .before .shared-slice-known .given j)) (p .1) (p .2) (e .reach-from .result .slots) (line-passed e .1 .passed)
-    (λ k q. (sym (f k _ _ _ _ q) ∙ e .reach-from .ensures .1 (c .before .if1 .taken), λ j h. e .reach-from .ensures .2 k _ q .2 j h)) _ (rw (l .before .before .element-stride .ensures) at d)
+    (λ k q. (sym (f k _ _ _ _ q) ∙ e .reach-from .ensures .1 (c .before .if2 .taken), λ j h. e .reach-from .ensures .2 k _ q .2 j h)) _ (rw (l .before .before .element-stride .ensures) at d)
 
 add-count : tie.Need-add-count Inv-loop μ-loop
 add-count c = omega (arith, line-counted c .few, line-passed (c .before .before) .1 .passed)
 
-mul-at : tie.Need-mul-at Inv-loop μ-loop
-mul-at c = let l = line-passed (c .before .before) .0 in rw (lineOf (c .before .before) .before .before .element-stride .ensures) (omega arith)
+mul-at-2 : tie.Need-mul-at-2 Inv-loop μ-loop
+mul-at-2 c = let l = line-passed (c .before .before) .0 in rw (lineOf (c .before .before) .before .before .element-stride .ensures) (omega arith)
 
-add-at : tie.Need-add-at Inv-loop μ-loop
-add-at c = let l = line-passed (c .before .before) .0 in rw (lineOf (c .before .before) .before .before .element-stride .ensures) (omega arith)
+add-at-2 : tie.Need-add-at-2 Inv-loop μ-loop
+add-at-2 c = let l = line-passed (c .before .before) .0 in rw (lineOf (c .before .before) .before .before .element-stride .ensures) (omega arith)
 
-add-i : tie.Need-add-i Inv-loop μ-loop
-add-i c = omega (arith, line-passed (c .before .before) .1 .passed)
+add-i-2 : tie.Need-add-i-2 Inv-loop μ-loop
+add-i-2 c = omega (arith, line-passed (c .before .before) .1 .passed)
 
-loop-less : tie.Need-loop-less Inv-loop μ-loop
-loop-less c = omega (arith, line-passed (c .before .before) .1 .passed, c .before .if1 .taken)
+loop-less-2 : tie.Need-loop-less-2 Inv-loop μ-loop
+loop-less-2 c = omega (arith, line-passed (c .before .before) .1 .passed, c .before .if2 .taken)
 
-loop-again : tie.Need-loop-again Inv-loop μ-loop
-loop-again c = rw (lineOf (c .before .before) .before .before .element-stride .ensures) (line-passed (c .before .before) .1, line-counted c)
+loop-again-2 : tie.Need-loop-again-2 Inv-loop μ-loop
+loop-again-2 c = rw (lineOf (c .before .before) .before .before .element-stride .ensures) (line-passed (c .before .before) .1, line-counted c)
 
 -- the next element
 is-element : (c : tie.After-read-reached-element Inv-loop μ-loop) (k : Call)
@@ -103,7 +142,7 @@ is-element c k q = c .read-reached-element .ensures k _ _ _ _ q (c .before .befo
 read-reached-element-requires : tie.Need-read-reached-element-requires Inv-loop μ-loop
 read-reached-element-requires c κs =
     let l = lineOf (c .before) in
-    (start l .pre .1, within-here (l .loop .inv .0) (c .before .before .before .loop-test .taken))
+    (start l .pre .1, within-here (l .loop .inv .0) (c .before .before .before .before .before .loop-test .taken))
 
 enum-told : tie.Need-enum-told Inv-loop μ-loop
 enum-told c = search needs
@@ -121,7 +160,7 @@ returns : tie.Need-returns Inv-loop μ-loop
 returns c =
     let r = c .before .before .before in
     let l = lineOf (r .before .before) in
-    let t = r .before .before .before .before .loop-test .taken in
+    let t = r .before .before .before .before .before .before .loop-test .taken in
     counting-refused (l .loop .inv .1) t (omega (arith, start l .pre .2, t)) (is-element r) _ (c .before .r .given .1)
 
 -- behind the element that was read
@@ -129,7 +168,7 @@ abbrev loopOf : tie.At-match-came Inv-loop μ-loop → tie.At-loop Inv-loop μ-l
 loopOf c = lineOf (c .before .before .before)
 
 abbrev taken : (c : tie.At-match-came Inv-loop μ-loop) → tie.In-loop Inv-loop μ-loop
-taken c = c .before .before .before .before .before
+taken c = c .before .before .before .before .before .before .before
 
 inside : (c : tie.At-match-came Inv-loop μ-loop)
     → Within (start (loopOf c) .args .file .now) (stride (loopOf c)) (start (loopOf c) .args .n) (loopOf c .loop .i + 1) (loopOf c .loop .at + stride (loopOf c))
@@ -147,51 +186,17 @@ counted c =
     (λ w. counting-same (counting-chunk (l .loop .inv .1) t (omega arith) (is-element (c .before)) _ (w .1 .given .1)) _ (w .2))
     (c .match .came)
 
-add-undefined-run : tie.Need-add-undefined-run Inv-loop μ-loop
-add-undefined-run c = omega (arith, loopOf c .before .before .element-stride .ensures, inside c)
+add-at-3 : tie.Need-add-at-3 Inv-loop μ-loop
+add-at-3 c = omega (arith, loopOf c .before .before .element-stride .ensures, inside c)
 
-add-undefined-run-2 : tie.Need-add-undefined-run-2 Inv-loop μ-loop
-add-undefined-run-2 c = omega (arith, taken c .loop-test .taken)
+add-i-3 : tie.Need-add-i-3 Inv-loop μ-loop
+add-i-3 c = omega (arith, taken c .loop-test .taken)
 
-sub-undefined-run : tie.Need-sub-undefined-run Inv-loop μ-loop
-sub-undefined-run c = omega (arith, taken c .loop-test .taken)
+loop-less-3 : tie.Need-loop-less-3 Inv-loop μ-loop
+loop-less-3 c = omega (arith, taken c .loop-test .taken)
 
-undefined-run-requires : tie.Need-undefined-run-requires Inv-loop μ-loop
-undefined-run-requires c κs =
-    let p = start (loopOf c) .pre in
-    rw (loopOf c .before .before .element-stride .ensures) (sized-width _ _ (p .1), sized-stride _ _ (p .1), inside c .left)
-
--- and behind the undefined ones
-skipped : (c : tie.After-undefined-run Inv-loop μ-loop)
-    → Within (start (loopOf (c .before)) .args .file .now) (stride (loopOf (c .before))) (start (loopOf (c .before)) .args .n) (loopOf (c .before) .loop .i + (1 + c .undefined-run .result))
-    (loopOf (c .before) .loop .at + (1 + c .undefined-run .result) * stride (loopOf (c .before)))
-skipped c =
-    within-pass (loopOf (c .before) .loop .inv .0) (1 + c .undefined-run .result) (omega (arith, c .undefined-run .ensures .1, taken (c .before) .loop-test .taken)) .1
-
-add-passed : tie.Need-add-passed Inv-loop μ-loop
-add-passed c = omega (arith, skipped c .passed)
-
-mul-at-2 : tie.Need-mul-at-2 Inv-loop μ-loop
-mul-at-2 c = let l = skipped c .left in rw (loopOf (c .before) .before .before .element-stride .ensures) (omega arith)
-
-add-at-2 : tie.Need-add-at-2 Inv-loop μ-loop
-add-at-2 c = let l = skipped c .left in rw (loopOf (c .before) .before .before .element-stride .ensures) (omega arith)
-
-add-i-2 : tie.Need-add-i-2 Inv-loop μ-loop
-add-i-2 c = omega (arith, skipped c .passed)
-
-loop-less-2 : tie.Need-loop-less-2 Inv-loop μ-loop
-loop-less-2 c = omega (arith, skipped c .passed)
-
-loop-again-2 : tie.Need-loop-again-2 Inv-loop μ-loop
-loop-again-2 c =
-    let p = start (loopOf (c .before)) .pre in
-    let e = loopOf (c .before) .before .before .element-stride .ensures in
-    let u = c .undefined-run .ensures .0 in
-    rw e (
-      skipped c,
-      counting-skip _ _ (counted (c .before)) (p .1) (p .2) (taken (c .before) .loop-test .taken) _ (rw e at u),
-    )
+loop-again-3 : tie.Need-loop-again-3 Inv-loop μ-loop
+loop-again-3 c = rw (loopOf c .before .before .element-stride .ensures) (inside c, counted c)
 
 returns-2 : tie.Need-returns-2 Inv-loop μ-loop
 returns-2 c = counting-done (c .before .loop .inv .1) (c .loop-test .left)
@@ -205,30 +210,31 @@ count-each-element-spec =
     element-stride-requires
     sizes-fit-requires
     loop-holds
-    add-reach-from
-    sub-reach-from
-    reach-from-requires
-    count-defined-requires
-    add-count
+    sub-undefined-run
+    undefined-run-requires
     mul-at
     add-at
     add-i
     loop-less
     loop-again
+    add-reach-from
+    sub-reach-from
+    reach-from-requires
+    count-defined-requires
+    add-count
+    mul-at-2
+    add-at-2
+    add-i-2
+    loop-less-2
+    loop-again-2
     read-reached-element-requires
     enum-told
     enum-told-2
     add-count-2
     enum-known-r
     returns
-    add-undefined-run
-    add-undefined-run-2
-    sub-undefined-run
-    undefined-run-requires
-    add-passed
-    mul-at-2
-    add-at-2
-    add-i-2
-    loop-less-2
-    loop-again-2
+    add-at-3
+    add-i-3
+    loop-less-3
+    loop-again-3
     returns-2)
