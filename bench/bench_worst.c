@@ -1,5 +1,6 @@
-/* The time of hostile files (hostile.h). Their elements have addresses, but no corner of the present shape: each is read twice, and the list needs no room.
- * Of a file of half a MiB a part is measured, up to a pointer that leads elsewhere; a smaller file is measured whole, beside what its parts make. */
+/* The time of hostile files (hostile.h). Their elements have addresses; either none has a corner of the present shape, so that each is read twice and the list
+ * needs no room, or every second one has, so that no two slots lie in a line, and the list is refused for its room behind the first walk. Of a file of half a
+ * MiB a part is measured, up to a pointer that leads elsewhere; a smaller file is measured whole, beside what its parts make. */
 #define _DEFAULT_SOURCE
 #include "calls.h"
 #include "clock.h"
@@ -8,8 +9,10 @@
 /* Blocks that are measured. */
 enum { MEASURED = 48, RANK_MOST = 32 };
 
-/* The call for a dataset of a rank whose leading length is 0 at present. */
-static struct call call_of(const struct array *a, uint64_t rank, uint8_t shapes[3][8 * RANK_MOST])
+/* The shapes of a dataset: its leading length is 0 at present, or its last one is 1 of 2. */
+enum shape { NONE_PRESENT, HALF_PRESENT };
+
+static struct call call_of(const struct array *a, enum shape shape, uint64_t rank, uint8_t shapes[3][8 * RANK_MOST])
 {
     struct call c = {.file = {a->bytes, a->length}, .offset_size = 2, .length_size = 8, .element_bytes = 1, .order = 1, .rank = rank, .has_maximum = 1,
                      .chunk = {shapes[0], 8 * rank}, .present = {shapes[1], 8 * rank}, .maximum = {shapes[2], 8 * rank}};
@@ -19,10 +22,15 @@ static struct call call_of(const struct array *a, uint64_t rank, uint8_t shapes[
         cellumaq_put_length(shapes[1], d, d == 0 ? 0 : 3);
         cellumaq_put_length(shapes[2], d, d == 0 ? CELLUMAQ_UNLIMITED : 3);
     }
+    if (shape == HALF_PRESENT) {
+        cellumaq_put_length(shapes[1], 0, INT64_MAX);
+        cellumaq_put_length(shapes[1], rank - 1, 1);
+        cellumaq_put_length(shapes[2], rank - 1, 2);
+    }
     return c;
 }
 
-/* The seconds of a list that is accepted without a record, or refused with an expected number. */
+/* The seconds of a list that is refused with an expected number, or accepted without a record. */
 static double seconds(const struct call *c, uint64_t refusal)
 {
     double begin = now();
@@ -37,29 +45,31 @@ static double seconds(const struct call *c, uint64_t refusal)
 }
 
 /* The seconds of a list whose published count and wrong pointer are given. */
-static double hostile_seconds(unsigned u, uint64_t count, uint64_t wrong, uint64_t rank)
+static double hostile_seconds(unsigned u, uint64_t count, uint64_t wrong, enum shape shape, uint64_t rank)
 {
     struct array a = hostile_array(u, count, wrong).array;
     uint8_t shapes[3][8 * RANK_MOST];
-    struct call c = call_of(&a, rank, shapes);
-    double taken = seconds(&c, wrong < array_blocks(u) ? CELLUMAQ_REFUSED_DATA_BLOCK_SIGNATURE : 0);
+    struct call c = call_of(&a, shape, rank, shapes);
+    uint64_t whole = shape == NONE_PRESENT ? CELLUMAQ_ACCEPTED : CELLUMAQ_REFUSED_LIST_TOO_SMALL;
+    double taken = seconds(&c, wrong < array_blocks(u) ? CELLUMAQ_REFUSED_DATA_BLOCK_SIGNATURE : whole);
 
     array_free(&a);
     return taken;
 }
 
 /* A hostile file: what each byte of a tested block and each element takes, and what they make for the whole list. */
-static void measure(unsigned u, uint64_t rank, int whole)
+static void measure(unsigned u, enum shape shape, uint64_t rank, int whole)
 {
     struct array a = hostile_array(u, 0, 0).array;
     double each = (double)array_block_elements(&a.of, u), blocks = (double)array_blocks(u);
-    double checksum = hostile_seconds(u, (uint64_t)1 << u, MEASURED, rank) / MEASURED;
-    double elements = hostile_seconds(u, UINT64_MAX, MEASURED, rank) / MEASURED - checksum;
+    int walks = shape == NONE_PRESENT ? 2 : 1;
+    double checksum = hostile_seconds(u, (uint64_t)1 << u, MEASURED, shape, rank) / MEASURED;
+    double elements = hostile_seconds(u, UINT64_MAX, MEASURED, shape, rank) / MEASURED - checksum;
 
     printf("%10zu %8.0f %10.0f %6" PRIu64 " %12.3f %16.1f %12.2f", a.length, blocks, each, rank, 1e9 * checksum / (2 * each), 1e9 * elements / each,
-           blocks * (checksum + 2 * elements));
+           blocks * (checksum + walks * elements));
     if (whole)
-        printf(" %12.2f", hostile_seconds(u, UINT64_MAX, UINT64_MAX, rank));
+        printf(" %12.2f", hostile_seconds(u, UINT64_MAX, UINT64_MAX, shape, rank));
     printf("\n");
     fflush(stdout);
     array_free(&a);
@@ -69,7 +79,7 @@ static void measure_clear_pages(void)
 {
     struct array a = clear_pages_array();
     uint8_t shapes[3][8 * RANK_MOST];
-    struct call c = call_of(&a, 1, shapes);
+    struct call c = call_of(&a, NONE_PRESENT, 1, shapes);
 
     printf("%zu bytes with 2^22 clear pages: %.3f s\n", a.length, seconds(&c, 0));
     array_free(&a);
@@ -82,7 +92,7 @@ static void measure_undefined(void)
     uint8_t shapes[3][8 * RANK_MOST];
 
     array_build(&a);
-    struct call c = call_of(&a, 32, shapes);
+    struct call c = call_of(&a, NONE_PRESENT, 32, shapes);
     c.offset_size = 8;
     printf("%zu bytes with undefined pointers, count 2^64 - 1: %.6f s\n", a.length, seconds(&c, 0));
     array_free(&a);
@@ -94,8 +104,13 @@ int main(void)
 
     printf("%10s %8s %10s %6s %12s %16s %12s %12s\n", "hostile", "blocks", "elements", "rank", "ns per byte", "ns per element", "s computed", "s measured");
     for (size_t i = 0; i < sizeof ranks / sizeof *ranks; i++) {
-        measure(23, ranks[i], 1);
-        measure(35, ranks[i], 0);
+        measure(23, NONE_PRESENT, ranks[i], 1);
+        measure(35, NONE_PRESENT, ranks[i], 0);
+    }
+    printf("every second slot present\n");
+    for (size_t i = 1; i < sizeof ranks / sizeof *ranks; i++) {
+        measure(23, HALF_PRESENT, ranks[i], 1);
+        measure(35, HALF_PRESENT, ranks[i], 0);
     }
     measure_clear_pages();
     measure_undefined();

@@ -73,13 +73,14 @@ enum cellumaq_order {
     CELLUMAQ_UNLIMITED_FIRST = 1 /* the first unlimited dimension slowest, the others as they stand; any number but 0 means this */
 };
 
-/* Time and stack. A lookup tests the header and at most an index block, a super block and a data block or page: under three times the file's bytes,
- * 2 ms for 1 MiB. (Times are of a machine that tests a byte in 0.4 ns and reads an element in 6 ns at rank 1, 12 at rank 3, 150 at rank 32.) A list of a
- * file as HDF5 writes it takes a few ms per MiB. But a file can name its blocks again and again, and each is tested and read each time: a hostile file's
- * list takes a time that grows with the square of the file's length. For 1 MiB fewer than 2^20 blocks are tested, together under 2^40 bytes, 8 minutes;
- * and fewer than 2^39 elements are read, each twice: under 2 hours at rank 1, 4 at rank 3, 46 at rank 32; for 64 KiB divide by 256. No element at or past
- * the published count is read. Who must answer in time takes files of limited length, or calls from a process that can be ended: a call allocates
- * nothing and keeps no state, so one that is ended leaves nothing behind. A list and a lookup need less than 12 KiB of stack.
+/* Time and stack. A lookup tests the header, the index block, and at most one super block and one data block (of a paged one its head and one page):
+ * under three times the file's bytes and the header, 2 ms for 1 MiB. (Times are of a machine that tests a byte in 0.4 ns and reads an element in 6 ns at
+ * rank 1, 12 at rank 3, 150 at rank 32.) A list of a file as HDF5 writes it takes a few ms per MiB. But a file can name its blocks again and again, and each
+ * is tested and read each time: a hostile file's list takes a time that grows with the square of the file's length. For 1 MiB fewer than 2^20 blocks are
+ * tested, together under 2^40 bytes, 8 minutes; and fewer than 2^39 elements are read, each twice: under 2 hours at rank 1, 4 at rank 3, 46 at rank 32; for
+ * 64 KiB divide by 256. No element at or past the published count is read. Who must answer in time takes files of limited length, or calls from a process
+ * that can be ended: a call allocates nothing and keeps no state, so one that is ended leaves nothing behind. A list and a lookup need less than 12 KiB of
+ * stack.
  */
 
 /* Lists the chunks of the dataset whose index is the extensible array at `address`.
