@@ -3,7 +3,7 @@ use Prim.Native.Nat.{ℕ, _<_, _≤_}
 use mathlib.Core.Path.{_≡_, refl, subst}
 use mathlib.Core.Bool.{true, not, cond, _||_}
 use mathlib.Core.List.{List}
-use mathlib.Core.Option.{Option, none, some, Option·some-injective}
+use mathlib.Core.Option.{Option, some, Option·some-injective}
 use native.Mathlib.Omega.{arith}
 use borrow.Author.Tests.{not-false}
 use Rattle.refusal.specs.Refusals.{largest64}

@@ -9,13 +9,12 @@ use borrow.Author.Tests.{lt-ltb, le-leb, eq-eqb, ne-eqb, ltb-true, ltb-false, le
 use lib.Dec.{ltb, leb, eqb}
 use lib.ListN.{length, drop}
 use lib.Arith.{digits-lt, digits-div, digits-mod}
-use Rattle.refusal.proofs.Tests.{refuse-passed, then-passed}
+use Rattle.refusal.proofs.Tests.{refuse-passed, then-passed, by-cond, false-true, both, neither}
 use Rattle.refusal.specs.declared.Checked.the-variants.{Passed}
 use Rattle.refusal.specs.Refusals.{largest64}
 use Rattle.chunk_grid.specs.declared.Slot.{Slot}
 use Rattle.chunk_grid.specs.declared.Slot.the-variants.{At}
 use Rattle.chunk_grid.specs.Grid.{Grid, pairwise, every, any, countOf, counts, firstUnlimited, leadingIn, leading, toFront, fromFront, ordered, multiplier, multipliers, hasZero, numbersNothing, quotients, offsets, below, aligned, isChunk, total, slotFrom, slotOf, shapesTest, gridTest}
-use Rattle.refusal.proofs.Tests.{by-cond, false-true, both, neither}
 use Rattle.chunk_grid.proofs.Order.{back-front, front-back, length-front, length-back, length-pairwise, pairwise-front, pairwise-back, same-drop, any-front}
 
 -- multipliers

@@ -2,13 +2,9 @@ pub mod Order
 pub mod Grids
 pub mod Places
 pub mod Members
-pub mod Extents
 pub mod Building
 pub mod Numbered
-pub mod Corners
 pub mod Shapes
 pub mod Slots
 pub mod Tried
 pub mod Chunks
-pub mod Reach
-pub mod Lines

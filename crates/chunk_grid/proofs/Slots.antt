@@ -1,20 +1,17 @@
 -- Slots and chunks correspond one to one. Assumes nothing.
 use Prim.Native.Nat.{ℕ, _<_, _≤_}
 use mathlib.Core.Path.{_≡_, refl, sym, _∙_}
-use mathlib.Core.Bool.{Bool, true, false, cond}
+use mathlib.Core.Bool.{Bool, true, false}
 use mathlib.Core.List.{List, [], _∷_}
 use native.Mathlib.Omega.{arith}
 use borrow.Author.Tests.{le-ltb, ltb-true, ltb-false}
 use lib.Dec.{ltb}
-use lib.ListN.{length}
-use lib.Seq.{sets, length-sets}
 use Rattle.refusal.specs.declared.Checked.the-variants.{Passed}
 use Rattle.refusal.specs.Refusals.{largest64, refuse, _then_}
 use Rattle.chunk_grid.specs.declared.Offsets.the-variants.{Inside}
 use Rattle.chunk_grid.specs.declared.Slot.the-variants.{At}
-use Rattle.chunk_grid.specs.Grid.{Grid, pairwise, every, any, numbersNothing, offsets, overflows, below, offsetsTest, insideOr, inExtent, isChunk, slotOf, gridTest}
-use Rattle.chunk_grid.specs.Values.{shown, handed}
-use Rattle.refusal.proofs.Tests.{by-cond, false-true, both, neither}
+use Rattle.chunk_grid.specs.Grid.{Grid, every, any, numbersNothing, offsets, overflows, below, offsetsTest, insideOr, inExtent, isChunk, slotOf, gridTest}
+use Rattle.refusal.proofs.Tests.{false-true, both, neither}
 use Rattle.chunk_grid.proofs.Grids.{accepted, chunk-inv, slot-offsets, offsets-chunk, offsets-slot}
 
 -- what lies below numbers that 64 bits hold is held by them too
@@ -26,15 +23,6 @@ below-fits (a ∷ l) (b ∷ m) h f =
     let t = both (ltb a b) (below l m) h in
     let y = neither (ltb largest64 b) (overflows m) f in
     rw (le-ltb largest64 a (omega (arith, ltb-true a b (t .0), ltb-false largest64 b (y .0)))) (below-fits l m (t .1) (y .1))
-
--- and is handed over as it is
-below-shown : (l m : List ℕ) → below l m ≡ true → pairwise (λ (o e : ℕ). cond (ltb o e) o 0) l m ≡ l
-unfolding below every pairwise
-below-shown [] m h = refl
-below-shown (a ∷ l) [] h = absurd (false-true h)
-below-shown (a ∷ l) (b ∷ m) h =
-    let t = both (ltb a b) (below l m) h in
-    rw (t .0, below-shown l m (t .1)) refl
 
 passed-inside : (n o b : Bool) → insideOr (refuse 32 0 0 n then refuse 33 0 0 o) b ≡ Inside → (n ≡ false) × (o ≡ false) × (b ≡ true)
 unfolding insideOr refuse _then_
@@ -52,15 +40,6 @@ module _ (g : Grid) (s : ℕ) where
   pub inside : numbersNothing g ≡ false → overflows (offsets g s) ≡ false → below (offsets g s) (g .present) ≡ true → inExtent g s ≡ Inside
   unfolding inExtent offsetsTest insideOr refuse _then_
   inside n o b = rw (n, o, b) refl
-
-  pub handed-inside : inExtent g s ≡ Inside → (l : List ℕ) → handed g s l ≡ sets l 0 (offsets g s)
-  unfolding handed shown
-  handed-inside h l = let i = inside-inv h in rw (i .0, below-shown (offsets g s) (g .present) (i .2)) refl
-
--- The lent array keeps its length.
-pub length-handed : (g : Grid) (s : ℕ) (l : List ℕ) → length (handed g s l) ≡ length l
-unfolding handed
-length-handed g s l = by-cond (λ (m : List ℕ). length m ≡ length l) (numbersNothing g) (λ t. refl) (λ t. length-sets l 0 (shown g s))
 
 -- For a grid that was built: a chunk with a slot gets itself back from the offsets of that slot, ..
 pub slot-chunk : (g : Grid) (corner : List ℕ) (s : ℕ) → gridTest g ≡ Passed → overflows (g .present) ≡ false → isChunk g corner ≡ true → slotOf g corner ≡ At s

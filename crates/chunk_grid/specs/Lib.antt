@@ -1,5 +1,3 @@
 pub mod Grid
 pub mod Values
 pub mod Shapes
-pub mod Reach
-pub mod Lines

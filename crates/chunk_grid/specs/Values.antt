@@ -1,18 +1,17 @@
 -- What the code's values stand for.
-use Prim.Native.Nat.{ℕ, zero, suc, _*_}
+use Prim.Native.Nat.{ℕ, zero, suc}
 use mathlib.Core.Path.{_≡_}
 use mathlib.Core.Bool.{Bool, true, false, not, cond}
 use mathlib.Core.List.{List, []}
 use lib.Dec.{ltb}
 use lib.ListN.{take, drop}
-use lib.Seq.{sets}
 use Rattle.refusal.specs.declared.Checked.{Checked}
 use Rattle.refusal.specs.declared.Checked.the-variants.{Passed, Refused}
 use Rattle.refusal.specs.Refusals.{refuse, _then_}
 use Rattle.chunk_grid.specs.declared.ChunkGrid.{ChunkGrid}
 use Rattle.chunk_grid.specs.declared.GridOrder.{GridOrder}
 use Rattle.chunk_grid.specs.declared.GridOrder.the-variants.{RowMajor, UnlimitedFirst}
-use Rattle.chunk_grid.specs.Grid.{Grid, pairwise, ceilDiv, countOf, counts, leadingIn, leading, toFront, ordered, multipliers, hasZero, numbersNothing, offsets, overflows, multiplierTest, productTest, gridTest}
+use Rattle.chunk_grid.specs.Grid.{Grid, pairwise, ceilDiv, countOf, counts, leadingIn, leading, toFront, ordered, multipliers, hasZero, numbersNothing, overflows, multiplierTest, productTest, gridTest}
 
 unfoldable pub isUnlimitedFirst : GridOrder → Bool
 isUnlimitedFirst RowMajor = false
@@ -75,11 +74,3 @@ pub record Extents (rank : ℕ) (numbers : Bool) (bound : List ℕ) (g : Grid) :
   pub numbering : numbers ≡ not (numbersNothing g)
   pub bounds : take rank bound ≡ pairwise ceilDiv (g .present) (g .chunk)
   pub fits : overflows (g .present) ≡ false
-
--- The offsets of a slot as they are handed over: 0 for one that isn't below its extent.
-unfoldable pub shown : Grid → ℕ → List ℕ
-shown g s = pairwise (λ (o e : ℕ). cond (ltb o e) o 0) (offsets g s) (g .present)
-
--- They are stored at the beginning of a lent array l; a grid that numbers nothing leaves it.
-unfoldable pub handed : Grid → ℕ → List ℕ → List ℕ
-handed g s l = cond (numbersNothing g) l (sets l 0 (shown g s))

@@ -8,9 +8,10 @@ use chunk_grid::ChunkGrid;
 use chunk_grid::GridOrder;
 use chunk_grid::Offsets;
 use chunk_grid::Slot;
-use chunk_grid::offsets_in_extent;
 use chunk_grid::read_shape;
-use chunk_grid::slot_of;
+use chunk_slots::corner_test;
+use chunk_slots::offsets_in_extent;
+use chunk_slots::slot_of;
 use libc::STDOUT_FILENO;
 use refusal::Checked;
 use refusal::Refusal;
@@ -65,7 +66,7 @@ fn print_corner(grid: ChunkGrid, corner: &[u64]) {
         print_refusal(r);
         return;
     }
-    let tested = grid.corner_test(corner);
+    let tested = corner_test(grid, corner);
     if let Checked::Refused(r) = tested {
         print_refusal(r);
         return;

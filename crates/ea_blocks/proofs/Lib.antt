@@ -1,16 +1,3 @@
-pub mod Elements
-pub mod Sized
-pub mod Runs
-pub mod Turns
-pub mod DefinedRuns
-pub mod Skipping
-pub mod AllChunks
-pub mod Counting
-pub mod Records
-pub mod Corners
-pub mod Writing
-pub mod Paths
-pub mod Passed
 pub mod StructureTests
 pub mod Pointers
 pub mod Entering

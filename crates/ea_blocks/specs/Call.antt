@@ -1,10 +1,9 @@
--- What a list or a lookup looks at, and what it gives.
+-- What a list or a lookup looks at.
 use Prim.Native.Nat.{ℕ}
 use mathlib.Core.List.{List}
 use Rattle.checksum.specs.Lookup3.{lookup3}
 use Rattle.chunk_grid.specs.Grid.{Grid}
 use Rattle.ea_header.specs.declared.ExtensibleArrayHeader.{ExtensibleArrayHeader}
-use Rattle.ea_blocks.specs.declared.Entry.{Entry}
 
 -- The file, the checksum, the header that was read, the size of an address, the grid, and the bytes of one element of the dataset.
 -- The checksum is lookup3 in every contract; another stands in its place only where a small file is computed by hand.
@@ -26,8 +25,3 @@ callOf file header offsetSize grid elementBytes = record {
   grid = grid;
   elementBytes = elementBytes;
 }
-
--- a record of the list: what the chunk's place holds, and the chunk's corner
-pub record Rec : Type 0 where
-  pub entry : Entry
-  pub corner : List ℕ

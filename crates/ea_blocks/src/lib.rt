@@ -1,4 +1,4 @@
-// One structure tested, one element read.
+// The blocks and pages of an index: one structure tested.
 ghost use mathlib.Core.Path.{_≡_};
 ghost use mathlib.Core.Bool.{not};
 ghost use lib.Dec.{eqb};
@@ -9,18 +9,13 @@ ghost use Rattle.ea_blocks.specs.Structures.{signatureTest, structureTes
 use checksum::TwoChecked;
 use checksum::verify_trailing;
 use checksum::verify_trailing_two;
-use ea_geometry::EaGeometry;
 use fields::bytes::ensure_len;
 use fields::bytes::read_u32_le_padded;
 use refusal::Checked;
 use refusal::Refusal;
 
-pub mod count;
-pub mod defined;
 pub mod enter;
-pub mod read;
 pub mod structures;
-pub mod write;
 
 // The kinds of structures that an index is made of, behind its header.
 pub enum Kind {
@@ -28,36 +23,6 @@ pub enum Kind {
     SuperBlock,
     DataBlock,
     Page,
-}
-
-// What a chunk's place holds.
-pub struct Entry {
-    pub address: u64,
-    pub size: u32,
-    pub mask: u32,
-}
-
-// What reading an element gives: no chunk, a chunk's entry, or a refusal.
-pub enum Element {
-    Absent,
-    Chunk(Entry),
-    Refused(Refusal),
-}
-
-// The number of records of a run of elements or a list, or why there is none.
-pub enum Counted {
-    Count(u64),
-    Refused(Refusal),
-}
-
-// What elements are read by, beside the arrays of the grid's numbering.
-pub struct Reading {
-    pub geometry: EaGeometry,
-    // The chunk's bytes, or 2^64 - 1 where they are more.
-    pub chunk_bytes: u64,
-    pub rank: u64,
-    pub rotated: u64,
-    pub numbers: bool,
 }
 
 // Tests a structure of `len` bytes at pos: 20, its signature's number, 26.

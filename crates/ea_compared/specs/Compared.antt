@@ -4,8 +4,8 @@ use mathlib.Core.List.{List}
 use Rattle.refusal.specs.Outcome.{refused, _yields_}
 use Rattle.chunk_grid.specs.Grid.{Grid}
 use Rattle.ea_header.specs.Header.{headerAt, headerTest}
-use Rattle.ea_blocks.specs.Call.{Rec}
-use Rattle.ea_blocks.specs.Runs.{Listing}
+use Rattle.ea_elements.specs.Elements.{Rec}
+use Rattle.ea_elements.specs.Runs.{Listing}
 use Rattle.ea_list.specs.Listing.{list}
 use Rattle.ea_worked.specs.Files.{byteSum, callOn}
 

@@ -9,7 +9,7 @@ use lib.ListN.{length, getD, drop, drop-of-length-le}
 use lib.Seq.{drop-cons}
 use Rattle.refusal.specs.Refusals.{figure, largest64}
 use Rattle.fields.proofs.Numbers.{figure-mul}
-use Rattle.ea_blocks.specs.Elements.{product}
+use Rattle.ea_elements.specs.Elements.{product}
 
 -- one length more
 pub product-more : (l : List ℕ) (d b : ℕ) → d < length l → figure (product (drop (d + 1) l) * figure (b * getD l d 0)) ≡ figure (product (drop d l) * b)

@@ -4,15 +4,14 @@ use mathlib.Core.Path.{_≡_, refl, subst, _∙_}
 use mathlib.Core.List.{List}
 use Rattle.refusal.specs.declared.Refusal.{Refusal}
 use Rattle.refusal.specs.declared.Checked.the-variants.{Passed, Refused}
-use Rattle.refusal.specs.Outcome.{_yields_}
+use Rattle.refusal.specs.Outcome.{_yields_, countedOf}
 use Rattle.refusal.proofs.Outcomes.{yields-passed, yields-refused, room-refused}
 use Rattle.checksum.specs.Lookup3.{lookup3}
 use Rattle.chunk_grid.specs.Grid.{Grid, gridTest}
 use Rattle.ea_header.specs.declared.ExtensibleArrayHeader.{ExtensibleArrayHeader}
 use Rattle.ea_header.specs.Header.{headerAt, headerTest}
-use Rattle.ea_blocks.specs.declared.Counted.the-variants.{Refused as CountedRefused}
+use Rattle.refusal.specs.declared.Counted.the-variants.{Refused as CountedRefused}
 use Rattle.ea_blocks.specs.Call.{Call, callOf}
-use Rattle.ea_blocks.specs.Runs.{countedOf}
 use Rattle.ea_list.specs.Listing.{list, listInto, listContent, recordsIn}
 use Rattle.ea_list.specs.Judged.{Judged}
 use Rattle.ea_list.specs.Door.{callAt, listAt}

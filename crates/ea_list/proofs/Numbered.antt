@@ -9,7 +9,7 @@ use lib.ListN.{length, drop}
 use Rattle.refusal.specs.declared.Refusal.{Refusal}
 use Rattle.refusal.specs.declared.Checked.{Checked}
 use Rattle.refusal.specs.declared.Checked.the-variants.{Passed, Refused}
-use Rattle.refusal.specs.Outcome.{refused, accepted}
+use Rattle.refusal.specs.Outcome.{refused, accepted, countedOf}
 use Rattle.refusal.proofs.Tests.{by-cond}
 use Rattle.refusal.proofs.Numbered.{Numbered, Told, numbered-passed, numbered-refuse, numbered-then, told-yields, told-accepted, told-cond, told-also, told-room}
 use Rattle.fields.specs.Fields.{widthTest, inFile, undefinedAt}
@@ -24,12 +24,12 @@ use Rattle.ea_geometry.specs.Extents.{elementStride}
 use Rattle.ea_geometry.specs.Place.{inPages}
 use Rattle.ea_blocks.specs.declared.Kind.{Kind}
 use Rattle.ea_blocks.specs.declared.Kind.the-variants.{IndexBlock, SuperBlock, DataBlock, Page}
-use Rattle.ea_blocks.specs.declared.Element.{Element}
-use Rattle.ea_blocks.specs.declared.Element.the-variants.{Absent, Chunk, Refused as ElementRefused}
-use Rattle.ea_blocks.specs.declared.Counted.the-variants.{Count}
+use Rattle.ea_elements.specs.declared.Element.{Element}
+use Rattle.ea_elements.specs.declared.Element.the-variants.{Absent, Chunk, Refused as ElementRefused}
+use Rattle.refusal.specs.declared.Counted.the-variants.{Count}
 use Rattle.ea_blocks.specs.Call.{Call}
-use Rattle.ea_blocks.specs.Elements.{elementSizeTest, entryTest, _gives_, insideOnly, element}
-use Rattle.ea_blocks.specs.Runs.{Listing, alsoElement, elements, countedOf}
+use Rattle.ea_elements.specs.Elements.{elementSizeTest, entryTest, _gives_, insideOnly, element}
+use Rattle.ea_elements.specs.Runs.{Listing, alsoElement, elements}
 use Rattle.ea_blocks.specs.Structures.{Structure, indexBlock, superBlock, dataBlock, dataPage, signatureTest, structureTest, testOf, isDirect, superUndefined, blockUndefined, pageSet}
 use Rattle.ea_walk.specs.Walk.{pagesFrom, block, blocksFrom, supers, behindInline, walk}
 use Rattle.ea_list.specs.Listing.{list, listInto}

@@ -19,8 +19,8 @@ use Rattle.ea_geometry.proofs.Counts.{pages-exact}
 use Rattle.ea_geometry.proofs.Places.{place-is, place-inline, place-past, super-block-slots, page-below}
 use Rattle.ea_blocks.specs.Call.{Call}
 use Rattle.ea_blocks.specs.Structures.{indexAt, isDirect, blockAt, dataPageAt, superUndefined, bitSet, pageSet}
-use Rattle.ea_blocks.specs.Places.{blockReached, reached, positionOf}
-use Rattle.ea_blocks.proofs.Passed.{gone}
+use Rattle.ea_elements.specs.Places.{blockReached, reached, positionOf}
+use Rattle.ea_elements.proofs.Passed.{gone}
 use Rattle.ea_list.specs.declared.runs.Run.the-variants.{Gap, Elements}
 use Rattle.ea_list.specs.Runs.{HasAt, RunOf}
 use Rattle.ea_walk.proofs.Walks.{in-pages-over}

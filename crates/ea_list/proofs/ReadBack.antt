@@ -28,16 +28,16 @@ use Rattle.chunk_grid.specs.Shapes.{numbersIn}
 use Rattle.chunk_grid.specs.declared.Offsets.{Offsets}
 use Rattle.chunk_grid.specs.declared.Offsets.the-variants.{Inside, Dropped, Refused as OffsetsRefused}
 use Rattle.ea_geometry.specs.Place.{place}
-use Rattle.ea_blocks.specs.declared.Entry.{Entry}
-use Rattle.ea_blocks.specs.declared.Element.{Element}
-use Rattle.ea_blocks.specs.declared.Element.the-variants.{Absent, Chunk, Refused as ElementRefused}
-use Rattle.ea_blocks.specs.Call.{Call, Rec}
-use Rattle.ea_blocks.specs.Elements.{filtered, sizeBytes, sizeAt, maskAt, entryAt, elementSizeTest, entryTest, _gives_, insideOnly, element}
-use Rattle.ea_blocks.specs.Places.{reached, positionOf, recordAt, with, records, answerOf, pathAt, path}
-use Rattle.ea_blocks.specs.Records.{recordLength, offsetBytes, recordBytes, listBytes}
-use Rattle.ea_blocks.proofs.Sized.{sized-width}
-use Rattle.ea_blocks.proofs.Paths.{tested-inv}
-use Rattle.ea_blocks.proofs.Records.{length-corner, length-record, Ranked}
+use Rattle.ea_elements.specs.declared.Entry.{Entry}
+use Rattle.ea_elements.specs.declared.Element.{Element}
+use Rattle.ea_elements.specs.declared.Element.the-variants.{Absent, Chunk, Refused as ElementRefused}
+use Rattle.ea_blocks.specs.Call.{Call}
+use Rattle.ea_elements.specs.Elements.{Rec, filtered, sizeBytes, sizeAt, maskAt, entryAt, elementSizeTest, entryTest, _gives_, insideOnly, element}
+use Rattle.ea_elements.specs.Places.{reached, positionOf, recordAt, with, records, answerOf, pathAt, path}
+use Rattle.ea_records.specs.Records.{recordLength, offsetBytes, recordBytes, listBytes}
+use Rattle.ea_elements.proofs.Sized.{sized-width}
+use Rattle.ea_elements.proofs.Paths.{tested-inv}
+use Rattle.ea_records.proofs.Records.{length-corner, length-record, Ranked}
 use Rattle.ea_list.specs.Listing.{recordIn, recordsIn}
 use Rattle.ea_list.proofs.Judging.{none-some}
 

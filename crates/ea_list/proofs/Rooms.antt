@@ -11,24 +11,24 @@ use lib.Seq.{sets}
 use Rattle.refusal.specs.declared.Refusal.{Refusal}
 use Rattle.refusal.specs.declared.Checked.the-variants.{Passed, Refused}
 use Rattle.refusal.specs.Refusals.{largest64, figure}
-use Rattle.refusal.specs.Outcome.{refused, accepted, _yields_, inRoom}
+use Rattle.refusal.specs.Outcome.{refused, accepted, _yields_, inRoom, countedOf}
 use Rattle.refusal.proofs.Tests.{by-cond}
 use Rattle.refusal.proofs.Outcomes.{yields-inv, room-had, room-inv, room-refused, yields-refused}
 use Rattle.chunk_grid.specs.Grid.{Grid, numbersNothing, below, offsets, chunkAt, gridTest}
 use Rattle.chunk_grid.specs.Values.{Numbers, Extents}
 use Rattle.chunk_grid.proofs.Grids.{accepted as grid-accepted, length-offsets}
 use Rattle.ea_header.specs.declared.ExtensibleArrayHeader.{ExtensibleArrayHeader}
-use Rattle.ea_blocks.specs.declared.Counted.{Counted}
-use Rattle.ea_blocks.specs.declared.Counted.the-variants.{Count, Refused as CountedRefused}
-use Rattle.ea_blocks.specs.Call.{Call, Rec, callOf}
-use Rattle.ea_blocks.specs.Elements.{chunkBytes}
-use Rattle.ea_blocks.specs.Places.{recordAt, with, records}
-use Rattle.ea_blocks.specs.Records.{recordLength, listBytes}
-use Rattle.ea_blocks.specs.Runs.{Listing, countedOf}
-use Rattle.ea_blocks.proofs.Runs.{counted-inv}
-use Rattle.ea_blocks.proofs.Records.{Ranked, length-list}
+use Rattle.refusal.specs.declared.Counted.{Counted}
+use Rattle.refusal.specs.declared.Counted.the-variants.{Count, Refused as CountedRefused}
+use Rattle.ea_blocks.specs.Call.{Call, callOf}
+use Rattle.ea_elements.specs.Elements.{Rec, chunkBytes}
+use Rattle.ea_elements.specs.Places.{recordAt, with, records}
+use Rattle.ea_records.specs.Records.{recordLength, listBytes}
+use Rattle.ea_elements.specs.Runs.{Listing}
+use Rattle.refusal.proofs.Counts.{counted-inv}
+use Rattle.ea_records.proofs.Records.{Ranked, length-list}
 use Rattle.ea_walk.specs.Walk.{walk}
-use Rattle.ea_walk.specs.Values.{Walks}
+use Rattle.ea_count.specs.Values.{Walks}
 use Rattle.ea_walk.proofs.Walks.{walk-right, walk-records}
 use Rattle.ea_list.specs.Listing.{list, listInto, listContent, recordsIn}
 use Rattle.ea_list.specs.Judged.{Judged}

@@ -21,9 +21,9 @@ use Rattle.ea_geometry.specs.declared.Place.the-variants.{Block, Page}
 use Rattle.ea_geometry.proofs.Places.{place-is, in-super-block}
 use Rattle.ea_blocks.specs.Call.{Call}
 use Rattle.ea_blocks.specs.Structures.{indexAt, superBlock, dataBlock, dataPage, testOf, isDirect, superAt, blockAt, superUndefined, blockUndefined, pageSet}
-use Rattle.ea_blocks.specs.Places.{blockReached}
+use Rattle.ea_elements.specs.Places.{blockReached}
 use Rattle.ea_blocks.specs.Values.{Sees}
-use Rattle.ea_blocks.proofs.Passed.{Led, led-block, led-page}
+use Rattle.ea_elements.proofs.Passed.{Led, led-block, led-page}
 use Rattle.ea_blocks.proofs.StructureTests.{inline-inside, super-seen, block-inside, page-inside, not-direct}
 use Rattle.ea_list.specs.declared.runs.Run.the-variants.{Gap, Elements}
 use Rattle.ea_list.specs.Runs.{RunOf, Leads}

@@ -12,14 +12,14 @@ use Rattle.refusal.proofs.Tests.{lt-or-ge}
 use Rattle.chunk_grid.specs.Grid.{offsets}
 use Rattle.ea_geometry.specs.Extents.{elementStride}
 use Rattle.ea_geometry.specs.Place.{place}
-use Rattle.ea_blocks.specs.declared.Element.{Element}
-use Rattle.ea_blocks.specs.declared.Element.the-variants.{Absent, Chunk, Refused as ElementRefused}
-use Rattle.ea_blocks.specs.Call.{Call, Rec}
-use Rattle.ea_blocks.specs.Elements.{element}
-use Rattle.ea_blocks.specs.Places.{reached, recordAt, with, records, answerOf, path}
-use Rattle.ea_blocks.specs.Runs.{alsoElement, elements}
-use Rattle.ea_blocks.proofs.Paths.{unreached}
-use Rattle.ea_blocks.proofs.Passed.{reached-element}
+use Rattle.ea_elements.specs.declared.Element.{Element}
+use Rattle.ea_elements.specs.declared.Element.the-variants.{Absent, Chunk, Refused as ElementRefused}
+use Rattle.ea_blocks.specs.Call.{Call}
+use Rattle.ea_elements.specs.Elements.{Rec, element}
+use Rattle.ea_elements.specs.Places.{reached, recordAt, with, records, answerOf, path}
+use Rattle.ea_elements.specs.Runs.{alsoElement, elements}
+use Rattle.ea_elements.proofs.Paths.{unreached}
+use Rattle.ea_elements.proofs.Passed.{reached-element}
 use Rattle.ea_list.specs.Runs.{HasAt}
 
 with-more : (x : Option Rec) (l m : List Rec) → with x (l ++ m) ≡ with x l ++ m

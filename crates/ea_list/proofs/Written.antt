@@ -15,17 +15,18 @@ use Rattle.ea_header.specs.Served.{servedTest}
 use Rattle.ea_header.proofs.Served.{tested-serves}
 use Rattle.ea_geometry.specs.Bounded.{Bounded}
 use Rattle.ea_geometry.specs.Extents.{elementStride}
-use Rattle.ea_blocks.specs.declared.Reading.{Reading}
-use Rattle.ea_blocks.specs.Call.{Call, Rec}
-use Rattle.ea_blocks.specs.Records.{listBytes}
-use Rattle.ea_blocks.specs.Places.{records, recordAt}
-use Rattle.ea_blocks.specs.Runs.{elements}
-use Rattle.ea_blocks.specs.Values.{Reads}
-use Rattle.ea_blocks.proofs.Records.{sets-append, list-append}
+use Rattle.ea_elements.specs.declared.Reading.{Reading}
+use Rattle.ea_blocks.specs.Call.{Call}
+use Rattle.ea_elements.specs.Elements.{Rec}
+use Rattle.ea_records.specs.Records.{listBytes}
+use Rattle.ea_elements.specs.Places.{records, recordAt}
+use Rattle.ea_elements.specs.Runs.{elements}
+use Rattle.ea_elements.specs.Values.{Reads}
+use Rattle.ea_records.proofs.Records.{sets-append, list-append}
 use Rattle.ea_walk.specs.Walk.{walk}
-use Rattle.ea_walk.specs.Values.{Walks}
+use Rattle.ea_count.specs.Values.{Walks}
 use Rattle.ea_walk.proofs.Walks.{walk-right, walk-records}
-use Rattle.ea_walk.proofs.Starts.{walk-sees, accepted-served, accepted-index, accepted-wide}
+use Rattle.ea_count.proofs.Starts.{walk-sees, accepted-served, accepted-index, accepted-wide}
 use Rattle.ea_list.specs.declared.runs.Run.the-variants.{Gap, Elements}
 use Rattle.ea_list.specs.Runs.{RunOf, Leads}
 use Rattle.ea_list.proofs.Writing.{records-split, records-gap, records-run}

@@ -6,7 +6,7 @@ use lib.Dec.{eqb}
 use Rattle.refusal.specs.declared.Refusal.{Refusal}
 use Rattle.refusal.specs.declared.Checked.the-variants.{Passed}
 use Rattle.refusal.specs.Refusals.{refusalOf}
-use Rattle.refusal.specs.Outcome.{_yields_}
+use Rattle.refusal.specs.Outcome.{_yields_, countedOf}
 use Rattle.checksum.specs.Lookup3.{lookup3}
 use Rattle.chunk_grid.specs.declared.GridOrder.{GridOrder}
 use Rattle.chunk_grid.specs.declared.GridOrder.the-variants.{RowMajor, UnlimitedFirst}
@@ -14,9 +14,9 @@ use Rattle.chunk_grid.specs.Grid.{Grid}
 use Rattle.chunk_grid.specs.Shapes.{givenBytes}
 use Rattle.ea_header.specs.Header.{headerAt, headerTest}
 use Rattle.ea_blocks.specs.Call.{Call, callOf}
-use Rattle.ea_blocks.specs.declared.Counted.{Counted}
-use Rattle.ea_blocks.specs.declared.Counted.the-variants.{Count, Refused as CountedRefused}
-use Rattle.ea_blocks.specs.Runs.{Listing, countedOf}
+use Rattle.refusal.specs.declared.Counted.{Counted}
+use Rattle.refusal.specs.declared.Counted.the-variants.{Count, Refused as CountedRefused}
+use Rattle.ea_elements.specs.Runs.{Listing}
 use Rattle.ea_list.specs.Listing.{listInto}
 
 -- Order 0 is R, any other U; ..

@@ -7,9 +7,10 @@ use mathlib.Core.Option.{some}
 use lib.ListN.{length}
 use Rattle.chunk_grid.specs.Grid.{isChunk, slotOf}
 use Rattle.chunk_grid.specs.declared.Slot.the-variants.{At}
-use Rattle.ea_blocks.specs.declared.Entry.{Entry}
-use Rattle.ea_blocks.specs.Call.{Call, Rec}
-use Rattle.ea_blocks.specs.Places.{held}
+use Rattle.ea_elements.specs.declared.Entry.{Entry}
+use Rattle.ea_blocks.specs.Call.{Call}
+use Rattle.ea_elements.specs.Elements.{Rec}
+use Rattle.ea_elements.specs.Places.{held}
 
 -- The chunk at this corner has slot s, below the published count, and the place of that slot holds e.
 pub record Stored (c : Call) (corner : List ℕ) (s : ℕ) (e : Entry) : Type 0 where

@@ -7,9 +7,10 @@ use Rattle.refusal.specs.Outcome.{refused, accepted, _yields_, inRoom}
 use Rattle.fields.specs.LittleEndian.{leAt}
 use Rattle.chunk_grid.specs.Grid.{gridTest}
 use Rattle.chunk_grid.specs.Shapes.{numbersIn}
-use Rattle.ea_blocks.specs.Call.{Call, Rec}
-use Rattle.ea_blocks.specs.Runs.{Listing}
-use Rattle.ea_blocks.specs.Records.{recordLength, listBytes}
+use Rattle.ea_blocks.specs.Call.{Call}
+use Rattle.ea_elements.specs.Elements.{Rec}
+use Rattle.ea_elements.specs.Runs.{Listing}
+use Rattle.ea_records.specs.Records.{recordLength, listBytes}
 use Rattle.ea_walk.specs.Walk.{walk}
 
 -- List: 3 to 8, then 27 and the walk.

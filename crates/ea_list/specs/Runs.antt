@@ -10,10 +10,11 @@ use Rattle.ea_geometry.specs.Place.{place}
 use Rattle.ea_geometry.specs.declared.EaGeometry.{EaGeometry}
 use Rattle.refusal.specs.declared.Checked.the-variants.{Passed}
 use Rattle.refusal.specs.Outcome.{accepted}
-use Rattle.ea_blocks.specs.Call.{Call, Rec}
+use Rattle.ea_blocks.specs.Call.{Call}
+use Rattle.ea_elements.specs.Elements.{Rec}
 use Rattle.ea_blocks.specs.Values.{Sees}
 use Rattle.ea_blocks.specs.Structures.{indexBlock, testOf, isDirect, superAt, blockAt, superUndefined}
-use Rattle.ea_blocks.specs.Places.{blockReached, reached, positionOf, path}
+use Rattle.ea_elements.specs.Places.{blockReached, reached, positionOf, path}
 use Rattle.ea_list.specs.declared.runs.Reach.{Reach}
 use Rattle.ea_list.specs.declared.runs.Reach.the-variants.{NoSuper, NoBlock, Block}
 use Rattle.ea_list.specs.declared.runs.Run.{Run}

@@ -2,18 +2,18 @@
 ghost use mathlib.Core.Path.{_≡_};
 ghost use Prim.Native.Nat.{ℕ, _<_};
 ghost use lib.ListN.{length};
-ghost use Rattle.ea_blocks.specs.declared.Counted.the-variants.{Count};
-ghost use Rattle.ea_blocks.specs.Runs.{countedOf};
+ghost use Rattle.refusal.specs.declared.Counted.the-variants.{Count};
+ghost use Rattle.refusal.specs.Outcome.{countedOf};
 ghost use Rattle.ea_list.specs.Listing.{listContent, recordsIn};
 ghost use Rattle.ea_list.specs.Judged.{Judged};
 ghost use Rattle.ea_list.specs.Door.{orderOf, doorGrid, callAt, listAt, countedNumbers, picked};
 use crate::read_extensible_array_chunks;
 use chunk_grid::ChunkGrid;
 use chunk_grid::GridOrder;
-use ea_blocks::Counted;
 use ea_header::ExtensibleArrayHeader;
 use ea_header::Parsed;
 use refusal::Checked;
+use refusal::Counted;
 use refusal::Refusal;
 
 // Reads the header at an address and the shapes of a dataset, and lists its chunks.

@@ -5,29 +5,28 @@ ghost use lib.ListN.{length, take};
 ghost use Rattle.refusal.specs.Refusals.{figure};
 ghost use Rattle.refusal.specs.Outcome.{inRoom};
 ghost use Rattle.chunk_grid.specs.Values.{gridOf};
-ghost use Rattle.ea_blocks.specs.declared.Counted.the-variants.{Count};
+ghost use Rattle.refusal.specs.declared.Counted.the-variants.{Count};
 ghost use Rattle.ea_blocks.specs.Call.{Call, callOf};
-ghost use Rattle.ea_blocks.specs.Elements.{product};
-ghost use Rattle.ea_blocks.specs.Records.{recordLength};
-ghost use Rattle.ea_blocks.specs.Runs.{countedOf};
+ghost use Rattle.ea_elements.specs.Elements.{product};
+ghost use Rattle.ea_records.specs.Records.{recordLength};
+ghost use Rattle.refusal.specs.Outcome.{countedOf};
 ghost use Rattle.ea_walk.specs.Walk.{walk};
-ghost use Rattle.ea_walk.specs.Values.{Walks};
+ghost use Rattle.ea_count.specs.Values.{Walks};
 ghost use Rattle.ea_list.specs.Listing.{listInto, listContent, recordsIn};
 ghost use Rattle.ea_list.specs.Judged.{Judged};
-use crate::walk::count_walk;
 use crate::write::write_walk;
 use chunk_grid::ChunkGrid;
-use ea_blocks::Counted;
-use ea_blocks::Reading;
+use ea_count::walk::count_walk;
+use ea_elements::Reading;
 use ea_geometry::EaGeometry;
 use ea_header::ExtensibleArrayHeader;
 use fields::convert::saturating_mul;
 use refusal::Checked;
+use refusal::Counted;
 use refusal::Refusal;
 
 pub mod door;
 pub mod runs;
-mod walk;
 mod write;
 
 // Lists the chunks of a dataset: one record for each, in slot order, from the start of the lent list on. `header` is the header of

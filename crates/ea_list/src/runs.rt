@@ -1,7 +1,7 @@
 // Runs of slots: where in the file the elements of a slot and of those that follow it lie.
 ghost use mathlib.Core.Path.{_≡_};
 ghost use mathlib.Core.Bool.{true, false};
-ghost use Prim.Native.Nat.{ℕ, _/_, _<_};
+ghost use Prim.Native.Nat.{_/_, _<_};
 ghost use Rattle.refusal.specs.declared.Checked.the-variants.{Passed};
 ghost use Rattle.fields.specs.Fields.{isWidth};
 ghost use Rattle.ea_geometry.specs.Bounded.{Bounded};

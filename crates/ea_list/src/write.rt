@@ -5,15 +5,16 @@ ghost use Prim.Native.Nat.{_≤_};
 ghost use lib.ListN.{length};
 ghost use lib.Seq.{sets};
 ghost use Rattle.refusal.specs.Outcome.{accepted};
-ghost use Rattle.ea_blocks.specs.Call.{Call, Rec};
-ghost use Rattle.ea_blocks.specs.Records.{listBytes};
+ghost use Rattle.ea_blocks.specs.Call.{Call};
+ghost use Rattle.ea_elements.specs.Elements.{Rec};
+ghost use Rattle.ea_records.specs.Records.{listBytes};
 ghost use Rattle.ea_walk.specs.Walk.{walk};
-ghost use Rattle.ea_walk.specs.Values.{Walks};
+ghost use Rattle.ea_count.specs.Values.{Walks};
 use crate::runs::Run;
 use crate::runs::run_of;
-use ea_blocks::Reading;
-use ea_blocks::count::below_count;
-use ea_blocks::write::write_elements;
+use ea_elements::Reading;
+use ea_elements::count::below_count;
+use ea_records::write_elements;
 
 // Writes the records of an index into the list, from its start on. The index is walked before: nothing is tested again.
 pub fn write_walk(

@@ -22,7 +22,7 @@ use Rattle.ea_header.specs.Served.{Served, servedTest}
 use Rattle.ea_header.proofs.Served.{tested-serves}
 use Rattle.ea_geometry.specs.declared.EaGeometry.{EaGeometry}
 use Rattle.ea_blocks.specs.Call.{Call, callOf}
-use Rattle.ea_blocks.specs.Places.{path}
+use Rattle.ea_elements.specs.Places.{path}
 use Rattle.ea_blocks.specs.Structures.{indexBlock, testOf}
 use Rattle.ea_blocks.specs.Values.{Sees}
 use Rattle.ea_list.specs.Listing.{list}

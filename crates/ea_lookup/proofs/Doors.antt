@@ -18,7 +18,8 @@ use Rattle.chunk_grid.specs.Values.{given}
 use Rattle.chunk_grid.proofs.Grids.{accepted as grid-accepted}
 use Rattle.ea_header.specs.declared.ExtensibleArrayHeader.{ExtensibleArrayHeader}
 use Rattle.ea_header.specs.Header.{headerAt, headerTest}
-use Rattle.ea_blocks.specs.Call.{Rec, callOf}
+use Rattle.ea_elements.specs.Elements.{Rec}
+use Rattle.ea_blocks.specs.Call.{callOf}
 use Rattle.ea_list.specs.Listing.{list}
 use Rattle.ea_list.specs.Judged.{Judged}
 use Rattle.ea_list.specs.Door.{doorGrid, callAt, listAt}

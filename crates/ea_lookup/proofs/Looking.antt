@@ -19,11 +19,12 @@ use Rattle.chunk_grid.specs.declared.Slot.{Slot}
 use Rattle.chunk_grid.specs.declared.Slot.the-variants.{At, NoSlot}
 use Rattle.chunk_grid.proofs.Grids.{Accepted, accepted as grid-accepted}
 use Rattle.chunk_grid.proofs.Chunks.{slot-chunk-at}
-use Rattle.ea_blocks.specs.declared.Entry.{Entry}
-use Rattle.ea_blocks.specs.Call.{Call, Rec}
-use Rattle.ea_blocks.specs.Places.{recordOf, recordAt, path}
-use Rattle.ea_blocks.proofs.Elements.{some-is}
-use Rattle.ea_blocks.proofs.Paths.{path-record}
+use Rattle.ea_elements.specs.declared.Entry.{Entry}
+use Rattle.ea_blocks.specs.Call.{Call}
+use Rattle.ea_elements.specs.Elements.{Rec}
+use Rattle.ea_elements.specs.Places.{recordOf, recordAt, path}
+use Rattle.ea_elements.proofs.Elements.{some-is}
+use Rattle.ea_elements.proofs.Paths.{path-record}
 use Rattle.ea_walk.specs.Walk.{walk}
 use Rattle.ea_list.specs.Listing.{list}
 use Rattle.ea_list.specs.Judged.{Stored, Judged}

@@ -14,11 +14,12 @@ use Rattle.chunk_grid.specs.Grid.{Grid, offsets, cornerTest, slotOf}
 use Rattle.ea_geometry.specs.declared.Place.{Place}
 use Rattle.ea_geometry.specs.declared.Place.the-variants.{Inline, Block, Page, Nowhere}
 use Rattle.ea_geometry.specs.Place.{place}
-use Rattle.ea_blocks.specs.declared.Element.{Element}
-use Rattle.ea_blocks.specs.declared.Element.the-variants.{Absent, Chunk, Refused as ElementRefused}
-use Rattle.ea_blocks.specs.Call.{Call, Rec}
+use Rattle.ea_elements.specs.declared.Element.{Element}
+use Rattle.ea_elements.specs.declared.Element.the-variants.{Absent, Chunk, Refused as ElementRefused}
+use Rattle.ea_blocks.specs.Call.{Call}
+use Rattle.ea_elements.specs.Elements.{Rec}
 use Rattle.ea_blocks.specs.Structures.{Structure, indexBlock}
-use Rattle.ea_blocks.specs.Places.{reached, pointerTest, answerOf, tested, pathAt, path}
+use Rattle.ea_elements.specs.Places.{reached, pointerTest, answerOf, tested, pathAt, path}
 use Rattle.ea_list.specs.Door.{refusedNumbers, picked}
 use Rattle.ea_list.proofs.Numbered.{NumberedElement, width-numbered, header-numbered, grid-numbered, served-numbered, test-numbered, element-numbered}
 use Rattle.ea_lookup.specs.Lookup.{slotPath, lookup}

@@ -23,24 +23,24 @@ use Rattle.ea_geometry.proofs.Places.{place-is, place-inline, page-below}
 use Rattle.ea_geometry.proofs.Positions.{element-inside, paged-element-inside, inline-element-inside, direct-pointers-inside, super-pointers-inside}
 use Rattle.ea_header.specs.declared.ExtensibleArrayHeader.{ExtensibleArrayHeader}
 use Rattle.ea_header.specs.Served.{Served}
-use Rattle.ea_walk.specs.Values.{Walks}
-use Rattle.ea_blocks.specs.declared.Entry.{Entry}
-use Rattle.ea_blocks.specs.declared.Element.{Element}
-use Rattle.ea_blocks.specs.declared.Reading.{Reading}
-use Rattle.ea_blocks.specs.declared.Element.the-variants.{Absent, Chunk, Refused as ElementRefused}
+use Rattle.ea_count.specs.Values.{Walks}
+use Rattle.ea_elements.specs.declared.Entry.{Entry}
+use Rattle.ea_elements.specs.declared.Element.{Element}
+use Rattle.ea_elements.specs.declared.Reading.{Reading}
+use Rattle.ea_elements.specs.declared.Element.the-variants.{Absent, Chunk, Refused as ElementRefused}
 use Rattle.ea_blocks.specs.declared.enter.Entered.the-variants.{Absent as EnteredAbsent, At, Refused as EnteredRefused}
-use Rattle.ea_blocks.specs.Call.{Call, Rec}
+use Rattle.ea_blocks.specs.Call.{Call}
+use Rattle.ea_elements.specs.Elements.{Rec, elementSizeTest, element}
 use Rattle.ea_blocks.specs.Structures.{Structure, dataBlock, dataPage, indexAt, isDirect, superAt, blockAt, dataPageAt, blockUndefined, pageSet}
-use Rattle.ea_blocks.specs.Elements.{elementSizeTest, element}
 use Rattle.ea_blocks.specs.Entered.{EnteredSuper, EnteredBlock, EnteredPage}
-use Rattle.ea_blocks.specs.Places.{blockReached, reached, positionOf, leading, structures, pointerTest, answerOf, tested, pathAt, path}
-use Rattle.ea_blocks.proofs.Paths.{Ready, in-index, no-place, in-block, in-clear, in-page}
-use Rattle.ea_blocks.proofs.Passed.{gone}
-use Rattle.ea_blocks.proofs.Sized.{element-refused}
+use Rattle.ea_elements.specs.Places.{blockReached, reached, positionOf, leading, structures, pointerTest, answerOf, tested, pathAt, path}
+use Rattle.ea_elements.proofs.Paths.{Ready, in-index, no-place, in-block, in-clear, in-page}
+use Rattle.ea_elements.proofs.Passed.{gone}
+use Rattle.ea_elements.proofs.Sized.{element-refused}
 use Rattle.ea_blocks.proofs.StructureTests.{not-direct}
 use Rattle.ea_blocks.proofs.Entering.{entered-super-room, entered-block-room, entered-head-room, entered-page-room}
 use Rattle.ea_blocks.specs.Values.{Sees}
-use Rattle.ea_walk.proofs.WalkStates.{sees, entered-at, paged-behind}
+use Rattle.ea_count.proofs.WalkStates.{sees, entered-at, paged-behind}
 use Rattle.fields.proofs.Widths.{width-le}
 use Rattle.fields.proofs.Fields.{width-is}
 use Rattle.ea_lookup.specs.declared.Found.the-variants.{Chunk as FoundChunk, Absent as FoundAbsent, Refused as FoundRefused}

@@ -6,7 +6,7 @@ use Rattle.refusal.specs.Outcome.{Outcome, _yields_}
 use Rattle.checksum.specs.Lookup3.{lookup3}
 use Rattle.chunk_grid.specs.Grid.{Grid}
 use Rattle.ea_header.specs.Header.{headerTest}
-use Rattle.ea_blocks.specs.Call.{Rec}
+use Rattle.ea_elements.specs.Elements.{Rec}
 use Rattle.ea_list.specs.Door.{callAt, Numbers, noRefusal, refusedNumbers}
 use Rattle.ea_lookup.specs.declared.Found.{Found}
 use Rattle.ea_lookup.specs.declared.Found.the-variants.{Chunk, Absent, Refused}

@@ -9,11 +9,12 @@ use Rattle.refusal.specs.Outcome.{Outcome, refused, accepted, _yields_}
 use Rattle.fields.specs.Fields.{widthTest}
 use Rattle.chunk_grid.specs.Grid.{Grid, isChunk}
 use Rattle.ea_blocks.specs.declared.enter.Entered.the-variants.{At}
-use Rattle.ea_blocks.specs.Call.{Call, Rec}
-use Rattle.ea_blocks.specs.Runs.{Listing}
+use Rattle.ea_blocks.specs.Call.{Call}
+use Rattle.ea_elements.specs.Elements.{Rec}
+use Rattle.ea_elements.specs.Runs.{Listing}
 use Rattle.ea_blocks.specs.Structures.{Structure}
 use Rattle.ea_blocks.specs.Entered.{EnteredSuper, EnteredBlock}
-use Rattle.ea_blocks.specs.Places.{blockReached, leading, tested}
+use Rattle.ea_elements.specs.Places.{blockReached, leading, tested}
 use Rattle.ea_lookup.specs.Lookup.{Answers, Agrees}
 use Rattle.ea_lookup.specs.declared.Found.{Found}
 use Rattle.ea_lookup.specs.declared.Found.the-variants.{Chunk, Absent, Refused}

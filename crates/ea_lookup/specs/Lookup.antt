@@ -11,10 +11,11 @@ use Rattle.chunk_grid.specs.Grid.{gridTest, cornerTest, slotOf}
 use Rattle.chunk_grid.specs.declared.Slot.{Slot}
 use Rattle.chunk_grid.specs.declared.Slot.the-variants.{At, NoSlot}
 use Rattle.ea_header.specs.Served.{servedTest}
-use Rattle.ea_blocks.specs.declared.Entry.{Entry}
-use Rattle.ea_blocks.specs.Call.{Call, Rec}
+use Rattle.ea_elements.specs.declared.Entry.{Entry}
+use Rattle.ea_blocks.specs.Call.{Call}
+use Rattle.ea_elements.specs.Elements.{Rec}
 use Rattle.ea_blocks.specs.Structures.{indexBlock, testOf}
-use Rattle.ea_blocks.specs.Places.{path}
+use Rattle.ea_elements.specs.Places.{path}
 use Rattle.ea_list.specs.Judged.{Stored}
 
 -- for a slot below the count its path

@@ -1,6 +1,6 @@
 // One chunk by its corner.
 ghost use mathlib.Core.Path.{_≡_};
-ghost use Prim.Native.Nat.{ℕ, _+_, _≤_};
+ghost use Prim.Native.Nat.{_+_, _≤_};
 ghost use lib.ListN.{length};
 ghost use Rattle.refusal.specs.Refusals.{_then_};
 ghost use Rattle.chunk_grid.specs.Grid.{gridTest, cornerTest};
@@ -11,16 +11,17 @@ ghost use Rattle.ea_blocks.specs.Call.{Call, callOf};
 ghost use Rattle.ea_blocks.specs.Structures.{indexBlock, testOf};
 ghost use Rattle.ea_blocks.specs.Values.{Sees};
 ghost use Rattle.ea_list.specs.Listing.{list};
-ghost use Rattle.ea_walk.specs.Values.{Walks};
+ghost use Rattle.ea_count.specs.Values.{Walks};
 ghost use Rattle.ea_lookup.specs.Lookup.{slotPath, lookup};
 ghost use Rattle.ea_lookup.specs.Found.{foundOf, Answered, Agreed};
 use crate::paths::path_of;
 use chunk_grid::ChunkGrid;
 use chunk_grid::Slot;
-use chunk_grid::slot_of;
-use ea_blocks::Entry;
-use ea_blocks::Reading;
+use chunk_slots::corner_test;
+use chunk_slots::slot_of;
 use ea_blocks::structures::test_index_block;
+use ea_elements::Entry;
+use ea_elements::Reading;
 use ea_geometry::EaGeometry;
 use ea_header::ExtensibleArrayHeader;
 use ea_list::chunk_bytes;
@@ -92,7 +93,7 @@ fn lookup_test(
     let Checked::Passed = built else {
         return built;
     };
-    let cornered = grid.corner_test(corner);
+    let cornered = corner_test(grid, corner);
     let Checked::Passed = cornered else {
         return cornered;
     };

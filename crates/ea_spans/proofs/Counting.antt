@@ -20,12 +20,12 @@ use Rattle.ea_geometry.specs.Bounded.{Bounded}
 use Rattle.ea_geometry.specs.Sizes.{superBlocks, blocks, directSuperBlocks, blocksBefore}
 use Rattle.ea_geometry.specs.Extents.{indexExtent, superExtent}
 use Rattle.ea_geometry.proofs.Counts.{supers-few, blocks-before-few}
-use Rattle.ea_blocks.specs.declared.Counted.{Counted}
+use Rattle.refusal.specs.declared.Counted.{Counted}
 use Rattle.ea_blocks.specs.declared.enter.Entered.the-variants.{Absent, At, Refused as EnteredRefused}
 use Rattle.ea_blocks.specs.Call.{Call}
 use Rattle.ea_blocks.specs.Structures.{isDirect, superAt, blockUndefined}
-use Rattle.ea_blocks.specs.Runs.{countedOf, plus}
-use Rattle.ea_blocks.proofs.Runs.{answered, plus-zero, plus-none, plus-also}
+use Rattle.refusal.specs.Outcome.{countedOf, plus}
+use Rattle.refusal.proofs.Counts.{answered, plus-zero, plus-none, plus-also}
 use Rattle.ea_blocks.proofs.StructureTests.{super-seen, not-direct}
 use Rattle.ea_spans.specs.Spans.{superSpan, blockSpan}
 use Rattle.ea_spans.specs.Walk.{superTest, blocksFrom, supersFrom}

@@ -29,7 +29,7 @@ use Rattle.ea_blocks.specs.declared.Kind.{Kind}
 use Rattle.ea_blocks.specs.declared.Kind.the-variants.{IndexBlock, SuperBlock, DataBlock, Page as PageKind}
 use Rattle.ea_blocks.specs.Call.{Call, callOf}
 use Rattle.ea_blocks.specs.Structures.{Structure, indexBlock, superBlock, dataBlock, dataPage, structureTest, testOf, indexAt, isDirect, superAt, superNamedAt, blockAt, blockNamedAt, dataPageAt, superUndefined, blockUndefined, bitSet}
-use Rattle.ea_blocks.specs.Places.{blockReached, leading, structures}
+use Rattle.ea_elements.specs.Places.{blockReached, leading, structures}
 use Rattle.ea_spans.specs.declared.Span.{Span}
 use Rattle.ea_spans.specs.Spans.{headerSpan, indexSpan, superSpan, blockLength, blockSpan}
 use Rattle.ea_spans.specs.Walk.{Spanning, indexTest, superTest, blocksFrom, supersFrom, indexSpans, indexOf, spans}

@@ -8,18 +8,17 @@ use native.Mathlib.Numerals.{add-one}
 use lib.ListN.{length}
 use Rattle.refusal.specs.declared.Refusal.{Refusal}
 use Rattle.refusal.specs.declared.Checked.the-variants.{Passed, Refused}
-use Rattle.refusal.specs.Outcome.{refused, accepted, _yields_, also}
+use Rattle.refusal.specs.Outcome.{refused, accepted, _yields_, also, countedOf}
 use Rattle.refusal.proofs.Tests.{by-cond}
 use Rattle.refusal.proofs.Outcomes.{yields-inv, also-inv}
 use Rattle.fields.specs.Fields.{undefined}
 use Rattle.ea_header.specs.Served.{Served}
 use Rattle.ea_geometry.specs.Sizes.{superBlocks, blocks, blocksBefore}
 use Rattle.ea_geometry.proofs.Counts.{supers-few, blocks-before-few}
-use Rattle.ea_blocks.specs.declared.Counted.the-variants.{Count, Refused as CountedRefused}
+use Rattle.refusal.specs.declared.Counted.the-variants.{Count, Refused as CountedRefused}
 use Rattle.ea_blocks.specs.Call.{Call}
 use Rattle.ea_blocks.specs.Structures.{indexAt, isDirect, superUndefined, blockUndefined}
-use Rattle.ea_blocks.specs.Runs.{countedOf}
-use Rattle.ea_blocks.proofs.Runs.{counted-inv, refused-inv}
+use Rattle.refusal.proofs.Counts.{counted-inv, refused-inv}
 use Rattle.ea_spans.specs.declared.Span.{Span}
 use Rattle.ea_spans.specs.Spans.{indexSpan}
 use Rattle.ea_spans.specs.Walk.{Spanning, indexTest, blocksFrom, supersFrom, indexSpans}

@@ -8,7 +8,7 @@ use lib.ListN.{length}
 use Rattle.refusal.specs.declared.Refusal.{Refusal}
 use Rattle.refusal.specs.declared.Checked.the-variants.{Passed, Refused}
 use Rattle.refusal.specs.Refusals.{figure}
-use Rattle.refusal.specs.Outcome.{refused, _yields_, also}
+use Rattle.refusal.specs.Outcome.{refused, _yields_, also, countedOf}
 use Rattle.refusal.proofs.Tests.{then-passed}
 use Rattle.fields.specs.Fields.{isWidth}
 use Rattle.checksum.specs.Lookup3.{lookup3}
@@ -18,9 +18,8 @@ use Rattle.ea_header.specs.Served.{Served}
 use Rattle.ea_header.proofs.Header.{passed-is}
 use Rattle.ea_header.proofs.Served.{tested-serves}
 use Rattle.ea_geometry.specs.declared.EaGeometry.{EaGeometry}
-use Rattle.ea_blocks.specs.declared.Counted.{Counted}
-use Rattle.ea_blocks.specs.declared.Counted.the-variants.{Refused as CountedRefused}
-use Rattle.ea_blocks.specs.Runs.{countedOf}
+use Rattle.refusal.specs.declared.Counted.{Counted}
+use Rattle.refusal.specs.declared.Counted.the-variants.{Refused as CountedRefused}
 use Rattle.ea_spans.specs.Spans.{headerSpan}
 use Rattle.ea_spans.specs.Walk.{Spanning, indexSpans, headTest, spans}
 use Rattle.ea_spans.specs.Values.{callAt}

@@ -13,8 +13,8 @@ use Rattle.refusal.proofs.Outcomes.{yields-inv, also-inv}
 use Rattle.ea_geometry.specs.Sizes.{blocks}
 use Rattle.ea_blocks.specs.Call.{Call}
 use Rattle.ea_blocks.specs.Structures.{isDirect, superUndefined, blockUndefined}
-use Rattle.ea_blocks.specs.Places.{blockReached}
-use Rattle.ea_blocks.proofs.Passed.{gone}
+use Rattle.ea_elements.specs.Places.{blockReached}
+use Rattle.ea_elements.proofs.Passed.{gone}
 use Rattle.ea_spans.specs.declared.Span.{Span}
 use Rattle.ea_spans.specs.Spans.{superSpan, blockSpan}
 use Rattle.ea_spans.specs.Walk.{Spanning, blocksFrom, supersFrom}

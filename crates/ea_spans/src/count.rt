@@ -7,12 +7,11 @@ ghost use Rattle.fields.specs.Fields.{isWidth, undefined};
 ghost use Rattle.ea_geometry.specs.Bounded.{Bounded};
 ghost use Rattle.ea_geometry.specs.Sizes.{superBlocks};
 ghost use Rattle.ea_geometry.specs.Extents.{indexExtent};
-ghost use Rattle.ea_blocks.specs.Runs.{countedOf};
+ghost use Rattle.refusal.specs.Outcome.{countedOf};
 ghost use Rattle.ea_spans.specs.Walk.{supersFrom, indexSpans};
 ghost use Rattle.ea_spans.specs.Values.{callAt};
 use crate::enter::enter_super;
 use crate::enter::test_index;
-use ea_blocks::Counted;
 use ea_blocks::enter::Entered;
 use ea_blocks::structures::Pointer;
 use ea_blocks::structures::block_pointer;
@@ -20,6 +19,7 @@ use ea_geometry::EaGeometry;
 use fields::address::Address;
 use fields::address::is_undefined_addr;
 use refusal::Checked;
+use refusal::Counted;
 
 // Tests the index block and what it leads to, and counts the spans behind the header's.
 pub fn count_index(file: &[u8], geometry: EaGeometry) -> Counted

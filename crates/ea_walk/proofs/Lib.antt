@@ -1,5 +1,2 @@
 pub mod Walks
 pub mod Turns
-pub mod WalkStates
-pub mod Heads
-pub mod Starts

@@ -1,7 +1,7 @@
 -- One turn of each loop of the walk: a law for each way it can go, in the loop's own terms. Assumes nothing.
 use Prim.Native.Nat.{ℕ, suc, _+_, _-_, _*_, _<_, _≤_}
-use mathlib.Core.Path.{_≡_, refl, ap}
-use mathlib.Core.Bool.{true, false, not, cond, _&&_}
+use mathlib.Core.Path.{_≡_, refl}
+use mathlib.Core.Bool.{true, false, not, _&&_}
 use mathlib.Core.List.{[]}
 use native.Mathlib.Omega.{arith}
 use native.Mathlib.Nat.{sub-zero}
@@ -15,7 +15,7 @@ use Rattle.ea_geometry.specs.Extents.{blockElementAt}
 use Rattle.ea_geometry.specs.Place.{inPages}
 use Rattle.ea_blocks.specs.Call.{Call}
 use Rattle.ea_blocks.specs.Structures.{superBlock, dataBlock, dataPage, testOf, isDirect, blockAt, dataPageAt, superUndefined, blockUndefined, pageSet}
-use Rattle.ea_blocks.specs.Runs.{Listing, elements}
+use Rattle.ea_elements.specs.Runs.{Listing, elements}
 use Rattle.ea_walk.specs.Walk.{pagesFrom, block, blocksFrom, supers}
 
 -- what is left of n, before and after a turn

@@ -26,14 +26,14 @@ use Rattle.ea_geometry.specs.Slots.{firstSlot, capacity, slotIn}
 use Rattle.ea_geometry.specs.declared.Place.the-variants.{Inline}
 use Rattle.ea_geometry.proofs.Counts.{elements-pos, pages-exact}
 use Rattle.ea_geometry.proofs.Places.{place-is, place-inline, place-past, next-slot, first-slot-zero}
-use Rattle.ea_blocks.specs.declared.Element.{Element}
-use Rattle.ea_blocks.specs.declared.Element.the-variants.{Absent, Chunk, Refused as ElementRefused}
-use Rattle.ea_blocks.specs.Call.{Call, Rec}
+use Rattle.ea_elements.specs.declared.Element.{Element}
+use Rattle.ea_elements.specs.declared.Element.the-variants.{Absent, Chunk, Refused as ElementRefused}
+use Rattle.ea_blocks.specs.Call.{Call}
+use Rattle.ea_elements.specs.Elements.{Rec, element}
 use Rattle.ea_blocks.specs.Structures.{dataBlock, dataPage, testOf, indexAt, isDirect, blockAt, dataPageAt, superUndefined, blockUndefined, pageSet}
-use Rattle.ea_blocks.specs.Elements.{element}
-use Rattle.ea_blocks.specs.Places.{positionOf, answerOf, recordAt, with, records, path}
-use Rattle.ea_blocks.proofs.Paths.{Leads, Misses, Ready, missed, led, no-super, no-block, in-block, in-clear, in-page, in-index, no-place}
-use Rattle.ea_blocks.specs.Runs.{Listing, alsoElement, elements}
+use Rattle.ea_elements.specs.Places.{positionOf, answerOf, recordAt, with, records, path}
+use Rattle.ea_elements.proofs.Paths.{Leads, Misses, Ready, missed, led, no-super, no-block, in-block, in-clear, in-page, in-index, no-place}
+use Rattle.ea_elements.specs.Runs.{Listing, alsoElement, elements}
 use Rattle.ea_walk.specs.Walk.{pagesFrom, block, blocksFrom, supers, behindInline, walk}
 
 nil-is : (l : List Rec) → accepted [] ≡ accepted l → l ≡ []

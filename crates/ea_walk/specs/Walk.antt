@@ -12,7 +12,7 @@ use Rattle.ea_geometry.specs.Extents.{inlineElementAt, blockElementAt}
 use Rattle.ea_geometry.specs.Place.{inPages}
 use Rattle.ea_blocks.specs.Call.{Call}
 use Rattle.ea_blocks.specs.Structures.{indexBlock, superBlock, dataBlock, dataPage, testOf, indexAt, isDirect, blockAt, dataPageAt, superUndefined, blockUndefined, pageSet}
-use Rattle.ea_blocks.specs.Runs.{Listing, elements}
+use Rattle.ea_elements.specs.Runs.{Listing, elements}
 
 -- The pages of data block k of super block u, j of them from p on. A clear page is stepped over by its full stride.
 -- A set page that runs past the count is tested, then ends its data block.

@@ -14,9 +14,9 @@ use Rattle.refusal.specs.Outcome.{refused, accepted}
 use Rattle.refusal.proofs.Tests.{false-true, neither}
 use Rattle.refusal.proofs.Outcomes.{never, yields-inv}
 use Rattle.chunk_grid.specs.Grid.{any}
-use Rattle.ea_blocks.specs.Call.{Rec}
-use Rattle.ea_blocks.proofs.Elements.{some-is}
-use Rattle.ea_blocks.specs.Runs.{Listing}
+use Rattle.ea_elements.specs.Elements.{Rec}
+use Rattle.ea_elements.proofs.Elements.{some-is}
+use Rattle.ea_elements.specs.Runs.{Listing}
 use Rattle.ea_list.specs.Listing.{list, listInto, listContent}
 use Rattle.ea_list.specs.Judged.{Judged}
 use Rattle.ea_list.proofs.Judging.{none-some, list-judged}

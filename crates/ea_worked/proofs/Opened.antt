@@ -14,12 +14,12 @@ use Rattle.ea_geometry.specs.Extents.{elementStride, elementAt, pointerAt, inde
 use Rattle.ea_geometry.specs.PageBits.{bitNumber, bitByte, bitMask, pageBit}
 use Rattle.ea_geometry.specs.Place.{superOf, inPages, placeIn, inSuperBlock, place}
 use Rattle.ea_blocks.specs.Structures.{signatureTest, structureTest, indexAt, isDirect, superNamedAt, superAt, blockNamedAt, blockAt, dataPageAt, superUndefined, blockUndefined, bitSet, pageSet, testOf}
-use Rattle.ea_blocks.specs.Elements.{filtered, product, chunkBytes, sizeBytes, sizeAt, maskAt, entryAt, elementSizeTest, entryTest, _gives_, insideOnly, element}
-use Rattle.ea_blocks.specs.Places.{blockReached, reached, positionOf, leading as leadingStructures, structures, pointerTest, answerOf, tested, pathAt, path}
+use Rattle.ea_elements.specs.Elements.{filtered, product, chunkBytes, sizeBytes, sizeAt, maskAt, entryAt, elementSizeTest, entryTest, _gives_, insideOnly, element}
+use Rattle.ea_elements.specs.Places.{blockReached, reached, positionOf, leading as leadingStructures, structures, pointerTest, answerOf, tested, pathAt, path}
 use Rattle.ea_walk.specs.Walk.{pagesFrom, block, blocksFrom, supers, behindInline, walk}
-use Rattle.ea_blocks.specs.Runs.{alsoElement, elements}
+use Rattle.ea_elements.specs.Runs.{alsoElement, elements}
 use Rattle.ea_list.specs.Listing.{list, listInto, listContent}
-use Rattle.ea_blocks.specs.Records.{recordLength, offsetBytes, recordBytes, listBytes}
+use Rattle.ea_records.specs.Records.{recordLength, offsetBytes, recordBytes, listBytes}
 use Rattle.ea_lookup.specs.Lookup.{slotPath, lookup}
 use Rattle.ea_worked.specs.Files.{undefinedBytes, callOn, callAt, listAt, lookupAt}
 

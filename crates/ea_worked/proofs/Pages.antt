@@ -7,7 +7,7 @@ use mathlib.Core.Option.{none, some}
 use lib.ListN.{length, take, set, replicate}
 use Rattle.refusal.specs.Outcome.{refused, accepted}
 use Rattle.ea_header.specs.Header.{headerAt}
-use Rattle.ea_blocks.specs.Places.{path}
+use Rattle.ea_elements.specs.Places.{path}
 use Rattle.ea_walk.specs.Walk.{behindInline}
 use Rattle.ea_list.specs.Listing.{list, listInto}
 use Rattle.ea_lookup.specs.Lookup.{lookup}

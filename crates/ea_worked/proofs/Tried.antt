@@ -14,9 +14,9 @@ use Rattle.fields.specs.Fields.{undefinedAt, inFile}
 use Rattle.chunk_grid.specs.Grid.{Grid, offsets, gridTest}
 use Rattle.ea_header.specs.Header.{sizesTest}
 use Rattle.ea_geometry.proofs.Tried.{Row, digits, truth, rows}
-use Rattle.ea_blocks.specs.declared.Element.{Element}
-use Rattle.ea_blocks.specs.declared.Element.the-variants.{Absent, Chunk, Refused as ElementRefused}
-use Rattle.ea_blocks.specs.Elements.{element}
+use Rattle.ea_elements.specs.declared.Element.{Element}
+use Rattle.ea_elements.specs.declared.Element.the-variants.{Absent, Chunk, Refused as ElementRefused}
+use Rattle.ea_elements.specs.Elements.{element}
 use Rattle.ea_worked.specs.Files.{undefinedBytes, callOn}
 use Rattle.ea_worked.specs.Worked.{grid}
 use Rattle.ea_worked.proofs.Opened.{opened}

@@ -7,8 +7,9 @@ use Rattle.refusal.specs.Outcome.{Outcome, _yields_}
 use Rattle.chunk_grid.specs.Grid.{Grid, total}
 use Rattle.ea_header.specs.declared.ExtensibleArrayHeader.{ExtensibleArrayHeader}
 use Rattle.ea_header.specs.Header.{headerAt, headerTest}
-use Rattle.ea_blocks.specs.Call.{Call, Rec}
-use Rattle.ea_blocks.specs.Runs.{Listing}
+use Rattle.ea_blocks.specs.Call.{Call}
+use Rattle.ea_elements.specs.Elements.{Rec}
+use Rattle.ea_elements.specs.Runs.{Listing}
 use Rattle.ea_list.specs.Listing.{list}
 use Rattle.ea_lookup.specs.Lookup.{lookup}
 

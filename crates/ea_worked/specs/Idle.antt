@@ -7,10 +7,11 @@ use Rattle.refusal.specs.declared.Refusal.{Refusal}
 use Rattle.refusal.specs.Outcome.{Outcome, refused, accepted}
 use Rattle.ea_geometry.specs.Sizes.{directSuperBlocks}
 use Rattle.ea_geometry.specs.Extents.{inlineElementAt}
-use Rattle.ea_blocks.specs.Call.{Call, Rec}
+use Rattle.ea_blocks.specs.Call.{Call}
+use Rattle.ea_elements.specs.Elements.{Rec}
 use Rattle.ea_blocks.specs.Structures.{indexAt}
 use Rattle.ea_walk.specs.Walk.{supers}
-use Rattle.ea_blocks.specs.Runs.{Listing, elements}
+use Rattle.ea_elements.specs.Runs.{Listing, elements}
 use Rattle.ea_list.specs.Listing.{list}
 use Rattle.ea_list.specs.Judged.{Judged}
 use Rattle.ea_worked.specs.Pages.{recordOf}

@@ -9,7 +9,8 @@ use Rattle.refusal.specs.declared.Refusal.{Refusal}
 use Rattle.refusal.specs.Refusals.{largest64}
 use Rattle.fields.specs.LittleEndian.{leBytes}
 use Rattle.chunk_grid.specs.Grid.{Grid}
-use Rattle.ea_blocks.specs.Call.{Call, Rec}
+use Rattle.ea_blocks.specs.Call.{Call}
+use Rattle.ea_elements.specs.Elements.{Rec}
 use Rattle.ea_worked.specs.Files.{undefinedBytes, callAt}
 
 -- the element of slot s: address 200 + s, size 300 + s, mask 70,000 + s

@@ -8,7 +8,8 @@ use lib.ListN.{replicate}
 use Rattle.refusal.specs.Refusals.{largest64}
 use Rattle.fields.specs.LittleEndian.{leBytes}
 use Rattle.chunk_grid.specs.Grid.{Grid}
-use Rattle.ea_blocks.specs.Call.{Call, Rec}
+use Rattle.ea_blocks.specs.Call.{Call}
+use Rattle.ea_elements.specs.Elements.{Rec}
 use Rattle.ea_worked.specs.Files.{undefinedBytes, callAt}
 
 -- 72 bytes at 0, the index block at 72

@@ -7,8 +7,8 @@ use lib.ListN.{length}
 use lib.Seq.{sets, length-sets}
 use Rattle.io.specs.Counts.{Counts}
 use Rattle.io.proofs.Counting.{counts}
-use Rattle.ea_blocks.specs.declared.Counted.{Counted}
-use Rattle.ea_blocks.specs.Runs.{countedOf}
+use Rattle.refusal.specs.declared.Counted.{Counted}
+use Rattle.refusal.specs.Outcome.{countedOf}
 use Rattle.ea_list.specs.Listing.{listContent}
 use Rattle.eals.specs.Line.{fileOf, readingOf, storedOf}
 use Rattle.eals.specs.Printed.{unreadableText}

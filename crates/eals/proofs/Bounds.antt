@@ -12,19 +12,18 @@ use Rattle.refusal.specs.declared.Refusal.{Refusal}
 use Rattle.refusal.specs.declared.Checked.{Checked}
 use Rattle.refusal.specs.declared.Checked.the-variants.{Passed, Refused as CheckedRefused}
 use Rattle.refusal.specs.Refusals.{refuse}
-use Rattle.refusal.specs.Outcome.{refused, accepted, _yields_, inRoom}
+use Rattle.refusal.specs.Outcome.{refused, accepted, _yields_, inRoom, countedOf}
 use Rattle.refusal.proofs.Tests.{by-cond, both}
 use Rattle.chunk_grid.specs.Shapes.{givenBytes}
 use Rattle.chunk_grid.specs.Values.{given}
 use Rattle.chunk_grid.proofs.Shapes.{length-numbers}
-use Rattle.ea_blocks.specs.declared.Counted.{Counted}
-use Rattle.ea_blocks.specs.Records.{recordLength}
-use Rattle.ea_blocks.specs.Runs.{Listing, countedOf}
-use Rattle.ea_list.specs.Listing.{listInto}
+use Rattle.refusal.specs.declared.Counted.{Counted}
+use Rattle.ea_records.specs.Records.{recordLength}
+use Rattle.ea_elements.specs.Runs.{Listing}
+use Rattle.ea_list.specs.Listing.{listInto, recordIn, recordsIn}
 use Rattle.ea_list.specs.Door.{doorGrid, callAt, listAt}
 use Rattle.eals.specs.Text.{words, onFirst, decimal}
 use Rattle.eals.specs.Line.{lineOf, fits, lengthsRead, headOf, withLengths, lineReading, readingOf}
-use Rattle.ea_list.specs.Listing.{recordIn, recordsIn}
 use Rattle.eals.specs.Printed.{spaced, recordLine, recordLines, recordsWord, listText, refusedWord, refusalText}
 use Rattle.eals.specs.Program.{listingOf, countOf}
 use Rattle.eals.specs.declared.line.Question.{Question}

@@ -11,8 +11,8 @@ use lib.Dec.{eqb, leb}
 use borrow.Author.Tests.{le-leb, lt-leb, eq-eqb, ne-eqb, eqb-true, eqb-false}
 use Rattle.refusal.proofs.Tests.{lt-or-ge}
 use Rattle.fields.specs.LittleEndian.{leBytes}
-use Rattle.ea_blocks.specs.Records.{offsetBytes}
-use Rattle.ea_blocks.proofs.Records.{sets-bytes}
+use Rattle.ea_records.specs.Records.{offsetBytes}
+use Rattle.ea_records.proofs.Records.{sets-bytes}
 use Rattle.eals.specs.Words.{wordsFrom, wordAt}
 use Rattle.eals.specs.Line.{lengthNumber, lengthThen, lengthsFrom, lengthsRead}
 use Rattle.eals.specs.declared.text.Number.the-variants.{Value, NoNumber}

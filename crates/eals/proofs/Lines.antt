@@ -8,7 +8,7 @@ use lib.Seq.{drop-drop}
 use Rattle.refusal.specs.declared.Refusal.{Refusal}
 use Rattle.fields.specs.LittleEndian.{leAt}
 use Rattle.chunk_grid.specs.Shapes.{numbersIn}
-use Rattle.ea_blocks.specs.Records.{recordLength}
+use Rattle.ea_records.specs.Records.{recordLength}
 use Rattle.eals.specs.Text.{decimal}
 use Rattle.ea_list.specs.Listing.{recordIn, recordsIn}
 use Rattle.eals.specs.Printed.{spaced, recordLine, recordLines, recordsWord, listText, refusedWord, refusalText}

@@ -5,7 +5,7 @@ use Prim.Native.Nat.{ℕ, suc, _+_, _≤_, _<_}
 use native.Mathlib.Omega.{arith}
 use lib.ListN.{length, getD, drop, set, drop-of-length-le, length-append}
 use lib.Seq.{sets, drop-cons, length-sets}
-use Rattle.ea_blocks.proofs.Records.{sets-append}
+use Rattle.ea_records.proofs.Records.{sets-append}
 
 -- one byte of a text, and the end of it
 module _ (out text : List ℕ) (at i : ℕ) where

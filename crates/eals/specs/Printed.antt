@@ -3,7 +3,7 @@ use Prim.Native.Nat.{ℕ}
 use mathlib.Core.List.{List, [], _∷_, _++_}
 use lib.ListN.{length}
 use Rattle.refusal.specs.declared.Refusal.{Refusal}
-use Rattle.ea_blocks.specs.Call.{Rec}
+use Rattle.ea_elements.specs.Elements.{Rec}
 use Rattle.eals.specs.Text.{decimal}
 
 -- numbers in decimal digits, each behind a space (32)

@@ -2,9 +2,10 @@
 use Prim.Native.Nat.{ℕ, _*_}
 use mathlib.Core.List.{List}
 use lib.ListN.{length, take, drop}
-use Rattle.ea_blocks.specs.declared.Counted.{Counted}
-use Rattle.ea_blocks.specs.declared.Counted.the-variants.{Count, Refused}
-use Rattle.ea_blocks.specs.Runs.{Listing, countedOf}
+use Rattle.refusal.specs.declared.Counted.{Counted}
+use Rattle.refusal.specs.declared.Counted.the-variants.{Count, Refused}
+use Rattle.ea_elements.specs.Runs.{Listing}
+use Rattle.refusal.specs.Outcome.{countedOf}
 use Rattle.ea_list.specs.Door.{doorGrid, listAt}
 use Rattle.eals.specs.Line.{fileOf, readingOf, storedOf}
 use Rattle.ea_list.specs.Listing.{listContent, recordsIn}

@@ -4,8 +4,8 @@ ghost use Prim.Native.Nat.{_*_, _≤_};
 ghost use lib.ListN.{length};
 ghost use lib.Seq.{sets};
 ghost use Rattle.io.specs.Counts.{Counts};
-ghost use Rattle.ea_blocks.specs.Runs.{countedOf};
-ghost use Rattle.ea_blocks.specs.Records.{recordLength};
+ghost use Rattle.refusal.specs.Outcome.{countedOf};
+ghost use Rattle.ea_records.specs.Records.{recordLength};
 ghost use Rattle.ea_list.specs.Listing.{listContent};
 ghost use Rattle.eals.specs.Line.{storedOf};
 ghost use Rattle.eals.specs.Program.{listingOf, countedText, countOf, programText, programList};
@@ -16,8 +16,8 @@ use crate::line::parse;
 use crate::print::put_list;
 use crate::print::put_refusal;
 use crate::print::put_text;
-use ea_blocks::Counted;
 use ea_list::door::list_at;
+use refusal::Counted;
 
 // Lists the chunks that a question asks for.
 fn list_chunks(list: &mut [u8], lengths: &[u8], file: &[u8], question: Question) -> Counted

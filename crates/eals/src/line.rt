@@ -3,7 +3,7 @@ ghost use mathlib.Core.Path.{_≡_};
 ghost use Prim.Native.Nat.{_+_, _≤_};
 ghost use lib.ListN.{length};
 ghost use lib.Seq.{sets};
-ghost use Rattle.ea_blocks.specs.Records.{offsetBytes};
+ghost use Rattle.ea_records.specs.Records.{offsetBytes};
 ghost use Rattle.eals.specs.Text.{words, numberOf};
 ghost use Rattle.eals.specs.Words.{wordsFrom, foundOf, foundAt, foundEnd};
 ghost use Rattle.eals.specs.Line.{orderNumber, lengthNumber, lengthsFrom, lengthsRead, lineReading, lineStored};

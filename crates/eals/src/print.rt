@@ -5,7 +5,7 @@ ghost use Prim.Native.Nat.{_+_, _*_, _≤_};
 ghost use lib.ListN.{length, drop};
 ghost use lib.Seq.{sets};
 ghost use Rattle.chunk_grid.specs.Shapes.{numbersIn};
-ghost use Rattle.ea_blocks.specs.Records.{recordLength};
+ghost use Rattle.ea_records.specs.Records.{recordLength};
 ghost use Rattle.eals.specs.Text.{decimal};
 ghost use Rattle.ea_list.specs.Listing.{recordIn, recordsIn};
 ghost use Rattle.eals.specs.Printed.{spaced, recordLine, recordLines, listText, refusalText};

@@ -1,11 +1,13 @@
 -- What a call comes to.
-use Prim.Native.Nat.{ℕ}
+use Prim.Native.Nat.{ℕ, _+_}
 use mathlib.Core.List.{List, _∷_}
 use lib.Dec.{ltb}
 use lib.ListN.{length}
 use Rattle.refusal.specs.declared.Refusal.{Refusal}
 use Rattle.refusal.specs.declared.Checked.{Checked}
 use Rattle.refusal.specs.declared.Checked.the-variants.{Passed, Refused}
+use Rattle.refusal.specs.declared.Counted.{Counted}
+use Rattle.refusal.specs.declared.Counted.the-variants.{Count, Refused as CountedRefused}
 use Rattle.refusal.specs.Refusals.{refuse}
 
 -- one refusal, or an answer
@@ -28,3 +30,13 @@ also x (accepted l) = accepted (x ∷ l)
 unfoldable pub inRoom : {A : Type 0} → Outcome (List A) → ℕ → Outcome (List A)
 inRoom (refused r) room = refused r
 inRoom (accepted l) room = refuse 9 (length l) 0 (ltb room (length l)) yields accepted l
+
+-- the number of members, or the refusal
+unfoldable pub countedOf : {A : Type 0} → Outcome (List A) → Counted
+countedOf (refused r) = CountedRefused r
+countedOf (accepted l) = Count (length l)
+
+-- the same, behind n that are counted already
+unfoldable pub plus : {A : Type 0} → ℕ → Outcome (List A) → Counted
+plus n (refused r) = CountedRefused r
+plus n (accepted l) = Count (n + length l)

@@ -104,3 +104,9 @@ impl Checked {
         }
     }
 }
+
+// The number of members of a list, or why there is none.
+pub enum Counted {
+    Count(u64),
+    Refused(Refusal),
+}

@@ -3,8 +3,8 @@ use Prim.Native.Nat.{ℕ}
 use mathlib.Core.Bool.{cond}
 use lib.Dec.{eqb}
 use Rattle.refusal.specs.declared.Refusal.{Refusal}
-use Rattle.ea_blocks.specs.declared.Counted.{Counted}
-use Rattle.ea_blocks.specs.declared.Counted.the-variants.{Count, Refused}
+use Rattle.refusal.specs.declared.Counted.{Counted}
+use Rattle.refusal.specs.declared.Counted.the-variants.{Count, Refused}
 
 -- 1 and 2 a refusal's figures, 3 the count, all 0 where not there, otherwise the refusal or 0.
 unfoldable pub pickedOf : ℕ → Refusal → ℕ

@@ -1,10 +1,10 @@
 // The span listing as C calls it. It is built for tests, and is no part of the library.
 ghost use mathlib.Core.Path.{_≡_};
-ghost use Rattle.ea_blocks.specs.Runs.{countedOf};
+ghost use Rattle.refusal.specs.Outcome.{countedOf};
 ghost use Rattle.ea_spans.specs.Listing.{spansInto, filled, addressOf, lengthOf};
 ghost use Rattle.spans_door.specs.Door.{pickedOf, picked};
-use ea_blocks::Counted;
 use ea_spans::extensible_array_index_spans;
+use refusal::Counted;
 use refusal::Refusal;
 
 // Lists the spans of the index whose header lies at an address, and gives one number of the answer.

@@ -1,7 +1,7 @@
 -- `cellumaq::cellumaq_list` meets its contract. Assumes nothing.
 use borrow.Author.Needs.{needs}
 use mathlib.Core.Path.{_≡_, ap, _∙_}
-use Rattle.ea_blocks.specs.declared.Counted.{Counted}
+use Rattle.refusal.specs.declared.Counted.{Counted}
 use Rattle.ea_list.specs.Door.{countedNumbers, picked}
 use Rattle.ea_list.proofs.Numbered.{list-zero}
 use Rattle.cellumaq.proofs.cellumaq_list.Statement.{statement}

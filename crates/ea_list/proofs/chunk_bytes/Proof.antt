@@ -7,7 +7,7 @@ use lib.ListN.{take, drop}
 use lib.Seq.{getD-take}
 use Rattle.refusal.specs.Refusals.{figure, largest64}
 use Rattle.fields.proofs.Numbers.{figure-le}
-use Rattle.ea_blocks.specs.Elements.{product}
+use Rattle.ea_elements.specs.Elements.{product}
 use Rattle.ea_list.proofs.ChunkBytes.{product-more, product-done}
 use Rattle.ea_list.proofs.chunk_bytes.Statement.{statement}
 use Rattle.ea_list.proofs.chunk_bytes.Tie as tie

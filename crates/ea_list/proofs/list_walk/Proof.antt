@@ -7,12 +7,13 @@ use native.Mathlib.Omega.{arith}
 use lib.ListN.{length}
 use Rattle.refusal.specs.Outcome.{accepted}
 use Rattle.refusal.proofs.Outcomes.{room-refused, room-small, room-fits}
-use Rattle.ea_blocks.specs.Call.{Call, Rec}
-use Rattle.ea_blocks.specs.Records.{recordLength}
-use Rattle.ea_blocks.proofs.Runs.{counted-inv, refused-inv}
-use Rattle.ea_blocks.proofs.Corners.{reads-rank}
+use Rattle.ea_blocks.specs.Call.{Call}
+use Rattle.ea_elements.specs.Elements.{Rec}
+use Rattle.ea_records.specs.Records.{recordLength}
+use Rattle.refusal.proofs.Counts.{counted-inv, refused-inv}
+use Rattle.ea_records.proofs.Corners.{reads-rank}
 use Rattle.ea_walk.specs.Walk.{walk}
-use Rattle.ea_walk.specs.Values.{Walks}
+use Rattle.ea_count.specs.Values.{Walks}
 use Rattle.ea_list.proofs.Rooms.{list-fits, answer-refused, answer-accepted}
 use Rattle.ea_list.proofs.list_walk.Statement.{statement}
 use Rattle.ea_list.proofs.list_walk.Tie as tie

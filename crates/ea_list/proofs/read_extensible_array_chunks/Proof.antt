@@ -11,9 +11,10 @@ use Rattle.chunk_grid.specs.Grid.{gridTest}
 use Rattle.chunk_grid.specs.Values.{given, gridOf}
 use Rattle.chunk_grid.proofs.Grids.{accepted as grid-accepted}
 use Rattle.ea_blocks.specs.Call.{Call, callOf}
-use Rattle.ea_blocks.specs.Elements.{chunkBytes}
-use Rattle.ea_blocks.specs.Runs.{Listing, countedOf}
-use Rattle.ea_walk.specs.Values.{Walks}
+use Rattle.ea_elements.specs.Elements.{chunkBytes}
+use Rattle.ea_elements.specs.Runs.{Listing}
+use Rattle.refusal.specs.Outcome.{countedOf}
+use Rattle.ea_count.specs.Values.{Walks}
 use Rattle.ea_list.specs.Listing.{listContent}
 use Rattle.ea_list.proofs.Rooms.{walks-by, into-refused, into-passed, refused-count, delivered}
 use Rattle.ea_list.proofs.read_extensible_array_chunks.Statement.{statement}

@@ -8,11 +8,10 @@ use Rattle.chunk_grid.specs.Values.{given, gridOf, Numbers, Counted, Extents}
 use Rattle.ea_geometry.specs.declared.EaGeometry.{EaGeometry}
 use Rattle.ea_blocks.specs.Call.{Call, callOf}
 use Rattle.ea_blocks.proofs.StructureTests.{index-seen}
-use Rattle.ea_blocks.specs.Elements.{chunkBytes}
-use Rattle.ea_walk.specs.Values.{Walks}
+use Rattle.ea_elements.specs.Elements.{chunkBytes}
+use Rattle.ea_count.specs.Values.{Walks}
 use Rattle.ea_list.proofs.Rooms.{walks-by}
-use Rattle.ea_lookup.proofs.Calls.{tests, Tested, passed-all, lookup-refused, lookup-passed, all-of}
-use Rattle.ea_lookup.proofs.Calls.{rank-small, chunk-ranked, corner-numbers, corner-counted, call-seen}
+use Rattle.ea_lookup.proofs.Calls.{tests, Tested, passed-all, lookup-refused, lookup-passed, all-of, rank-small, chunk-ranked, corner-numbers, corner-counted, call-seen}
 use borrow.Author.Needs.{needs}
 use Rattle.ea_lookup.proofs.lookup_chunk.Statement.{statement}
 use Rattle.ea_lookup.proofs.lookup_chunk.Tie as tie

@@ -2,12 +2,11 @@
 use mathlib.Core.Path.{_≡_, sym, ap, _∙_}
 use native.Mathlib.Omega.{arith}
 use Rattle.refusal.specs.declared.Checked.the-variants.{Passed}
-use Rattle.refusal.specs.Outcome.{also, inRoom}
+use Rattle.refusal.specs.Outcome.{also, inRoom, countedOf}
 use Rattle.refusal.proofs.Outcomes.{room-refused}
 use Rattle.fields.proofs.Widths.{width-le}
 use Rattle.ea_header.specs.Header.{headerAt}
 use Rattle.ea_header.proofs.Header.{header-is, refused-is}
-use Rattle.ea_blocks.specs.Runs.{countedOf}
 use Rattle.ea_spans.specs.Walk.{Spanning, indexSpans, headTest, spans}
 use Rattle.ea_spans.specs.Listing.{roomOf, spansInto, filled, addressOf, lengthOf}
 use Rattle.ea_spans.proofs.Listing.{answers-refused, head-passed, spans-refused, spans-are}

@@ -4,11 +4,10 @@ use mathlib.Core.Path.{_≡_, sym, ap, _∙_}
 use mathlib.Core.List.{List}
 use native.Mathlib.Omega.{arith}
 use lib.ListN.{length}
-use Rattle.refusal.specs.Outcome.{accepted, also, inRoom}
+use Rattle.refusal.specs.Outcome.{accepted, also, inRoom, countedOf}
 use Rattle.refusal.proofs.Outcomes.{room-refused, room-small, room-fits}
-use Rattle.ea_blocks.specs.declared.Counted.the-variants.{Count}
-use Rattle.ea_blocks.specs.Runs.{countedOf}
-use Rattle.ea_blocks.proofs.Runs.{counted-inv, refused-inv}
+use Rattle.refusal.specs.declared.Counted.the-variants.{Count}
+use Rattle.refusal.proofs.Counts.{counted-inv, refused-inv}
 use Rattle.ea_spans.specs.declared.Span.{Span}
 use Rattle.ea_spans.specs.Walk.{Spanning, indexSpans}
 use Rattle.ea_spans.specs.Listing.{roomOf, filled, addressOf, lengthOf}

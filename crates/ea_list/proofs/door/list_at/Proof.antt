@@ -8,7 +8,8 @@ use Rattle.chunk_grid.specs.Shapes.{givenBytes}
 use Rattle.chunk_grid.specs.Values.{given, gridOf, whereTested}
 use Rattle.ea_header.specs.Header.{headerAt, headerTest, parsedAt}
 use Rattle.ea_header.proofs.Header.{header-is, refused-is}
-use Rattle.ea_blocks.specs.Runs.{Listing, countedOf}
+use Rattle.ea_elements.specs.Runs.{Listing}
+use Rattle.refusal.specs.Outcome.{countedOf}
 use Rattle.ea_list.specs.Listing.{listContent}
 use Rattle.ea_list.specs.Door.{doorGrid}
 use Rattle.ea_list.proofs.Rooms.{refused-count}

@@ -10,7 +10,8 @@ use Rattle.ea_geometry.specs.Extents.{superExtent}
 use Rattle.ea_blocks.specs.Call.{Call}
 use Rattle.ea_blocks.specs.Values.{Sees}
 use Rattle.ea_blocks.proofs.StructureTests.{index-seen, super-seen, is-direct, not-direct}
-use Rattle.ea_blocks.proofs.Pointers.{pointer-undefined, pointer-at, Named, named-reached, named-at, named-defined}
+use Rattle.ea_blocks.proofs.Pointers.{pointer-undefined, pointer-at}
+use Rattle.ea_elements.proofs.Reached.{Named, named-reached, named-at, named-defined}
 use borrow.Author.Needs.{needs}
 use Rattle.ea_list.proofs.runs.reach_block.Statement.{statement}
 use Rattle.ea_list.proofs.runs.reach_block.Tie as tie

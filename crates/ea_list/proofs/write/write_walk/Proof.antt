@@ -6,8 +6,9 @@ use mathlib.Core.List.{List}
 use native.Mathlib.Omega.{arith}
 use lib.ListN.{length}
 use lib.Seq.{length-sets}
-use Rattle.ea_blocks.specs.Call.{Call, Rec}
-use Rattle.ea_blocks.specs.Records.{listBytes}
+use Rattle.ea_blocks.specs.Call.{Call}
+use Rattle.ea_elements.specs.Elements.{Rec}
+use Rattle.ea_records.specs.Records.{listBytes}
 use Rattle.ea_list.specs.declared.runs.Run.{Run}
 use Rattle.ea_list.specs.Runs.{RunOf}
 use Rattle.ea_list.proofs.Written.{Accepted, leads, wide, bounded, run-accepted, run-room, Written, written-first, written-done, written-gap, written-fits, written-run}

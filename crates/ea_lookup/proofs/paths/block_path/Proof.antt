@@ -6,8 +6,8 @@ use lib.ListN.{length}
 use Rattle.ea_geometry.specs.Extents.{elementStride, blockElementAt}
 use Rattle.ea_geometry.proofs.Counts.{elements-few}
 use Rattle.ea_blocks.specs.Call.{Call}
-use Rattle.ea_walk.specs.Values.{Walks}
-use Rattle.ea_walk.proofs.WalkStates.{sees}
+use Rattle.ea_count.specs.Values.{Walks}
+use Rattle.ea_count.proofs.WalkStates.{sees}
 use Rattle.ea_lookup.specs.declared.paths.Way.{Way}
 use Rattle.ea_lookup.specs.Found.{WayTo}
 use Rattle.ea_lookup.proofs.Ways.{absent-path, refused-path, bounded-by, block-room, block-found}

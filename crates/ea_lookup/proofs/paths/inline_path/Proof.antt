@@ -4,7 +4,7 @@ use mathlib.Core.Bool.{true}
 use native.Mathlib.Omega.{arith}
 use Rattle.fields.specs.Fields.{isWidth}
 use Rattle.fields.proofs.Widths.{width-le}
-use Rattle.ea_blocks.proofs.Sized.{sized-width}
+use Rattle.ea_elements.proofs.Sized.{sized-width}
 use Rattle.ea_lookup.proofs.Ways.{inline-room, inline-refused, inline-found}
 use borrow.Author.Needs.{needs}
 use Rattle.ea_lookup.proofs.paths.inline_path.Statement.{statement}

@@ -8,13 +8,12 @@ use Rattle.ea_geometry.proofs.Counts.{elements-few}
 use Rattle.ea_blocks.specs.declared.enter.Entered.{Entered}
 use Rattle.ea_blocks.specs.Call.{Call}
 use Rattle.ea_blocks.specs.Entered.{EnteredPage}
-use Rattle.ea_walk.specs.Values.{Walks}
-use Rattle.ea_walk.proofs.WalkStates.{sees}
+use Rattle.ea_count.specs.Values.{Walks}
+use Rattle.ea_count.proofs.WalkStates.{sees}
 use Rattle.ea_lookup.specs.declared.paths.Way.{Way}
 use Rattle.ea_lookup.specs.declared.paths.Way.the-variants.{To}
 use Rattle.ea_lookup.specs.Found.{WayTo}
-use Rattle.ea_lookup.proofs.Ways.{absent-path, refused-path, bounded-by, page-below-pages, super-room, super-is-at, head-room}
-use Rattle.ea_lookup.proofs.Ways.{page-room, page-found, clear-path, page-refused-path}
+use Rattle.ea_lookup.proofs.Ways.{absent-path, refused-path, bounded-by, page-below-pages, super-room, super-is-at, head-room, page-room, page-found, clear-path, page-refused-path}
 use borrow.Author.Needs.{needs}
 use Rattle.ea_lookup.proofs.paths.page_path.Statement.{statement}
 use Rattle.ea_lookup.proofs.paths.page_path.Tie as tie

@@ -4,7 +4,7 @@ use mathlib.Core.Path.{_≡_, sym, ap, subst, _∙_}
 use Rattle.ea_geometry.specs.declared.Place.{Place}
 use Rattle.ea_geometry.specs.Slots.{PlaceOf}
 use Rattle.ea_geometry.proofs.Places.{place-of}
-use Rattle.ea_blocks.specs.Places.{path}
+use Rattle.ea_elements.specs.Places.{path}
 use Rattle.ea_lookup.specs.Found.{foundOf}
 use Rattle.ea_lookup.proofs.Ways.{nowhere-found}
 use borrow.Author.Needs.{needs}

@@ -12,7 +12,7 @@ use Rattle.ea_blocks.specs.Call.{Call}
 use Rattle.ea_blocks.specs.Values.{Sees}
 use Rattle.ea_blocks.specs.Entered.{EnteredSuper, EnteredBlock}
 use Rattle.ea_blocks.proofs.Entering.{entered-super-room}
-use Rattle.ea_walk.proofs.WalkStates.{entered-at}
+use Rattle.ea_count.proofs.WalkStates.{entered-at}
 use Rattle.ea_lookup.proofs.Ways.{way-narrow, way-no-super, way-super-refused, way-no-block, way-block-refused}
 use borrow.Author.Needs.{needs}
 use Rattle.ea_lookup.proofs.paths.way_to_block.Statement.{statement}

@@ -6,7 +6,7 @@ use Rattle.refusal.specs.declared.Checked.the-variants.{Passed}
 use Rattle.refusal.proofs.Tests.{then-inv}
 use Rattle.fields.specs.Fields.{undefined}
 use Rattle.ea_blocks.specs.Structures.{indexAt}
-use Rattle.ea_blocks.specs.Runs.{countedOf}
+use Rattle.refusal.specs.Outcome.{countedOf}
 use Rattle.ea_blocks.proofs.StructureTests.{index-seen}
 use Rattle.ea_spans.specs.Walk.{indexTest}
 use Rattle.ea_spans.proofs.Tests.{seen}

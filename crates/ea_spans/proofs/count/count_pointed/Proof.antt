@@ -8,7 +8,7 @@ use borrow.Author.Needs.{needs}
 use Rattle.ea_blocks.specs.declared.structures.Pointer.{Pointer}
 use Rattle.ea_blocks.specs.Structures.{blockAt, blockUndefined}
 use Rattle.ea_blocks.specs.Values.{pointerOf}
-use Rattle.ea_blocks.proofs.Runs.{answered}
+use Rattle.refusal.proofs.Counts.{answered}
 use Rattle.refusal.specs.declared.Checked.{Checked}
 use Rattle.refusal.specs.declared.Checked.the-variants.{Passed}
 use Rattle.ea_geometry.specs.Sizes as sizes

@@ -3,8 +3,8 @@ use mathlib.Core.Path.{_≡_}
 use Prim.Native.Nat.{_*_, _≤_}
 use native.Mathlib.Omega.{arith}
 use lib.ListN.{length}
-use Rattle.ea_blocks.specs.declared.Counted.the-variants.{Count}
-use Rattle.ea_blocks.specs.Records.{recordLength}
+use Rattle.refusal.specs.declared.Counted.the-variants.{Count}
+use Rattle.ea_records.specs.Records.{recordLength}
 use Rattle.ea_list.specs.Listing.{recordsIn}
 use Rattle.eals.specs.Printed.{listText}
 use Rattle.eals.specs.Program.{countOf, countedText}

@@ -5,7 +5,7 @@ use native.Mathlib.Omega.{arith}
 use lib.ListN.{drop}
 use Rattle.fields.specs.LittleEndian.{leAt}
 use Rattle.chunk_grid.specs.Shapes.{numbersIn}
-use Rattle.ea_blocks.specs.Records.{recordLength}
+use Rattle.ea_records.specs.Records.{recordLength}
 use Rattle.eals.specs.Text.{decimal}
 use Rattle.ea_list.specs.Listing.{recordIn}
 use Rattle.eals.specs.Printed.{spaced, recordLine}

@@ -5,7 +5,7 @@ use mathlib.Core.Path.{refl}
 use Prim.Native.Nat.{_+_, _-_, _*_, _≤_}
 use native.Mathlib.Omega.{arith}
 use lib.ListN.{length, drop}
-use Rattle.ea_blocks.specs.Records.{recordLength}
+use Rattle.ea_records.specs.Records.{recordLength}
 use Rattle.ea_list.specs.Listing.{recordIn, recordsIn}
 use Rattle.eals.specs.Printed.{recordLine, recordLines}
 use Rattle.eals.proofs.Puts.{Putting, put-none, put-more, put-room, put-all}

@@ -1,0 +1,3 @@
+pub mod WalkStates
+pub mod Heads
+pub mod Starts

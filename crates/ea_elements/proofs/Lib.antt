@@ -1,0 +1,11 @@
+pub mod Elements
+pub mod Sized
+pub mod Runs
+pub mod Turns
+pub mod DefinedRuns
+pub mod Skipping
+pub mod AllChunks
+pub mod Counting
+pub mod Paths
+pub mod Passed
+pub mod Reached

@@ -1,0 +1,5 @@
+pub mod Elements
+pub mod Places
+pub mod Runs
+pub mod Defined
+pub mod Values
