@@ -16,7 +16,7 @@ use Rattle.refusal.specs.declared.Refusal.{Refusal}
 use Rattle.refusal.specs.declared.Checked.the-variants.{Passed, Refused}
 use Rattle.refusal.specs.Refusals.{largest64, refuse, _then_}
 use Rattle.chunk_grid.specs.Grid.{any, ceilDiv, firstUnlimited, leadingIn, toFront, multiplier, multipliers, hasZero, shapesTest, multiplierTest, productTest}
-use Rattle.chunk_grid.specs.Values.{given}
+use Rattle.chunk_grid.specs.Shapes.{given}
 use Rattle.chunk_grid.specs.declared.GridOrder.{GridOrder}
 use Rattle.chunk_grid.proofs.Order.{front-nil}
 use Rattle.chunk_grid.proofs.Members.{multiplier-at}

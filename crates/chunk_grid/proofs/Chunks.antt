@@ -9,7 +9,8 @@ use borrow.Author.Tests.{not-false}
 use Rattle.refusal.specs.Refusals.{largest64}
 use Rattle.refusal.proofs.Tests.{by-cond, neither}
 use Rattle.chunk_grid.specs.declared.Slot.the-variants.{At}
-use Rattle.chunk_grid.specs.Grid.{Grid, numbersNothing, offsets, below, chunkAt, isChunk, slotOf}
+use Rattle.chunk_grid.specs.Grid.{Grid, numbersNothing, offsets, below, isChunk, slotOf}
+use Rattle.chunk_grid.specs.Chunks.{chunkAt}
 use Rattle.chunk_grid.proofs.Grids.{Accepted, chunk-inv, slot-offsets, offsets-chunk, offsets-slot}
 
 module _ (g : Grid) (b : Accepted g) where

@@ -1,7 +1,6 @@
 -- The chunk grid: which slot is which chunk's.
 use Prim.Native.Nat.{ℕ, suc, _+_, _-_, _*_, _/_, _%_, max}
 use mathlib.Core.Bool.{Bool, true, false, not, cond, _&&_, _||_}
-use mathlib.Core.Option.{Option, none, some}
 use mathlib.Core.List.{List, [], _∷_, _++_}
 use lib.Dec.{eqb, leb, ltb}
 use lib.ListN.{length, take, drop}
@@ -123,10 +122,6 @@ insideOr Passed b = cond b Inside Dropped
 
 unfoldable pub inExtent : Grid → ℕ → Offsets
 inExtent g s = insideOr (offsetsTest g s) (below (offsets g s) (g .present))
-
--- The chunk of a slot, where it has one: where the grid numbers something and the slot's offsets lie below the present extents.
-unfoldable pub chunkAt : Grid → ℕ → Option (List ℕ)
-chunkAt g s = cond (numbersNothing g || not (below (offsets g s) (g .present))) none (some (offsets g s))
 
 -- A chunk is an aligned corner below the present extents.
 unfoldable pub aligned : List ℕ → List ℕ → Bool

@@ -1,3 +1,4 @@
 pub mod Grid
-pub mod Values
 pub mod Shapes
+pub mod Chunks
+pub mod Values

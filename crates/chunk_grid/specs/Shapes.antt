@@ -1,13 +1,29 @@
--- Shapes and corners as bytes.
+-- The shapes of a call: the grid that they make, and shapes and corners as bytes.
 use Prim.Native.Nat.{ℕ, zero, suc, _*_}
-use mathlib.Core.Bool.{Bool, cond}
+use mathlib.Core.Bool.{Bool, cond, true, false}
 use mathlib.Core.List.{List, [], _∷_}
 use lib.Dec.{eqb}
 use lib.ListN.{length, drop}
 use Rattle.fields.specs.LittleEndian.{leAt}
 use Rattle.chunk_grid.specs.declared.GridOrder.{GridOrder}
 use Rattle.chunk_grid.specs.Grid.{Grid}
-use Rattle.chunk_grid.specs.Values.{given}
+use Rattle.chunk_grid.specs.declared.GridOrder.the-variants.{RowMajor, UnlimitedFirst}
+
+-- Order U is UnlimitedFirst, order R RowMajor.
+unfoldable pub isUnlimitedFirst : GridOrder → Bool
+isUnlimitedFirst RowMajor = false
+isUnlimitedFirst UnlimitedFirst = true
+
+-- the grid of these shapes; maximum extents that aren't given are no part of it
+unfoldable pub given : ℕ → List ℕ → List ℕ → Bool → List ℕ → GridOrder → Grid
+given rank chunk present hasMaximum maximum order = record {
+  rank = rank;
+  chunk = chunk;
+  present = present;
+  hasMaximum = hasMaximum;
+  maximum = cond hasMaximum maximum [];
+  unlimitedFirst = isUnlimitedFirst order;
+}
 
 -- A shape or corner has 8 bytes a dimension; ..
 unfoldable pub numbersIn : ℕ → List ℕ → List ℕ

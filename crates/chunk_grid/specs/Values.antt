@@ -1,7 +1,7 @@
 -- What the code's values stand for.
 use Prim.Native.Nat.{ℕ, zero, suc}
 use mathlib.Core.Path.{_≡_}
-use mathlib.Core.Bool.{Bool, true, false, not, cond}
+use mathlib.Core.Bool.{Bool, false, not, cond}
 use mathlib.Core.List.{List, []}
 use lib.Dec.{ltb}
 use lib.ListN.{take, drop}
@@ -9,24 +9,9 @@ use Rattle.refusal.specs.declared.Checked.{Checked}
 use Rattle.refusal.specs.declared.Checked.the-variants.{Passed, Refused}
 use Rattle.refusal.specs.Refusals.{refuse, _then_}
 use Rattle.chunk_grid.specs.declared.ChunkGrid.{ChunkGrid}
-use Rattle.chunk_grid.specs.declared.GridOrder.{GridOrder}
-use Rattle.chunk_grid.specs.declared.GridOrder.the-variants.{RowMajor, UnlimitedFirst}
+use Rattle.chunk_grid.specs.declared.GridOrder.the-variants.{RowMajor}
 use Rattle.chunk_grid.specs.Grid.{Grid, pairwise, ceilDiv, countOf, counts, leadingIn, leading, toFront, ordered, multipliers, hasZero, numbersNothing, overflows, multiplierTest, productTest, gridTest}
-
-unfoldable pub isUnlimitedFirst : GridOrder → Bool
-isUnlimitedFirst RowMajor = false
-isUnlimitedFirst UnlimitedFirst = true
-
--- the grid of these shapes; maximum extents that aren't given are no part of it
-unfoldable pub given : ℕ → List ℕ → List ℕ → Bool → List ℕ → GridOrder → Grid
-given rank chunk present hasMaximum maximum order = record {
-  rank = rank;
-  chunk = chunk;
-  present = present;
-  hasMaximum = hasMaximum;
-  maximum = cond hasMaximum maximum [];
-  unlimitedFirst = isUnlimitedFirst order;
-}
+use Rattle.chunk_grid.specs.Shapes.{given}
 
 -- the grid that a value of the code describes: the first `rank` members of its arrays
 unfoldable pub gridOf : ChunkGrid → Grid

@@ -9,7 +9,7 @@ use native.Mathlib.Nat.{mul-le-mul-right}
 use lib.ListN.{length}
 use Rattle.refusal.proofs.Tests.{false-true}
 use Rattle.ea_header.specs.declared.ExtensibleArrayHeader.{ExtensibleArrayHeader}
-use Rattle.ea_header.specs.Served.{Served}
+use Rattle.ea_header.specs.Values.{Served}
 use Rattle.ea_geometry.specs.declared.EaGeometry.{EaGeometry}
 use Rattle.ea_geometry.specs.Sizes.{superBlocks, blockElements, directSuperBlocks, pageElements, pages}
 use Rattle.ea_geometry.specs.Extents.{pageAt, elementStride, superExtent, blockElementAt, pagedHeadExtent}

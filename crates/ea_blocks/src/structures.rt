@@ -4,7 +4,7 @@ ghost use mathlib.Core.Bool.{true, false};
 ghost use Prim.Native.Nat.{ℕ, _+_, _<_, _≤_};
 ghost use lib.ListN.{length};
 ghost use Rattle.fields.specs.Fields.{isWidth, addressAt, undefinedAt};
-ghost use Rattle.ea_header.specs.Served.{Served};
+ghost use Rattle.ea_header.specs.Values.{Served};
 ghost use Rattle.ea_geometry.specs.Bounded.{Bounded};
 ghost use Rattle.ea_geometry.specs.Sizes.{superBlocks, blocks, directSuperBlocks, pages};
 ghost use Rattle.ea_geometry.specs.Extents.{indexExtent, superExtent};

@@ -12,7 +12,8 @@ use Rattle.refusal.specs.declared.Checked.{Checked}
 use Rattle.refusal.specs.declared.Checked.the-variants.{Passed, Refused}
 use Rattle.refusal.specs.Refusals.{refuse, refusalOf, _then_}
 use Rattle.refusal.proofs.Tests.{lt-or-ge}
-use Rattle.refusal.specs.Outcome.{refused, accepted, _yields_, countedOf, plus}
+use Rattle.refusal.specs.Outcome.{refused, accepted, _yields_, countedOf}
+use Rattle.refusal.specs.Values.{plus}
 use Rattle.fields.specs.Fields.{isWidth, widthTest}
 use Rattle.ea_header.specs.Served.{servedTest}
 use Rattle.ea_geometry.specs.Sizes.{superBlocks}

@@ -8,7 +8,8 @@ use native.Mathlib.Omega.{arith}
 use lib.ListN.{length}
 use Rattle.refusal.specs.declared.Refusal.{Refusal}
 use Rattle.refusal.specs.declared.Checked.the-variants.{Passed, Refused}
-use Rattle.refusal.specs.Outcome.{accepted, countedOf, plus}
+use Rattle.refusal.specs.Outcome.{accepted, countedOf}
+use Rattle.refusal.specs.Values.{plus}
 use Rattle.refusal.proofs.Tests.{lt-or-ge}
 use Rattle.refusal.proofs.Outcomes.{yields-inv}
 use Rattle.fields.specs.Fields.{isWidth}

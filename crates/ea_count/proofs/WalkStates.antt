@@ -13,7 +13,8 @@ use lib.ListN.{length}
 use Rattle.refusal.specs.declared.Refusal.{Refusal}
 use Rattle.refusal.specs.declared.Checked.{Checked}
 use Rattle.refusal.specs.declared.Checked.the-variants.{Passed, Refused}
-use Rattle.refusal.specs.Outcome.{accepted, countedOf, plus}
+use Rattle.refusal.specs.Outcome.{accepted, countedOf}
+use Rattle.refusal.specs.Values.{plus}
 use Rattle.ea_header.specs.declared.ExtensibleArrayHeader.{ExtensibleArrayHeader}
 use Rattle.ea_geometry.specs.Sizes.{superBlocks, blocks, blockElements, directSuperBlocks, overPage, pageElements, pages}
 use Rattle.fields.specs.Fields.{isWidth}
@@ -21,7 +22,7 @@ use Rattle.ea_geometry.specs.Bounded.{Bounded}
 use Rattle.ea_geometry.specs.Extents.{elementStride, elementAt, indexExtent, blockElementAt}
 use Rattle.ea_geometry.specs.Place.{inPages}
 use Rattle.ea_geometry.specs.Slots.{firstSlot}
-use Rattle.ea_header.specs.Served.{Served}
+use Rattle.ea_header.specs.Values.{Served}
 use Rattle.ea_geometry.proofs.Counts.{elements-before-few, pages-exact}
 use Rattle.ea_geometry.proofs.Places.{next-slot, first-slot-zero}
 use Rattle.ea_elements.specs.declared.Reading.{Reading}

@@ -11,11 +11,11 @@ use lib.ListN.{getD}
 use lib.Pow.{pow-mono}
 use Rattle.refusal.specs.declared.Checked.the-variants.{Passed}
 use Rattle.refusal.specs.Refusals.{figure, refuse, _then_}
-use Rattle.refusal.specs.Outcome.{accepted, countedOf, plus}
+use Rattle.refusal.specs.Outcome.{accepted, countedOf}
+use Rattle.refusal.specs.Values.{plus}
 use Rattle.refusal.proofs.Tests.{by-cond, both, lt-or-ge}
 use Rattle.fields.specs.LittleEndian.{leAt}
-use Rattle.fields.specs.Fields.{undefinedAt}
-use Rattle.fields.specs.Numbers.{sizeTest}
+use Rattle.fields.specs.Fields.{undefinedAt, sizeTest}
 use Rattle.fields.proofs.LittleEndian.{le-small}
 use Rattle.chunk_grid.specs.declared.Offsets.the-variants.{Inside}
 use Rattle.chunk_grid.specs.Grid.{inExtent}

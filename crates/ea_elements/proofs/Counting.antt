@@ -8,7 +8,8 @@ use native.Mathlib.Omega.{arith}
 use lib.ListN.{getD}
 use Rattle.refusal.specs.declared.Refusal.{Refusal}
 use Rattle.refusal.specs.declared.Checked.the-variants.{Passed}
-use Rattle.refusal.specs.Outcome.{accepted, countedOf, plus}
+use Rattle.refusal.specs.Outcome.{accepted, countedOf}
+use Rattle.refusal.specs.Values.{plus}
 use Rattle.chunk_grid.specs.Grid.{offsets, inExtent}
 use Rattle.chunk_grid.specs.declared.Offsets.the-variants.{Inside}
 use Rattle.ea_elements.specs.declared.Element.{Element}

@@ -11,11 +11,13 @@ use Rattle.refusal.specs.Outcome.{Outcome, accepted}
 use Rattle.refusal.proofs.Tests.{by-cond, then-inv, refuse-inv}
 use Rattle.refusal.proofs.Outcomes.{never}
 use Rattle.fields.specs.Fields.{undefinedAt}
-use Rattle.chunk_grid.specs.Grid.{Grid, offsets, offsetsTest, below, insideOr, inExtent, numbersNothing, chunkAt}
+use Rattle.chunk_grid.specs.Grid.{Grid, offsets, offsetsTest, below, insideOr, inExtent, numbersNothing}
+use Rattle.chunk_grid.specs.Chunks.{chunkAt}
 use Rattle.ea_elements.specs.declared.Element.{Element}
 use Rattle.ea_blocks.specs.Call.{Call}
 use Rattle.ea_elements.specs.Elements.{Rec, entryAt, _gives_, insideOnly, element}
-use Rattle.ea_elements.specs.Places.{answerOf, recordOf}
+use Rattle.ea_elements.specs.Places.{answerOf}
+use Rattle.ea_elements.specs.SlotRecords.{recordOf}
 
 pub some-is : (x y : Option Rec) → _≡_ {A = Outcome (Option Rec)} (accepted x) (accepted y) → x ≡ y
 some-is x y h = cc

@@ -10,7 +10,8 @@ use Rattle.refusal.specs.Outcome.{Outcome, accepted}
 use Rattle.refusal.proofs.Tests.{by-cond}
 use Rattle.refusal.proofs.Outcomes.{yields-inv, yields-passed}
 use Rattle.fields.specs.Fields.{widthTest, undefinedAt}
-use Rattle.chunk_grid.specs.Grid.{offsets, chunkAt}
+use Rattle.chunk_grid.specs.Grid.{offsets}
+use Rattle.chunk_grid.specs.Chunks.{chunkAt}
 use Rattle.ea_geometry.specs.Sizes.{pageElements}
 use Rattle.ea_geometry.specs.Extents.{blockElementAt, pagedElementAt}
 use Rattle.ea_geometry.specs.Place.{inPages, placeIn, place}
@@ -19,7 +20,8 @@ use Rattle.ea_elements.specs.declared.Entry.{Entry}
 use Rattle.ea_blocks.specs.Call.{Call}
 use Rattle.ea_elements.specs.Elements.{Rec, element}
 use Rattle.ea_blocks.specs.Structures.{Structure, superBlock, dataBlock, dataPage, testOf, isDirect, blockAt, superUndefined, blockUndefined, pageSet}
-use Rattle.ea_elements.specs.Places.{blockReached, reached, positionOf, heldAt, held, recordOf, recordAt, leading, structures, pointerTest, answerOf, tested, pathAt, path}
+use Rattle.ea_elements.specs.Places.{blockReached, reached, positionOf, heldAt, held, leading, structures, pointerTest, answerOf, tested, pathAt, path}
+use Rattle.ea_elements.specs.SlotRecords.{recordOf, recordAt}
 use Rattle.ea_elements.proofs.Elements.{some-is, element-record}
 
 -- slot s has its element at pos, and its path ends there

@@ -9,7 +9,8 @@ use borrow.Author.Tests.{le-leb, lt-leb}
 use lib.Dec.{leb}
 use lib.ListN.{length}
 use Rattle.refusal.specs.declared.Refusal.{Refusal}
-use Rattle.refusal.specs.Outcome.{refused, accepted, also, plus, countedOf}
+use Rattle.refusal.specs.Outcome.{refused, accepted, also, countedOf}
+use Rattle.refusal.specs.Values.{plus}
 use Rattle.refusal.proofs.Tests.{by-cond, lt-or-ge}
 use Rattle.refusal.proofs.Outcomes.{never, also-inv}
 use Rattle.refusal.proofs.Counts.{plus-also}

@@ -13,8 +13,8 @@ use Rattle.refusal.specs.declared.Checked.the-variants.{Passed, Refused}
 use Rattle.refusal.specs.Refusals.{figure, refuse, _then_}
 use Rattle.refusal.proofs.Tests.{lt-or-ge, by-cond, refuse-true, refuse-inv, then-inv}
 use Rattle.fields.specs.LittleEndian.{leAt}
-use Rattle.fields.specs.Fields.{isWidth, widthTest, undefined, addressAt, undefinedAt}
-use Rattle.fields.specs.Numbers.{sizeTest, narrowed}
+use Rattle.fields.specs.Fields.{isWidth, widthTest, undefined, addressAt, undefinedAt, sizeTest}
+use Rattle.fields.specs.Values.{narrowed}
 use Rattle.fields.specs.declared.convert.Narrowed.the-variants.{Value, Refused as NarrowedRefused}
 use Rattle.fields.proofs.Numbers.{narrow-is, too-wide-is}
 use Rattle.chunk_grid.specs.Grid.{inExtent}

@@ -7,8 +7,7 @@ use Rattle.refusal.specs.declared.Checked.{Checked}
 use Rattle.refusal.specs.declared.Checked.the-variants.{Passed, Refused}
 use Rattle.refusal.specs.Refusals.{refuse, _then_}
 use Rattle.fields.specs.LittleEndian.{leAt}
-use Rattle.fields.specs.Fields.{widthTest, addressAt, undefinedAt}
-use Rattle.fields.specs.Numbers.{sizeTest}
+use Rattle.fields.specs.Fields.{widthTest, addressAt, undefinedAt, sizeTest}
 use Rattle.chunk_grid.specs.Grid.{Grid, inExtent}
 use Rattle.chunk_grid.specs.declared.Offsets.{Offsets}
 use Rattle.chunk_grid.specs.declared.Offsets.the-variants.{Inside, Dropped, Refused as OffsetsRefused}

@@ -3,3 +3,4 @@ pub mod Places
 pub mod Runs
 pub mod Defined
 pub mod Values
+pub mod SlotRecords

@@ -1,5 +1,5 @@
 -- What the place of a slot holds, and the structures that lead to it.
-use Prim.Native.Nat.{ℕ, zero, suc, _+_}
+use Prim.Native.Nat.{ℕ, _+_}
 use mathlib.Core.Bool.{Bool, true, false, not, cond, _&&_, _||_}
 use mathlib.Core.List.{List, [], _∷_}
 use mathlib.Core.Option.{Option, none, some}
@@ -7,7 +7,7 @@ use Rattle.refusal.specs.declared.Checked.{Checked}
 use Rattle.refusal.specs.declared.Checked.the-variants.{Passed}
 use Rattle.refusal.specs.Outcome.{Outcome, refused, accepted, _yields_}
 use Rattle.fields.specs.Fields.{widthTest, undefinedAt}
-use Rattle.chunk_grid.specs.Grid.{offsets, chunkAt}
+use Rattle.chunk_grid.specs.Grid.{offsets}
 use Rattle.ea_geometry.specs.Extents.{inlineElementAt, blockElementAt, pagedElementAt}
 use Rattle.ea_geometry.specs.Place.{place}
 use Rattle.ea_geometry.specs.declared.Place.{Place}
@@ -43,24 +43,6 @@ heldAt c p =
 
 unfoldable pub held : Call → ℕ → Option Entry
 held c s = heldAt c (place (c .header) s)
-
--- the record of a slot: what its place holds, and its chunk's corner
-unfoldable pub recordOf : Option Entry → Option (List ℕ) → Option Rec
-recordOf none k = none
-recordOf (some e) none = none
-recordOf (some e) (some corner) = some (record { entry = e; corner = corner })
-
-unfoldable pub recordAt : Call → ℕ → Option Rec
-recordAt c s = recordOf (held c s) (chunkAt (c .grid) s)
-
-unfoldable pub with : Option Rec → List Rec → List Rec
-with none l = l
-with (some r) l = r ∷ l
-
--- the records of the m slots from s on
-unfoldable pub records : Call → ℕ → ℕ → List Rec
-records c s zero = []
-records c s (suc m) = with (recordAt c s) (records c (s + 1) m)
 
 -- The super block and data block that lead to data block k of super block u and to what is in it, up to an undefined pointer.
 unfoldable pub leading : Call → ℕ → ℕ → List Structure → List Structure

@@ -7,7 +7,7 @@ use native.Mathlib.Nat.{mul-comm, mul-left-comm, mul-add, mul-le-mul-left, div-l
 use borrow.Author.Tests.{ltb-true}
 use lib.Pow.{pow-pos, pow-add, pow-mono, shl-shr}
 use Rattle.ea_header.specs.Log.{log2}
-use Rattle.ea_header.specs.Served.{Served}
+use Rattle.ea_header.specs.Values.{Served}
 use Rattle.ea_header.specs.declared.ExtensibleArrayHeader.{ExtensibleArrayHeader}
 use Rattle.refusal.proofs.Tests.{by-cond}
 use Rattle.ea_header.proofs.Log.{exponent-lt}

@@ -7,7 +7,7 @@ use mathlib.Core.Logic.{_⊎_, inl, inr}
 use native.Mathlib.Omega.{arith}
 use native.Mathlib.Nat.{eq-or-lt-of-le, mul-le-mul-right}
 use borrow.Author.Tests.{lt-ltb, le-ltb, eq-eqb}
-use Rattle.ea_header.specs.Served.{Served}
+use Rattle.ea_header.specs.Values.{Served}
 use Rattle.ea_header.specs.declared.ExtensibleArrayHeader.{ExtensibleArrayHeader}
 use Rattle.refusal.proofs.Tests.{lt-or-ge}
 use Rattle.ea_geometry.specs.Sizes.{blockElements}

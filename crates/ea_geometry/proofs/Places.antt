@@ -10,7 +10,7 @@ use lib.Dec.{ltb, leb}
 use lib.Arith.{digits-lt, digits-div, digits-mod}
 use lib.Pow.{pow-pos}
 use Rattle.ea_header.specs.Log.{log2}
-use Rattle.ea_header.specs.Served.{Served}
+use Rattle.ea_header.specs.Values.{Served}
 use Rattle.ea_header.specs.declared.ExtensibleArrayHeader.{ExtensibleArrayHeader}
 use Rattle.refusal.proofs.Tests.{by-cond, both}
 use Rattle.ea_header.proofs.Log.{log2-is, log2-ge, log2-lo, log2-hi}

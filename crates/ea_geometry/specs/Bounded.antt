@@ -1,6 +1,6 @@
 -- What a geometry keeps to whose sizes and positions fit 64 bits.
 use Prim.Native.Nat.{ℕ, _^_, _≤_}
-use Rattle.ea_header.specs.Served.{Served}
+use Rattle.ea_header.specs.Values.{Served}
 use Rattle.ea_geometry.specs.declared.EaGeometry.{EaGeometry}
 
 -- No data block of a served header has more elements than this.

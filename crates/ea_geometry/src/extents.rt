@@ -2,14 +2,13 @@
 ghost use mathlib.Core.Path.{_≡_};
 ghost use Prim.Native.Nat.{_*_, _^_, _<_, _≤_};
 ghost use Rattle.refusal.specs.Refusals.{figure};
-ghost use Rattle.ea_header.specs.Served.{Served};
+ghost use Rattle.ea_header.specs.Values.{Served};
 ghost use Rattle.ea_geometry.specs.Bounded.{mostElements, Bounded};
 ghost use Rattle.ea_geometry.specs.Sizes.{superBlocks, blocks, directSuperBlocks, pageElements};
-ghost use Rattle.ea_geometry.specs.Extents.{elementStride, elementAt, pointerAt, indexPrefix, inlineElementAt};
+ghost use Rattle.ea_geometry.specs.Extents.{elementStride, elementAt, pointerAt, indexPrefix, inlineElementAt, pagedElementAt};
 ghost use Rattle.ea_geometry.specs.Extents.{directPointersAt, superPointersAt, indexExtent, directPointerAt};
 ghost use Rattle.ea_geometry.specs.Extents.{superPointerAt, blockPrefix, pageBitsAt, blockPointerAt, superExtent, blockElementAt};
 ghost use Rattle.ea_geometry.specs.Extents.{dataExtent, pagedHeadExtent, pageExtent, pageAt, pagedExtent};
-ghost use Rattle.ea_geometry.specs.Extents.{pagedElementAt};
 use crate::EaGeometry;
 use fields::convert::saturating_add;
 use fields::convert::saturating_mul;

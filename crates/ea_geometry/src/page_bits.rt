@@ -2,7 +2,7 @@
 ghost use mathlib.Core.Path.{_≡_};
 ghost use Prim.Native.Nat.{_+_, _<_};
 ghost use lib.ListN.{length};
-ghost use Rattle.ea_header.specs.Served.{Served};
+ghost use Rattle.ea_header.specs.Values.{Served};
 ghost use Rattle.ea_geometry.specs.Sizes.{superBlocks, blocks, pages};
 ghost use Rattle.ea_geometry.specs.PageBits.{bitNumber, bitByte, pageBit};
 use crate::EaGeometry;

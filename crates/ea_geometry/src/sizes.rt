@@ -2,10 +2,9 @@
 ghost use mathlib.Core.Path.{_≡_};
 ghost use Prim.Native.Nat.{_<_, _≤_};
 ghost use Rattle.ea_header.specs.Log.{log2};
-ghost use Rattle.ea_header.specs.Served.{Served};
-ghost use Rattle.ea_geometry.specs.Sizes.{superBlocks, blocks, blockElements, directSuperBlocks, blocksBefore};
+ghost use Rattle.ea_header.specs.Values.{Served};
+ghost use Rattle.ea_geometry.specs.Sizes.{superBlocks, blocks, blockElements, directSuperBlocks, blocksBefore, pages, bitmapBytes};
 ghost use Rattle.ea_geometry.specs.Sizes.{directPointers, superPointers, elementsBefore, pageElements, overPage};
-ghost use Rattle.ea_geometry.specs.Sizes.{pages, bitmapBytes};
 use crate::EaGeometry;
 
 impl EaGeometry {

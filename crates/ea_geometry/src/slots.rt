@@ -1,7 +1,7 @@
 // The place of a slot.
 ghost use mathlib.Core.Path.{_≡_};
 ghost use Prim.Native.Nat.{_-_, _^_, _<_, _≤_};
-ghost use Rattle.ea_header.specs.Served.{Served};
+ghost use Rattle.ea_header.specs.Values.{Served};
 ghost use Rattle.ea_geometry.specs.Sizes.{superBlocks, blocks, blockElements};
 ghost use Rattle.ea_geometry.specs.Place.{superOf, inPages, placeIn, place};
 ghost use Rattle.ea_geometry.specs.Slots.{firstSlot, capacity};

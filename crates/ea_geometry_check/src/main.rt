@@ -1,6 +1,6 @@
 // Compares the place of slots with a plain walk through the super blocks, for every served combination of least block elements, max
 // bits and page exponent; then prints sizes, places and page bits of a worked array.
-ghost use Rattle.ea_header.specs.Served.{Served};
+ghost use Rattle.ea_header.specs.Values.{Served};
 use ea_geometry::EaGeometry;
 use ea_geometry::Place;
 use ea_geometry::page_bits::page_is_initialized;

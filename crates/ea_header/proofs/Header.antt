@@ -16,7 +16,8 @@ use Rattle.fields.specs.Fields.{isWidth}
 use Rattle.fields.proofs.Fields.{inside, width-is}
 use Rattle.ea_header.specs.declared.ExtensibleArrayHeader.{ExtensibleArrayHeader}
 use Rattle.ea_header.specs.declared.Parsed.the-variants.{Header, Refused as ParsedRefused}
-use Rattle.ea_header.specs.Header.{headerBytes, formTest, sizesTest, headerTest, parsedAfter}
+use Rattle.ea_header.specs.Header.{headerBytes, formTest, sizesTest, headerTest}
+use Rattle.ea_header.specs.Values.{parsedAfter}
 
 module _ (f : List ℕ) (pos : ℕ) where
   pub other-signature : (leAt f pos 4 ≡ 0x4448_4145 → ⊥) → Refused (record { number = 21; first = 0; second = 0 }) ≡ formTest f pos

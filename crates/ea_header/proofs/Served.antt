@@ -8,7 +8,8 @@ use native.Mathlib.Omega.{arith}
 use lib.Pow.{pow-pos, pow-mono}
 use Rattle.refusal.specs.declared.Checked.the-variants.{Passed}
 use Rattle.ea_header.specs.Log.{log2}
-use Rattle.ea_header.specs.Served.{served, Served, servedTest}
+use Rattle.ea_header.specs.Served.{served, servedTest}
+use Rattle.ea_header.specs.Values.{Served}
 use Rattle.ea_header.specs.declared.ExtensibleArrayHeader.{ExtensibleArrayHeader}
 use Rattle.refusal.proofs.Tests.{both, refuse-inv}
 use Rattle.ea_header.proofs.Log.{exponent-lt}

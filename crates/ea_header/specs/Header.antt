@@ -5,14 +5,11 @@ use mathlib.Core.List.{List}
 use lib.Dec.{eqb}
 use lib.ListN.{getD, take, drop}
 use Rattle.refusal.specs.declared.Checked.{Checked}
-use Rattle.refusal.specs.declared.Checked.the-variants.{Passed, Refused}
 use Rattle.refusal.specs.Refusals.{refuse, _then_}
 use Rattle.fields.specs.LittleEndian.{leAt}
 use Rattle.fields.specs.Fields.{widthTest, inFile, addressAt}
 use Rattle.checksum.specs.Trailing.{trailingTest}
 use Rattle.ea_header.specs.declared.ExtensibleArrayHeader.{ExtensibleArrayHeader}
-use Rattle.ea_header.specs.declared.Parsed.{Parsed}
-use Rattle.ea_header.specs.declared.Parsed.the-variants.{Header, Refused as ParsedRefused}
 
 -- Header, 16 + 6L + O bytes: "EAHD", version 0, client, element size, max bits, inline count, least block elements, super block minimum,
 -- page exponent, six L-byte statistics, index block address, checksum.
@@ -52,11 +49,3 @@ headerTest sum f pos o l =
     then formTest f pos
     then sizesTest o l
     then trailingTest sum (take (headerBytes o l) (drop pos f))
-
--- the header, after its test
-unfoldable pub parsedAfter : Checked → ExtensibleArrayHeader → Parsed
-parsedAfter Passed h = Header h
-parsedAfter (Refused r) h = ParsedRefused r
-
-unfoldable pub parsedAt : (List ℕ → ℕ) → List ℕ → ℕ → ℕ → ℕ → Parsed
-parsedAt sum f pos o l = parsedAfter (headerTest sum f pos o l) (headerAt f pos o l)

@@ -1,3 +1,4 @@
-pub mod Header
 pub mod Log
+pub mod Header
 pub mod Served
+pub mod Values

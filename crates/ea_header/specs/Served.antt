@@ -1,7 +1,6 @@
 -- Which headers are served.
-use Prim.Native.Nat.{ℕ, _^_, _≤_}
+use Prim.Native.Nat.{_^_}
 use mathlib.Core.Bool.{Bool, not, _&&_}
-use mathlib.Core.Path.{_≡_}
 use lib.Dec.{eqb, leb}
 use Rattle.refusal.specs.declared.Checked.{Checked}
 use Rattle.refusal.specs.Refusals.{refuse}
@@ -21,11 +20,3 @@ served h =
 -- 27 header not served
 unfoldable pub servedTest : ExtensibleArrayHeader → Checked
 servedTest h = refuse 27 0 0 (not (served h))
-
--- the same as facts, for functions that are called on served headers only
-pub record Served (h : ExtensibleArrayHeader) : Type 0 where
-  pub power : h .«min_dblk_nelmts» ≡ 2 ^ log2 (h .«min_dblk_nelmts»)
-  pub least : h .«min_dblk_nelmts» ≤ 128
-  pub bits : h .«max_nelmts_bits» ≤ 62
-  pub minimum : h .«super_blk_min_nelmts» ≤ 32
-  pub page : h .«max_dblk_nelmts_bits» ≤ 32

@@ -10,14 +10,16 @@ use lib.ListN.{length}
 use Rattle.refusal.specs.Refusals.{largest64}
 use Rattle.refusal.specs.Outcome.{accepted}
 use Rattle.refusal.proofs.Outcomes.{yields-inv}
-use Rattle.chunk_grid.specs.Grid.{chunkAt, slotOf}
+use Rattle.chunk_grid.specs.Chunks.{chunkAt}
+use Rattle.chunk_grid.specs.Grid.{slotOf}
 use Rattle.chunk_grid.specs.declared.Slot.the-variants.{At}
 use Rattle.chunk_grid.proofs.Grids.{Accepted, accepted as grid-accepted}
 use Rattle.chunk_grid.proofs.Chunks.{chunk-at-slot, slot-chunk-at}
 use Rattle.ea_elements.specs.declared.Entry.{Entry}
 use Rattle.ea_blocks.specs.Call.{Call}
 use Rattle.ea_elements.specs.Elements.{Rec}
-use Rattle.ea_elements.specs.Places.{held, recordOf, recordAt, with, records}
+use Rattle.ea_elements.specs.Places.{held}
+use Rattle.ea_elements.specs.SlotRecords.{recordOf, recordAt, with, records}
 use Rattle.ea_list.specs.Listing.{list}
 use Rattle.ea_list.specs.Judged.{Stored, Used, Tally, hit, miss, end, Rising, Judged}
 use Rattle.ea_walk.proofs.Walks.{walk-records}

@@ -12,8 +12,7 @@ use Rattle.refusal.specs.declared.Checked.the-variants.{Passed, Refused}
 use Rattle.refusal.specs.Outcome.{refused, accepted, countedOf}
 use Rattle.refusal.proofs.Tests.{by-cond}
 use Rattle.refusal.proofs.Numbered.{Numbered, Told, numbered-passed, numbered-refuse, numbered-then, told-yields, told-accepted, told-cond, told-also, told-room}
-use Rattle.fields.specs.Fields.{widthTest, inFile, undefinedAt}
-use Rattle.fields.specs.Numbers.{sizeTest}
+use Rattle.fields.specs.Fields.{widthTest, inFile, undefinedAt, sizeTest}
 use Rattle.checksum.specs.Trailing.{trailingTest}
 use Rattle.checksum.specs.Lookup3.{lookup3}
 use Rattle.chunk_grid.specs.Grid.{Grid, unlimited, ordered, counts, offsets, offsetsTest, insideOr, inExtent, shapesTest, multiplierTest, productTest, gridTest}

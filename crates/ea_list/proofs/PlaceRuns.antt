@@ -8,7 +8,7 @@ use lib.Arith.{digits-div, digits-mod}
 use lib.ListN.{length}
 use lib.Pow.{pow-pos}
 use Rattle.ea_header.specs.declared.ExtensibleArrayHeader.{ExtensibleArrayHeader}
-use Rattle.ea_header.specs.Served.{Served}
+use Rattle.ea_header.specs.Values.{Served}
 use Rattle.ea_geometry.specs.Sizes.{superBlocks, blocks, blockElements, pageElements, pages, overPage}
 use Rattle.ea_geometry.specs.Extents.{elementStride, elementAt, inlineElementAt, blockElementAt, pagedElementAt, pageAt}
 use Rattle.ea_geometry.specs.PageBits.{bitNumber}

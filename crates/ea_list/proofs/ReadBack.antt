@@ -18,8 +18,7 @@ use Rattle.refusal.specs.Outcome.{Outcome, accepted}
 use Rattle.refusal.proofs.Tests.{by-cond, refuse-inv, then-inv, neither}
 use Rattle.refusal.proofs.Outcomes.{never, yields-inv}
 use Rattle.fields.specs.LittleEndian.{leAt, leBytes}
-use Rattle.fields.specs.Fields.{addressAt, undefinedAt}
-use Rattle.fields.specs.Numbers.{sizeTest}
+use Rattle.fields.specs.Fields.{addressAt, undefinedAt, sizeTest}
 use Rattle.fields.proofs.Stored.{length-bytes, value-bytes}
 use Rattle.fields.proofs.LittleEndian.{le-small}
 use Rattle.fields.proofs.Widths.{width-le}
@@ -33,7 +32,8 @@ use Rattle.ea_elements.specs.declared.Element.{Element}
 use Rattle.ea_elements.specs.declared.Element.the-variants.{Absent, Chunk, Refused as ElementRefused}
 use Rattle.ea_blocks.specs.Call.{Call}
 use Rattle.ea_elements.specs.Elements.{Rec, filtered, sizeBytes, sizeAt, maskAt, entryAt, elementSizeTest, entryTest, _gives_, insideOnly, element}
-use Rattle.ea_elements.specs.Places.{reached, positionOf, recordAt, with, records, answerOf, pathAt, path}
+use Rattle.ea_elements.specs.Places.{reached, positionOf, answerOf, pathAt, path}
+use Rattle.ea_elements.specs.SlotRecords.{recordAt, with, records}
 use Rattle.ea_records.specs.Records.{recordLength, offsetBytes, recordBytes, listBytes}
 use Rattle.ea_elements.proofs.Sized.{sized-width}
 use Rattle.ea_elements.proofs.Paths.{tested-inv}

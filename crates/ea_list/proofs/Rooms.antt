@@ -14,7 +14,8 @@ use Rattle.refusal.specs.Refusals.{largest64, figure}
 use Rattle.refusal.specs.Outcome.{refused, accepted, _yields_, inRoom, countedOf}
 use Rattle.refusal.proofs.Tests.{by-cond}
 use Rattle.refusal.proofs.Outcomes.{yields-inv, room-had, room-inv, room-refused, yields-refused}
-use Rattle.chunk_grid.specs.Grid.{Grid, numbersNothing, below, offsets, chunkAt, gridTest}
+use Rattle.chunk_grid.specs.Grid.{Grid, numbersNothing, below, offsets, gridTest}
+use Rattle.chunk_grid.specs.Chunks.{chunkAt}
 use Rattle.chunk_grid.specs.Values.{Numbers, Extents}
 use Rattle.chunk_grid.proofs.Grids.{accepted as grid-accepted, length-offsets}
 use Rattle.ea_header.specs.declared.ExtensibleArrayHeader.{ExtensibleArrayHeader}
@@ -22,7 +23,7 @@ use Rattle.refusal.specs.declared.Counted.{Counted}
 use Rattle.refusal.specs.declared.Counted.the-variants.{Count, Refused as CountedRefused}
 use Rattle.ea_blocks.specs.Call.{Call, callOf}
 use Rattle.ea_elements.specs.Elements.{Rec, chunkBytes}
-use Rattle.ea_elements.specs.Places.{recordAt, with, records}
+use Rattle.ea_elements.specs.SlotRecords.{recordAt, with, records}
 use Rattle.ea_records.specs.Records.{recordLength, listBytes}
 use Rattle.ea_elements.specs.Runs.{Listing}
 use Rattle.refusal.proofs.Counts.{counted-inv}

@@ -10,7 +10,7 @@ use native.Mathlib.Omega.{arith}
 use lib.ListN.{length}
 use Rattle.refusal.specs.declared.Checked.the-variants.{Passed}
 use Rattle.ea_header.specs.declared.ExtensibleArrayHeader.{ExtensibleArrayHeader}
-use Rattle.ea_header.specs.Served.{Served}
+use Rattle.ea_header.specs.Values.{Served}
 use Rattle.ea_geometry.specs.Sizes.{blockElements, pageElements, directSuperBlocks, overPage}
 use Rattle.ea_geometry.specs.Extents.{elementStride, inlineElementAt, blockElementAt, pagedElementAt, superExtent}
 use Rattle.ea_geometry.specs.PageBits.{bitNumber}

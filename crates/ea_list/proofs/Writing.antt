@@ -16,7 +16,8 @@ use Rattle.ea_elements.specs.declared.Element.{Element}
 use Rattle.ea_elements.specs.declared.Element.the-variants.{Absent, Chunk, Refused as ElementRefused}
 use Rattle.ea_blocks.specs.Call.{Call}
 use Rattle.ea_elements.specs.Elements.{Rec, element}
-use Rattle.ea_elements.specs.Places.{reached, recordAt, with, records, answerOf, path}
+use Rattle.ea_elements.specs.Places.{reached, answerOf, path}
+use Rattle.ea_elements.specs.SlotRecords.{recordAt, with, records}
 use Rattle.ea_elements.specs.Runs.{alsoElement, elements}
 use Rattle.ea_elements.proofs.Paths.{unreached}
 use Rattle.ea_elements.proofs.Passed.{reached-element}

@@ -19,7 +19,7 @@ use Rattle.ea_elements.specs.declared.Reading.{Reading}
 use Rattle.ea_blocks.specs.Call.{Call}
 use Rattle.ea_elements.specs.Elements.{Rec}
 use Rattle.ea_records.specs.Records.{listBytes}
-use Rattle.ea_elements.specs.Places.{records, recordAt}
+use Rattle.ea_elements.specs.SlotRecords.{records, recordAt}
 use Rattle.ea_elements.specs.Runs.{elements}
 use Rattle.ea_elements.specs.Values.{Reads}
 use Rattle.ea_records.proofs.Records.{sets-append, list-append}

@@ -13,12 +13,14 @@ use Rattle.refusal.specs.Refusals.{largest64, _then_}
 use Rattle.refusal.proofs.Tests.{then-inv, refuse-inv, both}
 use Rattle.refusal.proofs.Outcomes.{yields-passed, yields-refused}
 use Rattle.chunk_grid.specs.Grid.{gridTest, cornerTest, aligned, below, isChunk, slotOf}
-use Rattle.chunk_grid.specs.Values.{given, gridOf, Numbers, Counted}
+use Rattle.chunk_grid.specs.Shapes.{given}
+use Rattle.chunk_grid.specs.Values.{gridOf, Numbers, Counted}
 use Rattle.chunk_grid.specs.declared.ChunkGrid.{ChunkGrid}
 use Rattle.chunk_grid.specs.declared.Slot.{Slot}
 use Rattle.chunk_grid.specs.declared.Slot.the-variants.{At, NoSlot}
 use Rattle.chunk_grid.proofs.Grids.{accepted as grid-accepted}
-use Rattle.ea_header.specs.Served.{Served, servedTest}
+use Rattle.ea_header.specs.Values.{Served}
+use Rattle.ea_header.specs.Served.{servedTest}
 use Rattle.ea_header.proofs.Served.{tested-serves}
 use Rattle.ea_geometry.specs.declared.EaGeometry.{EaGeometry}
 use Rattle.ea_blocks.specs.Call.{Call, callOf}
@@ -29,7 +31,8 @@ use Rattle.ea_list.specs.Listing.{list}
 use Rattle.ea_lookup.specs.declared.Found.{Found}
 use Rattle.ea_lookup.specs.declared.Found.the-variants.{Absent as FoundAbsent, Refused as FoundRefused}
 use Rattle.ea_lookup.specs.Lookup.{slotPath, lookup}
-use Rattle.ea_lookup.specs.Found.{foundOf, Answered, Agreed}
+use Rattle.ea_lookup.specs.Door.{foundOf}
+use Rattle.ea_lookup.specs.Found.{Answered, Agreed}
 use Rattle.ea_lookup.proofs.Looking.{lookup-answers, lookup-agrees}
 use Rattle.ea_lookup.proofs.Ways.{refusal-found}
 

@@ -13,8 +13,7 @@ use Rattle.refusal.proofs.Tests.{refused-passed, then-first}
 use Rattle.refusal.proofs.Outcomes.{yields-inv, yields-passed, yields-refused}
 use Rattle.checksum.specs.Lookup3.{lookup3}
 use Rattle.chunk_grid.specs.Grid.{Grid, gridTest, isChunk}
-use Rattle.chunk_grid.specs.Shapes.{givenBytes}
-use Rattle.chunk_grid.specs.Values.{given}
+use Rattle.chunk_grid.specs.Shapes.{givenBytes, given}
 use Rattle.chunk_grid.proofs.Grids.{accepted as grid-accepted}
 use Rattle.ea_header.specs.declared.ExtensibleArrayHeader.{ExtensibleArrayHeader}
 use Rattle.ea_header.specs.Header.{headerAt, headerTest}
@@ -29,8 +28,8 @@ use Rattle.ea_list.proofs.Doors.{call-is}
 use Rattle.ea_lookup.specs.declared.Found.{Found}
 use Rattle.ea_lookup.specs.declared.Found.the-variants.{Refused as FoundRefused}
 use Rattle.ea_lookup.specs.Lookup.{lookup, Answers, Agrees}
-use Rattle.ea_lookup.specs.Found.{foundOf, Answered, Agreed}
-use Rattle.ea_lookup.specs.Door.{lookupAt}
+use Rattle.ea_lookup.specs.Door.{foundOf, lookupAt}
+use Rattle.ea_lookup.specs.Found.{Answered, Agreed}
 use Rattle.ea_lookup.proofs.Looking.{lookup-answers, lookup-agrees}
 use Rattle.ea_lookup.proofs.Ways.{refusal-found}
 use Rattle.ea_lookup.proofs.Calls.{lookup-refused}

@@ -14,7 +14,8 @@ use Rattle.refusal.specs.Refusals.{largest64, refuse, _then_}
 use Rattle.refusal.specs.Outcome.{Outcome, accepted}
 use Rattle.refusal.proofs.Tests.{by-cond, then-inv, refuse-inv}
 use Rattle.refusal.proofs.Outcomes.{yields-inv, yields-passed}
-use Rattle.chunk_grid.specs.Grid.{gridTest, cornerTest, isChunk, slotOf, chunkAt}
+use Rattle.chunk_grid.specs.Grid.{gridTest, cornerTest, isChunk, slotOf}
+use Rattle.chunk_grid.specs.Chunks.{chunkAt}
 use Rattle.chunk_grid.specs.declared.Slot.{Slot}
 use Rattle.chunk_grid.specs.declared.Slot.the-variants.{At, NoSlot}
 use Rattle.chunk_grid.proofs.Grids.{Accepted, accepted as grid-accepted}
@@ -22,7 +23,8 @@ use Rattle.chunk_grid.proofs.Chunks.{slot-chunk-at}
 use Rattle.ea_elements.specs.declared.Entry.{Entry}
 use Rattle.ea_blocks.specs.Call.{Call}
 use Rattle.ea_elements.specs.Elements.{Rec}
-use Rattle.ea_elements.specs.Places.{recordOf, recordAt, path}
+use Rattle.ea_elements.specs.SlotRecords.{recordOf, recordAt}
+use Rattle.ea_elements.specs.Places.{path}
 use Rattle.ea_elements.proofs.Elements.{some-is}
 use Rattle.ea_elements.proofs.Paths.{path-record}
 use Rattle.ea_walk.specs.Walk.{walk}

@@ -23,8 +23,7 @@ use Rattle.ea_elements.specs.Places.{reached, pointerTest, answerOf, tested, pa
 use Rattle.ea_list.specs.Door.{refusedNumbers, picked}
 use Rattle.ea_list.proofs.Numbered.{NumberedElement, width-numbered, header-numbered, grid-numbered, served-numbered, test-numbered, element-numbered}
 use Rattle.ea_lookup.specs.Lookup.{slotPath, lookup}
-use Rattle.ea_lookup.specs.Found.{foundOf}
-use Rattle.ea_lookup.specs.Door.{lookupAt, foundNumbers, lookupNumbers}
+use Rattle.ea_lookup.specs.Door.{foundOf, lookupAt, foundNumbers, lookupNumbers}
 
 module _ (c : Call) where
   pointer-numbered : (p : Place) → Numbered (pointerTest c p)

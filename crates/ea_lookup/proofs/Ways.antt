@@ -22,7 +22,7 @@ use Rattle.ea_geometry.specs.declared.Place.the-variants.{Nowhere}
 use Rattle.ea_geometry.proofs.Places.{place-is, place-inline, page-below}
 use Rattle.ea_geometry.proofs.Positions.{element-inside, paged-element-inside, inline-element-inside, direct-pointers-inside, super-pointers-inside}
 use Rattle.ea_header.specs.declared.ExtensibleArrayHeader.{ExtensibleArrayHeader}
-use Rattle.ea_header.specs.Served.{Served}
+use Rattle.ea_header.specs.Values.{Served}
 use Rattle.ea_count.specs.Values.{Walks}
 use Rattle.ea_elements.specs.declared.Entry.{Entry}
 use Rattle.ea_elements.specs.declared.Element.{Element}
@@ -45,7 +45,8 @@ use Rattle.fields.proofs.Widths.{width-le}
 use Rattle.fields.proofs.Fields.{width-is}
 use Rattle.ea_lookup.specs.declared.Found.the-variants.{Chunk as FoundChunk, Absent as FoundAbsent, Refused as FoundRefused}
 use Rattle.ea_lookup.specs.declared.paths.Way.the-variants.{Absent as WayAbsent, To, Refused as WayRefused}
-use Rattle.ea_lookup.specs.Found.{foundOf, wayTo, WayTo}
+use Rattle.ea_lookup.specs.Door.{foundOf}
+use Rattle.ea_lookup.specs.Found.{wayTo, WayTo}
 
 -- the answers of an element
 module _ (e : Element) (corner : List ℕ) where

@@ -3,7 +3,7 @@ use Prim.Native.Nat.{ℕ, _<_}
 use mathlib.Core.Path.{_≡_}
 use mathlib.Core.Bool.{true, false}
 use mathlib.Core.List.{List}
-use mathlib.Core.Option.{Option, none, some}
+use mathlib.Core.Option.{Option}
 use Rattle.refusal.specs.declared.Checked.the-variants.{Passed}
 use Rattle.refusal.specs.Outcome.{Outcome, refused, accepted, _yields_}
 use Rattle.fields.specs.Fields.{widthTest}
@@ -16,16 +16,10 @@ use Rattle.ea_blocks.specs.Structures.{Structure}
 use Rattle.ea_blocks.specs.Entered.{EnteredSuper, EnteredBlock}
 use Rattle.ea_elements.specs.Places.{blockReached, leading, tested}
 use Rattle.ea_lookup.specs.Lookup.{Answers, Agrees}
+use Rattle.ea_lookup.specs.Door.{foundOf}
 use Rattle.ea_lookup.specs.declared.Found.{Found}
-use Rattle.ea_lookup.specs.declared.Found.the-variants.{Chunk, Absent, Refused}
 use Rattle.ea_lookup.specs.declared.paths.Way.{Way}
 use Rattle.ea_lookup.specs.declared.paths.Way.the-variants.{Absent as WayAbsent, To, Refused as WayRefused}
-
--- It answers record or absent. The record's corner is the one that was asked for.
-unfoldable pub foundOf : Outcome (Option Rec) → Found
-foundOf (refused r) = Refused r
-foundOf (accepted none) = Absent
-foundOf (accepted (some r)) = Chunk (r .entry)
 
 -- What an accepted lookup says of what was found.
 abbrev pub Answered : Outcome (Option Rec) → Call → List ℕ → Found → Type 0

@@ -14,7 +14,7 @@ use Rattle.refusal.specs.declared.Checked.the-variants.{Passed, Refused}
 use Rattle.refusal.proofs.Tests.{false-true, then-inv}
 use Rattle.fields.specs.Fields.{isWidth}
 use Rattle.ea_header.specs.declared.ExtensibleArrayHeader.{ExtensibleArrayHeader}
-use Rattle.ea_header.specs.Served.{Served}
+use Rattle.ea_header.specs.Values.{Served}
 use Rattle.ea_geometry.specs.declared.EaGeometry.{EaGeometry}
 use Rattle.ea_geometry.specs.Bounded.{Bounded}
 use Rattle.ea_geometry.specs.Sizes.{superBlocks, blocks, directSuperBlocks, blocksBefore}
@@ -24,7 +24,8 @@ use Rattle.refusal.specs.declared.Counted.{Counted}
 use Rattle.ea_blocks.specs.declared.enter.Entered.the-variants.{Absent, At, Refused as EnteredRefused}
 use Rattle.ea_blocks.specs.Call.{Call}
 use Rattle.ea_blocks.specs.Structures.{isDirect, superAt, blockUndefined}
-use Rattle.refusal.specs.Outcome.{countedOf, plus}
+use Rattle.refusal.specs.Outcome.{countedOf}
+use Rattle.refusal.specs.Values.{plus}
 use Rattle.refusal.proofs.Counts.{answered, plus-zero, plus-none, plus-also}
 use Rattle.ea_blocks.proofs.StructureTests.{super-seen, not-direct}
 use Rattle.ea_spans.specs.Spans.{superSpan, blockSpan}

@@ -15,7 +15,7 @@ use Rattle.fields.specs.Fields.{undefined}
 use Rattle.chunk_grid.specs.Grid.{Grid}
 use Rattle.ea_header.specs.declared.ExtensibleArrayHeader.{ExtensibleArrayHeader}
 use Rattle.ea_header.specs.Header.{headerAt}
-use Rattle.ea_header.specs.Served.{Served}
+use Rattle.ea_header.specs.Values.{Served}
 use Rattle.ea_geometry.specs.Sizes.{superBlocks, blocks, blockElements, directSuperBlocks, pageElements, overPage, pages}
 use Rattle.ea_geometry.specs.Extents.{elementAt, dataExtent, pagedHeadExtent, pageExtent, pageAt, pagedExtent, blockElementAt}
 use Rattle.ea_geometry.specs.Place.{inPages, place}

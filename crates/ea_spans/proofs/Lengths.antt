@@ -12,7 +12,7 @@ use Rattle.refusal.specs.Outcome.{refused, accepted, _yields_, also, countedOf}
 use Rattle.refusal.proofs.Tests.{by-cond}
 use Rattle.refusal.proofs.Outcomes.{yields-inv, also-inv}
 use Rattle.fields.specs.Fields.{undefined}
-use Rattle.ea_header.specs.Served.{Served}
+use Rattle.ea_header.specs.Values.{Served}
 use Rattle.ea_geometry.specs.Sizes.{superBlocks, blocks, blocksBefore}
 use Rattle.ea_geometry.proofs.Counts.{supers-few, blocks-before-few}
 use Rattle.refusal.specs.declared.Counted.the-variants.{Count, Refused as CountedRefused}

@@ -14,7 +14,7 @@ use Rattle.fields.specs.Fields.{isWidth}
 use Rattle.checksum.specs.Lookup3.{lookup3}
 use Rattle.ea_header.specs.declared.ExtensibleArrayHeader.{ExtensibleArrayHeader}
 use Rattle.ea_header.specs.Header.{headerBytes, headerAt}
-use Rattle.ea_header.specs.Served.{Served}
+use Rattle.ea_header.specs.Values.{Served}
 use Rattle.ea_header.proofs.Header.{passed-is}
 use Rattle.ea_header.proofs.Served.{tested-serves}
 use Rattle.ea_geometry.specs.declared.EaGeometry.{EaGeometry}

@@ -17,7 +17,7 @@ use Rattle.refusal.proofs.Tests.{by-cond, lt-or-ge, both}
 use Rattle.refusal.proofs.Outcomes.{never, yields-inv, also-inv}
 use Rattle.fields.specs.Fields.{widthTest}
 use Rattle.ea_header.specs.declared.ExtensibleArrayHeader.{ExtensibleArrayHeader}
-use Rattle.ea_header.specs.Served.{Served}
+use Rattle.ea_header.specs.Values.{Served}
 use Rattle.ea_header.proofs.Served.{tested-serves}
 use Rattle.ea_geometry.specs.Sizes.{superBlocks, blocks, blockElements, pageElements, directSuperBlocks, overPage, pages}
 use Rattle.ea_geometry.specs.Extents.{elementStride, elementAt, inlineElementAt, blockElementAt, pagedElementAt, pageAt}
@@ -31,7 +31,8 @@ use Rattle.ea_elements.specs.declared.Element.the-variants.{Absent, Chunk, Refu
 use Rattle.ea_blocks.specs.Call.{Call}
 use Rattle.ea_elements.specs.Elements.{Rec, element}
 use Rattle.ea_blocks.specs.Structures.{dataBlock, dataPage, testOf, indexAt, isDirect, blockAt, dataPageAt, superUndefined, blockUndefined, pageSet}
-use Rattle.ea_elements.specs.Places.{positionOf, answerOf, recordAt, with, records, path}
+use Rattle.ea_elements.specs.Places.{positionOf, answerOf, path}
+use Rattle.ea_elements.specs.SlotRecords.{recordAt, with, records}
 use Rattle.ea_elements.proofs.Paths.{Leads, Misses, Ready, missed, led, no-super, no-block, in-block, in-clear, in-page, in-index, no-place}
 use Rattle.ea_elements.specs.Runs.{Listing, alsoElement, elements}
 use Rattle.ea_walk.specs.Walk.{pagesFrom, block, blocksFrom, supers, behindInline, walk}

@@ -2,8 +2,7 @@
 use Rattle.refusal.specs.Refusals.{figure, refuse, _then_}
 use Rattle.refusal.specs.Outcome.{_yields_, inRoom, also}
 use Rattle.fields.specs.LittleEndian.{leValue, leAt, leBytes}
-use Rattle.fields.specs.Numbers.{sizeTest}
-use Rattle.fields.specs.Fields.{isWidth, widthTest, inFile, undefined, addressAt, undefinedAt}
+use Rattle.fields.specs.Fields.{sizeTest, isWidth, widthTest, inFile, undefined, addressAt, undefinedAt}
 use Rattle.checksum.specs.Trailing.{trailingTest}
 use Rattle.chunk_grid.specs.Grid.{pairwise, every, any, ceilDiv, countOf, counts, firstUnlimited, leadingIn, leading, toFront, fromFront, ordered, multiplier, multipliers, hasZero, numbersNothing, quotients, offsets, overflows, below, offsetsTest, insideOr, inExtent, aligned, isChunk, cornerTest, total, slotFrom, slotOf, shapesTest, multiplierTest, productTest, gridTest}
 use Rattle.ea_header.specs.Log.{log2In}

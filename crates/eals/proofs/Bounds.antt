@@ -14,8 +14,7 @@ use Rattle.refusal.specs.declared.Checked.the-variants.{Passed, Refused as Chec
 use Rattle.refusal.specs.Refusals.{refuse}
 use Rattle.refusal.specs.Outcome.{refused, accepted, _yields_, inRoom, countedOf}
 use Rattle.refusal.proofs.Tests.{by-cond, both}
-use Rattle.chunk_grid.specs.Shapes.{givenBytes}
-use Rattle.chunk_grid.specs.Values.{given}
+use Rattle.chunk_grid.specs.Shapes.{givenBytes, given}
 use Rattle.chunk_grid.proofs.Shapes.{length-numbers}
 use Rattle.refusal.specs.declared.Counted.{Counted}
 use Rattle.ea_records.specs.Records.{recordLength}

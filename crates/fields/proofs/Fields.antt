@@ -13,7 +13,8 @@ use Rattle.refusal.specs.declared.Checked.the-variants.{Passed, Refused}
 use Rattle.refusal.specs.Refusals.{figure, largest64}
 use Rattle.fields.specs.declared.bytes.Field.the-variants.{Value, Refused as FieldRefused}
 use Rattle.fields.specs.declared.bytes.OptionalOffset.the-variants.{Undefined, At, Refused as OptionalRefused}
-use Rattle.fields.specs.Fields.{isWidth, widthTest, inFile, fieldTest, sizeFieldTest, fieldAfter, optionalAfter, undefined}
+use Rattle.fields.specs.Fields.{isWidth, widthTest, inFile, undefined}
+use Rattle.fields.specs.Values.{fieldTest, sizeFieldTest, fieldAfter, optionalAfter}
 use Rattle.refusal.proofs.Tests.{lt-or-ge, refuse-false, refuse-true, refuse-inv, then-second, then-first, then-inv}
 
 module _ (s : List ℕ) (pos len : ℕ) where

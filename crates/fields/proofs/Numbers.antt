@@ -13,7 +13,8 @@ use Rattle.refusal.specs.declared.Checked.the-variants.{Passed, Refused}
 use Rattle.refusal.specs.Refusals.{refuse, figure, largest64}
 use Rattle.fields.specs.declared.convert.Exact.the-variants.{Fits, Overflows}
 use Rattle.fields.specs.declared.convert.Narrowed.the-variants.{Value, Refused as NarrowedRefused}
-use Rattle.fields.specs.Numbers.{exact, sizeTest, narrowedAfter, narrowed}
+use Rattle.fields.specs.Values.{exact, narrowedAfter, narrowed}
+use Rattle.fields.specs.Fields.{sizeTest}
 
 pub fits : (n : ℕ) → n ≤ largest64 → Fits n ≡ exact n
 unfolding exact

@@ -1,17 +1,12 @@
 -- Fields of a file: addresses, lengths and sizes of a given width.
 use Prim.Native.Nat.{ℕ, _+_, _-_, _*_, _^_}
-use mathlib.Core.Bool.{Bool, not, cond, _&&_, _||_}
+use mathlib.Core.Bool.{Bool, not, _&&_, _||_}
 use mathlib.Core.List.{List}
 use lib.Dec.{eqb, ltb}
 use lib.ListN.{length}
 use Rattle.refusal.specs.declared.Checked.{Checked}
-use Rattle.refusal.specs.declared.Checked.the-variants.{Passed, Refused}
-use Rattle.refusal.specs.Refusals.{refuse, _then_, figure}
+use Rattle.refusal.specs.Refusals.{refuse, figure}
 use Rattle.fields.specs.LittleEndian.{leAt}
-use Rattle.fields.specs.declared.bytes.Field.{Field}
-use Rattle.fields.specs.declared.bytes.Field.the-variants.{Value, Refused as FieldRefused}
-use Rattle.fields.specs.declared.bytes.OptionalOffset.{OptionalOffset}
-use Rattle.fields.specs.declared.bytes.OptionalOffset.the-variants.{Undefined, At, Refused as OptionalRefused}
 
 -- Offset and length sizes are 2, 4 or 8 bytes ..
 unfoldable pub isWidth : ℕ → Bool
@@ -38,32 +33,6 @@ addressAt s pos o = leAt s pos o
 unfoldable pub undefinedAt : List ℕ → ℕ → ℕ → Bool
 undefinedAt s pos o = undefined o (addressAt s pos o)
 
--- An offset or length (number 1 or 2) is read where its width is right and it lies in the file.
-unfoldable pub fieldTest : ℕ → List ℕ → ℕ → ℕ → Checked
-fieldTest number s pos w = widthTest number w then inFile s pos w
-
--- A size field has a width of its own, 0 to 8 bytes; over 8 is 29.
-unfoldable pub sizeFieldTest : List ℕ → ℕ → ℕ → Checked
-sizeFieldTest s pos w = refuse 29 0 0 (ltb 8 w) then inFile s pos w
-
--- what is read after such a test
-unfoldable pub fieldAfter : Checked → ℕ → Field
-fieldAfter Passed n = Value n
-fieldAfter (Refused r) n = FieldRefused r
-
-unfoldable pub optionalAfter : Checked → Bool → ℕ → OptionalOffset
-optionalAfter Passed b a = cond b Undefined (At a)
-optionalAfter (Refused r) b a = OptionalRefused r
-
--- an address, an address that may be undefined, a length, a size
-unfoldable pub offsetField : List ℕ → ℕ → ℕ → Field
-offsetField s pos o = fieldAfter (fieldTest 1 s pos o) (addressAt s pos o)
-
-unfoldable pub optionalOffsetField : List ℕ → ℕ → ℕ → OptionalOffset
-optionalOffsetField s pos o = optionalAfter (fieldTest 1 s pos o) (undefinedAt s pos o) (addressAt s pos o)
-
-unfoldable pub lengthField : List ℕ → ℕ → ℕ → Field
-lengthField s pos l = fieldAfter (fieldTest 2 s pos l) (leAt s pos l)
-
-unfoldable pub sizeField : List ℕ → ℕ → ℕ → Field
-sizeField s pos w = fieldAfter (sizeFieldTest s pos w) (leAt s pos w)
+-- A size over 2^32 − 1 is 30 with the size.
+unfoldable pub sizeTest : ℕ → Checked
+sizeTest n = refuse 30 (figure n) 0 (ltb (2 ^ 32 - 1) n)

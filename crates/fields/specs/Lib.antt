@@ -1,3 +1,3 @@
 pub mod LittleEndian
-pub mod Numbers
 pub mod Fields
+pub mod Values

@@ -2,7 +2,7 @@
 ghost use mathlib.Core.Path.{_≡_};
 ghost use Prim.Native.Nat.{_+_, _*_};
 ghost use Rattle.refusal.specs.Refusals.{figure};
-ghost use Rattle.fields.specs.Numbers.{exact, narrowed};
+ghost use Rattle.fields.specs.Values.{exact, narrowed};
 use refusal::Refusal;
 
 // A sum or product where 64 bits hold it.

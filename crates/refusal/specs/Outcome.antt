@@ -1,5 +1,5 @@
 -- What a call comes to.
-use Prim.Native.Nat.{ℕ, _+_}
+use Prim.Native.Nat.{ℕ}
 use mathlib.Core.List.{List, _∷_}
 use lib.Dec.{ltb}
 use lib.ListN.{length}
@@ -35,8 +35,3 @@ inRoom (accepted l) room = refuse 9 (length l) 0 (ltb room (length l)) yields ac
 unfoldable pub countedOf : {A : Type 0} → Outcome (List A) → Counted
 countedOf (refused r) = CountedRefused r
 countedOf (accepted l) = Count (length l)
-
--- the same, behind n that are counted already
-unfoldable pub plus : {A : Type 0} → ℕ → Outcome (List A) → Counted
-plus n (refused r) = CountedRefused r
-plus n (accepted l) = Count (n + length l)

@@ -2,8 +2,7 @@
 use borrow.Author.Needs.{needs}
 use Prim.Native.Nat.{ℕ}
 use mathlib.Core.Path.{_≡_, ap, _∙_}
-use Rattle.chunk_grid.specs.Values.{given}
-use Rattle.chunk_grid.specs.Shapes.{givenBytes}
+use Rattle.chunk_grid.specs.Shapes.{given, givenBytes}
 use Rattle.ea_list.specs.Door.{doorGrid, picked}
 use Rattle.ea_lookup.specs.declared.Found.{Found}
 use Rattle.ea_lookup.specs.Door.{foundNumbers}

@@ -1,7 +1,7 @@
 -- `chunk_grid::leading` meets its contract. Assumes nothing.
 use Rattle.chunk_grid.proofs.Building.{leads-first, leads-none}
 use Rattle.chunk_grid.specs.Grid.{leadingIn}
-use Rattle.chunk_grid.specs.Values.{isUnlimitedFirst}
+use Rattle.chunk_grid.specs.Shapes.{isUnlimitedFirst}
 use borrow.Author.Needs.{needs}
 use Rattle.chunk_grid.proofs.leading.Statement.{statement}
 use Rattle.chunk_grid.proofs.leading.Tie as tie

@@ -1,6 +1,7 @@
 -- `chunk_grid::corner_test` meets its contract. Assumes nothing.
 use borrow.Author.Tests.{lt-ltb, eq-eqb}
-use Rattle.chunk_grid.specs.Values.{gridOf, given}
+use Rattle.chunk_grid.specs.Values.{gridOf}
+use Rattle.chunk_grid.specs.Shapes.{given}
 use Rattle.chunk_slots.proofs.Corners.{other-rank, corner-small, corner-pos, aligned-step, below-step, unaligned-here, outside-here, passes}
 use borrow.Author.Needs.{needs}
 use Prim.Native.Nat.{_-_, _≤_}

@@ -1,7 +1,7 @@
 -- `ea_geometry_check::compare_header` is safe and ends. Assumes nothing.
 use mathlib.Core.Path.{sym, _∙_}
 use borrow.Author.Tests.{not-false}
-use Rattle.ea_header.specs.Served.{Served}
+use Rattle.ea_header.specs.Values.{Served}
 use Rattle.ea_header.proofs.Served.{serves}
 use borrow.Author.Needs.{needs}
 use Rattle.ea_geometry_check.proofs.compare_header.Statement.{statement}

@@ -8,7 +8,8 @@ use lib.ListN.{getD}
 use Rattle.refusal.specs.declared.Checked.the-variants.{Passed}
 use Rattle.refusal.specs.Refusals.{largest64}
 use Rattle.chunk_grid.specs.Grid.{gridTest}
-use Rattle.chunk_grid.specs.Values.{given, gridOf}
+use Rattle.chunk_grid.specs.Shapes.{given}
+use Rattle.chunk_grid.specs.Values.{gridOf}
 use Rattle.chunk_grid.proofs.Grids.{accepted as grid-accepted}
 use Rattle.ea_blocks.specs.Call.{Call, callOf}
 use Rattle.ea_elements.specs.Elements.{chunkBytes}

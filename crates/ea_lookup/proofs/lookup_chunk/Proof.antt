@@ -4,7 +4,8 @@ use mathlib.Core.Path.{_≡_, sym, _∙_}
 use lib.ListN.{length}
 use Rattle.refusal.specs.declared.Checked.the-variants.{Passed}
 use Rattle.refusal.specs.Refusals.{largest64}
-use Rattle.chunk_grid.specs.Values.{given, gridOf, Numbers, Counted, Extents}
+use Rattle.chunk_grid.specs.Shapes.{given}
+use Rattle.chunk_grid.specs.Values.{gridOf, Numbers, Counted, Extents}
 use Rattle.ea_geometry.specs.declared.EaGeometry.{EaGeometry}
 use Rattle.ea_blocks.specs.Call.{Call, callOf}
 use Rattle.ea_blocks.proofs.StructureTests.{index-seen}

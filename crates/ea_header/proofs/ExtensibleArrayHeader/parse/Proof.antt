@@ -2,7 +2,7 @@
 use mathlib.Core.Path.{sym, _∙_}
 use borrow.Author.Needs.{needs}
 use Rattle.checksum.specs.Lookup3.{lookup3}
-use Rattle.ea_header.specs.Header.{parsedAt}
+use Rattle.ea_header.specs.Values.{parsedAt}
 use Rattle.ea_header.proofs.Header.{passed-is, header-after, refused-after}
 use Rattle.ea_header.proofs.ExtensibleArrayHeader.parse.Statement.{statement}
 use Rattle.ea_header.proofs.ExtensibleArrayHeader.parse.Tie as tie

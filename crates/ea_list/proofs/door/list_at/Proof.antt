@@ -4,9 +4,10 @@ use mathlib.Core.Path.{_≡_, sym, ap, _∙_}
 use Rattle.refusal.specs.declared.Checked.the-variants.{Passed}
 use Rattle.checksum.specs.Lookup3.{lookup3}
 use Rattle.chunk_grid.specs.Grid.{Grid, gridTest}
-use Rattle.chunk_grid.specs.Shapes.{givenBytes}
-use Rattle.chunk_grid.specs.Values.{given, gridOf, whereTested}
-use Rattle.ea_header.specs.Header.{headerAt, headerTest, parsedAt}
+use Rattle.chunk_grid.specs.Shapes.{givenBytes, given}
+use Rattle.chunk_grid.specs.Values.{gridOf, whereTested}
+use Rattle.ea_header.specs.Header.{headerAt, headerTest}
+use Rattle.ea_header.specs.Values.{parsedAt}
 use Rattle.ea_header.proofs.Header.{header-is, refused-is}
 use Rattle.ea_elements.specs.Runs.{Listing}
 use Rattle.refusal.specs.Outcome.{countedOf}

@@ -10,7 +10,8 @@ use Rattle.chunk_grid.specs.Grid.{Grid, gridTest}
 use Rattle.chunk_grid.specs.Shapes.{shapeOf}
 use Rattle.chunk_grid.specs.Values.{gridOf, whereTested}
 use Rattle.chunk_grid.proofs.Shapes.{stored-shape}
-use Rattle.ea_header.specs.Header.{headerAt, headerTest, parsedAt}
+use Rattle.ea_header.specs.Header.{headerAt, headerTest}
+use Rattle.ea_header.specs.Values.{parsedAt}
 use Rattle.ea_header.proofs.Header.{header-is, refused-is}
 use Rattle.ea_list.specs.Door.{doorGrid}
 use Rattle.ea_lookup.proofs.Doors.{door-small, header-refused, grid-refused, grid-agrees, call-found, call-agrees, all-at}

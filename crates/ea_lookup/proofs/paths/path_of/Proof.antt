@@ -5,7 +5,7 @@ use Rattle.ea_geometry.specs.declared.Place.{Place}
 use Rattle.ea_geometry.specs.Slots.{PlaceOf}
 use Rattle.ea_geometry.proofs.Places.{place-of}
 use Rattle.ea_elements.specs.Places.{path}
-use Rattle.ea_lookup.specs.Found.{foundOf}
+use Rattle.ea_lookup.specs.Door.{foundOf}
 use Rattle.ea_lookup.proofs.Ways.{nowhere-found}
 use borrow.Author.Needs.{needs}
 use Rattle.ea_lookup.proofs.paths.path_of.Statement.{statement}

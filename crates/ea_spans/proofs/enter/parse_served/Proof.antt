@@ -5,7 +5,8 @@ use Rattle.refusal.proofs.Tests.{then-second, then-first}
 use Rattle.checksum.specs.Lookup3.{lookup3}
 use Rattle.ea_header.specs.declared.Parsed.the-variants.{Header}
 use Rattle.ea_header.specs.Served.{servedTest}
-use Rattle.ea_header.specs.Header.{headerAt, headerTest, parsedAt}
+use Rattle.ea_header.specs.Header.{headerAt, headerTest}
+use Rattle.ea_header.specs.Values.{parsedAt}
 use Rattle.ea_header.proofs.Header.{header-after, refused-after, header-is, refused-is}
 use Rattle.ea_spans.specs.Spans.{spanTest, headerSpan}
 use Rattle.ea_spans.specs.Walk.{headTest}

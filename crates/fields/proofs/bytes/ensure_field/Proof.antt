@@ -1,7 +1,7 @@
 -- `fields::bytes::ensure_field` meets its contract. Assumes nothing.
 use mathlib.Core.Path.{sym, _∙_}
 use borrow.Author.Needs.{needs}
-use Rattle.fields.specs.Fields.{fieldTest}
+use Rattle.fields.specs.Values.{fieldTest}
 use Rattle.refusal.proofs.Tests.{then-second, then-first}
 use Rattle.fields.proofs.bytes.ensure_field.Statement.{statement}
 use Rattle.fields.proofs.bytes.ensure_field.Tie as tie

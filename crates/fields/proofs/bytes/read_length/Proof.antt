@@ -1,7 +1,7 @@
 -- `fields::bytes::read_length` meets its contract. Assumes nothing.
 use mathlib.Core.Path.{sym, _∙_}
 use borrow.Author.Needs.{needs}
-use Rattle.fields.specs.Fields.{lengthField}
+use Rattle.fields.specs.Values.{lengthField}
 use Rattle.fields.proofs.Fields.{value-after, refused-after, field-is}
 use Rattle.fields.proofs.Widths.{width-le}
 use Rattle.fields.proofs.bytes.read_length.Statement.{statement}

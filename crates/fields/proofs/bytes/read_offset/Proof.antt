@@ -1,7 +1,7 @@
 -- `fields::bytes::read_offset` meets its contract. Assumes nothing.
 use mathlib.Core.Path.{sym, _∙_}
 use borrow.Author.Needs.{needs}
-use Rattle.fields.specs.Fields.{offsetField}
+use Rattle.fields.specs.Values.{offsetField}
 use Rattle.fields.proofs.Fields.{value-after, refused-after, field-is}
 use Rattle.fields.proofs.bytes.read_offset.Statement.{statement}
 use Rattle.fields.proofs.bytes.read_offset.Tie as tie

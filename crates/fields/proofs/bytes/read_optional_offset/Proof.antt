@@ -2,7 +2,8 @@
 use mathlib.Core.Path.{_≡_, ap, sym, _∙_}
 use borrow.Author.Needs.{needs}
 use Rattle.refusal.specs.declared.Checked.the-variants.{Passed}
-use Rattle.fields.specs.Fields.{undefined, undefinedAt, optionalOffsetField, fieldTest}
+use Rattle.fields.specs.Fields.{undefined, undefinedAt}
+use Rattle.fields.specs.Values.{optionalOffsetField, fieldTest}
 use Rattle.fields.proofs.Fields.{undefined-after, at-after, optional-refused, field-is}
 use Rattle.fields.proofs.bytes.read_optional_offset.Statement.{statement}
 use Rattle.fields.proofs.bytes.read_optional_offset.Tie as tie

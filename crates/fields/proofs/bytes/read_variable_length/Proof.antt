@@ -2,7 +2,7 @@
 use mathlib.Core.Path.{sym, _∙_}
 use native.Mathlib.Omega.{arith}
 use borrow.Author.Needs.{needs}
-use Rattle.fields.specs.Fields.{sizeField}
+use Rattle.fields.specs.Values.{sizeField}
 use Rattle.fields.proofs.Fields.{value-after, refused-after, inside, over-eight, to-eight}
 use Rattle.fields.proofs.bytes.read_variable_length.Statement.{statement}
 use Rattle.fields.proofs.bytes.read_variable_length.Tie as tie
