@@ -28,11 +28,11 @@ use Rattle.refusal.specs.Outcome.{countedOf}
 use Rattle.refusal.specs.Values.{plus}
 use Rattle.refusal.proofs.Counts.{answered, plus-zero, plus-none, plus-also}
 use Rattle.ea_blocks.proofs.StructureTests.{super-seen, not-direct}
-use Rattle.ea_spans.specs.Spans.{superSpan, blockSpan}
-use Rattle.ea_spans.specs.Walk.{superTest, blocksFrom, supersFrom}
+use Rattle.span_walk.specs.Spans.{superSpan, blockSpan}
+use Rattle.span_walk.specs.Walk.{superTest, blocksFrom, supersFrom}
 use Rattle.ea_spans.specs.Values.{callAt, EnteredSpan}
 use Rattle.ea_spans.proofs.Tests.{seen}
-use Rattle.ea_spans.proofs.Turns.{behindSuper, supers-none, supers-direct, supers-undefined, supers-refused, supers-tested, blocks-none, blocks-undefined, blocks-defined}
+use Rattle.span_walk.proofs.Turns.{behindSuper, supers-none, supers-direct, supers-undefined, supers-refused, supers-tested, blocks-none, blocks-undefined, blocks-defined}
 
 -- the data blocks up to data block k of super block u, and the super blocks up to u, are few
 pub few-enough : (h : ExtensibleArrayHeader) → Served h → (u k : ℕ) → u < superBlocks h → k ≤ blocks u → u + 1 + (blocksBefore u + k) < 2 ^ 34

@@ -19,9 +19,9 @@ use Rattle.refusal.specs.declared.Counted.the-variants.{Count, Refused as Count
 use Rattle.ea_blocks.specs.Call.{Call}
 use Rattle.ea_blocks.specs.Structures.{indexAt, isDirect, superUndefined, blockUndefined}
 use Rattle.refusal.proofs.Counts.{counted-inv, refused-inv}
-use Rattle.ea_spans.specs.declared.Span.{Span}
-use Rattle.ea_spans.specs.Spans.{indexSpan}
-use Rattle.ea_spans.specs.Walk.{Spanning, indexTest, blocksFrom, supersFrom, indexSpans}
+use Rattle.span_walk.specs.declared.Span.{Span}
+use Rattle.span_walk.specs.Spans.{indexSpan}
+use Rattle.span_walk.specs.Walk.{Spanning, indexTest, blocksFrom, supersFrom, indexSpans}
 
 -- a count, or a refusal, with one span more
 pub counted-more : (s : Span) (a : Spanning) (n : ℕ) → Count n ≡ countedOf a → Count (n + 1) ≡ countedOf (also s a)

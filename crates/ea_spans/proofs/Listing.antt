@@ -1,7 +1,6 @@
 -- The listing's answer and lists, one law for each way that it ends. Assumes nothing.
-use Prim.Native.Nat.{ℕ, _+_, _^_, _<_, _≤_}
+use Prim.Native.Nat.{ℕ, _^_, _<_}
 use mathlib.Core.Path.{_≡_, refl, sym}
-use mathlib.Core.Bool.{true}
 use mathlib.Core.List.{List}
 use native.Mathlib.Omega.{arith}
 use lib.ListN.{length}
@@ -9,19 +8,14 @@ use Rattle.refusal.specs.declared.Refusal.{Refusal}
 use Rattle.refusal.specs.declared.Checked.the-variants.{Passed, Refused}
 use Rattle.refusal.specs.Refusals.{figure}
 use Rattle.refusal.specs.Outcome.{refused, _yields_, also, countedOf}
-use Rattle.refusal.proofs.Tests.{then-passed}
-use Rattle.fields.specs.Fields.{isWidth}
-use Rattle.checksum.specs.Lookup3.{lookup3}
 use Rattle.ea_header.specs.declared.ExtensibleArrayHeader.{ExtensibleArrayHeader}
 use Rattle.ea_header.specs.Header.{headerBytes, headerAt}
-use Rattle.ea_header.specs.Values.{Served}
-use Rattle.ea_header.proofs.Header.{passed-is}
-use Rattle.ea_header.proofs.Served.{tested-serves}
 use Rattle.ea_geometry.specs.declared.EaGeometry.{EaGeometry}
 use Rattle.refusal.specs.declared.Counted.{Counted}
 use Rattle.refusal.specs.declared.Counted.the-variants.{Refused as CountedRefused}
-use Rattle.ea_spans.specs.Spans.{headerSpan}
-use Rattle.ea_spans.specs.Walk.{Spanning, indexSpans, headTest, spans}
+use Rattle.span_walk.specs.Spans.{headerSpan}
+use Rattle.span_walk.specs.Walk.{Spanning, indexSpans, headTest, spans}
+use Rattle.span_walk.proofs.Heads.{head-passed}
 use Rattle.ea_spans.specs.Values.{callAt}
 use Rattle.ea_spans.specs.Listing.{filled, addressOf, lengthOf}
 
@@ -39,14 +33,6 @@ module _ (f : List ℕ) (address o l : ℕ) where
   abbrev h : ExtensibleArrayHeader
   h = headerAt f address o l
 
-  pub head-passed : Passed ≡ headTest f address o l → (address + headerBytes o l ≤ length f) × (isWidth o ≡ true) × Served h
-  unfolding headTest
-  head-passed e =
-      let a = then-passed _ _ e in
-      let b = then-passed _ _ (a .1) in
-      let p = passed-is lookup3 f address o l (sym (b .0)) in
-      (p .0, p .1, tested-serves h (sym (b .1)))
-
   pub spans-refused : (r : Refusal) → Refused r ≡ headTest f address o l → spans f address o l ≡ refused r
   unfolding spans _yields_
   spans-refused r e = rw (sym e) refl
@@ -56,6 +42,6 @@ module _ (f : List ℕ) (address o l : ℕ) where
       → (n : ℕ) → n ≡ figure (headerBytes o l) → also (record { address = address; length = n }) (indexSpans (callAt f g)) ≡ spans f address o l
   unfolding spans _yields_ headerSpan figure
   spans-are e short x q g i j n s =
-      let p = head-passed e in
+      let p = head-passed f address o l e in
       let z : n ≡ headerBytes o l = omega (arith, p .0) in
       rw (sym e, z, i, j, q) refl

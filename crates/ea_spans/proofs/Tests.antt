@@ -9,14 +9,14 @@ use Rattle.refusal.specs.declared.Checked.the-variants.{Passed, Refused}
 use Rattle.refusal.specs.Refusals.{figure, largest64}
 use Rattle.refusal.proofs.Tests.{refuse-false, refuse-true}
 use Rattle.ea_header.specs.Header.{headerBytes}
-use Rattle.ea_spans.specs.declared.Span.{Span}
+use Rattle.span_walk.specs.declared.Span.{Span}
 use Rattle.ea_geometry.specs.declared.EaGeometry.{EaGeometry}
 use Rattle.ea_geometry.specs.Bounded.{Bounded}
 use Rattle.ea_geometry.specs.Extents.{indexExtent, superExtent}
 use Rattle.ea_geometry.proofs.Positions.{index-extent-few}
 use Rattle.ea_blocks.specs.Structures.{indexAt, superAt, blockAt}
 use Rattle.ea_blocks.specs.Values.{Sees}
-use Rattle.ea_spans.specs.Spans.{spanTest, headerSpan, indexSpan, superSpan, blockLength, blockSpan}
+use Rattle.span_walk.specs.Spans.{spanTest, headerSpan, indexSpan, superSpan, blockLength, blockSpan}
 use Rattle.ea_spans.specs.Values.{callAt}
 
 module _ (s : Span) where

@@ -22,12 +22,12 @@ use Rattle.ea_blocks.specs.Call.{Call}
 use Rattle.ea_blocks.specs.Structures.{indexAt, isDirect, superAt, superUndefined, blockUndefined}
 use Rattle.ea_blocks.specs.Values.{pointerOf}
 use Rattle.ea_blocks.proofs.Pointers.{pointer-undefined, pointer-at}
-use Rattle.ea_spans.specs.declared.Span.{Span}
-use Rattle.ea_spans.specs.Spans.{superSpan, blockSpan}
-use Rattle.ea_spans.specs.Walk.{Spanning, indexTest, superTest, blocksFrom, supersFrom, indexSpans}
+use Rattle.span_walk.specs.declared.Span.{Span}
+use Rattle.span_walk.specs.Spans.{superSpan, blockSpan}
+use Rattle.span_walk.specs.Walk.{Spanning, indexTest, superTest, blocksFrom, supersFrom, indexSpans}
 use Rattle.ea_spans.specs.Listing.{each, filled, addressOf, lengthOf}
 use Rattle.ea_spans.specs.Values.{EnteredSpan, FoundSuper, Room}
-use Rattle.ea_spans.proofs.Turns.{behindSuper, supers-none, supers-direct, supers-undefined, supers-refused, supers-tested, blocks-none, blocks-undefined, blocks-defined}
+use Rattle.span_walk.proofs.Turns.{behindSuper, supers-none, supers-direct, supers-undefined, supers-refused, supers-tested, blocks-none, blocks-undefined, blocks-defined}
 use Rattle.ea_spans.proofs.Lengths.{index-refused}
 
 -- they are left to write into the lists, which are then A and L

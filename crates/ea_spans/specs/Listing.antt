@@ -4,8 +4,8 @@ use mathlib.Core.List.{List, [], _∷_}
 use lib.ListN.{length}
 use lib.Seq.{sets}
 use Rattle.refusal.specs.Outcome.{refused, accepted, inRoom}
-use Rattle.ea_spans.specs.declared.Span.{Span}
-use Rattle.ea_spans.specs.Walk.{Spanning, spans}
+use Rattle.span_walk.specs.declared.Span.{Span}
+use Rattle.span_walk.specs.Walk.{Spanning, spans}
 
 -- Two lists hold as many spans as the shorter of them.
 abbrev pub roomOf : List ℕ → List ℕ → ℕ

@@ -14,8 +14,8 @@ use Rattle.ea_blocks.specs.declared.structures.Pointer.{Pointer}
 use Rattle.ea_blocks.specs.declared.structures.Pointer.the-variants.{Undefined, At as PointsAt}
 use Rattle.ea_blocks.specs.Call.{Call}
 use Rattle.ea_blocks.specs.Structures.{isDirect, superAt, superUndefined}
-use Rattle.ea_spans.specs.declared.Span.{Span}
-use Rattle.ea_spans.specs.Walk.{Spanning, superTest, indexOf}
+use Rattle.span_walk.specs.declared.Span.{Span}
+use Rattle.span_walk.specs.Walk.{Spanning, superTest, indexOf}
 
 -- the call that a file and a geometry stand for
 abbrev pub callAt : List ℕ → EaGeometry → Call

@@ -8,7 +8,7 @@ ghost use Rattle.ea_geometry.specs.Bounded.{Bounded};
 ghost use Rattle.ea_geometry.specs.Sizes.{superBlocks};
 ghost use Rattle.ea_geometry.specs.Extents.{indexExtent};
 ghost use Rattle.refusal.specs.Outcome.{countedOf};
-ghost use Rattle.ea_spans.specs.Walk.{supersFrom, indexSpans};
+ghost use Rattle.span_walk.specs.Walk.{supersFrom, indexSpans};
 ghost use Rattle.ea_spans.specs.Values.{callAt};
 use crate::enter::enter_super;
 use crate::enter::test_index;

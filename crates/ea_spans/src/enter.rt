@@ -9,12 +9,11 @@ ghost use Rattle.ea_header.specs.Values.{parsedAfter};
 ghost use Rattle.ea_geometry.specs.Bounded.{Bounded};
 ghost use Rattle.ea_geometry.specs.Sizes.{superBlocks};
 ghost use Rattle.ea_geometry.specs.Extents.{indexExtent};
-ghost use Rattle.ea_spans.specs.Spans.{spanTest, headerSpan};
+ghost use Rattle.span_walk.specs.Spans.{spanTest, headerSpan};
 ghost use Rattle.refusal.specs.declared.Checked.the-variants.{Refused};
 ghost use Rattle.ea_blocks.specs.Structures.{superAt};
-ghost use Rattle.ea_spans.specs.Walk.{indexTest, superTest, headTest};
+ghost use Rattle.span_walk.specs.Walk.{indexTest, superTest, headTest};
 ghost use Rattle.ea_spans.specs.Values.{callAt, EnteredSpan};
-use crate::Span;
 use ea_blocks::enter::Entered;
 use ea_blocks::structures::Pointer;
 use ea_blocks::structures::super_pointer;
@@ -27,6 +26,7 @@ use fields::convert::saturating_add;
 use fields::convert::saturating_mul;
 use refusal::Checked;
 use refusal::Refusal;
+use span_walk::Span;
 
 // 31 where a span's end is past 2^64 - 1.
 fn test_span(span: Span) -> Checked

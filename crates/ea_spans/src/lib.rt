@@ -7,7 +7,7 @@ ghost use Rattle.fields.specs.Fields.{isWidth};
 ghost use Rattle.ea_geometry.specs.Bounded.{Bounded};
 ghost use Rattle.refusal.specs.declared.Counted.the-variants.{Refused};
 ghost use Rattle.refusal.specs.Outcome.{countedOf};
-ghost use Rattle.ea_spans.specs.Walk.{indexSpans};
+ghost use Rattle.span_walk.specs.Walk.{indexSpans};
 ghost use Rattle.ea_spans.specs.Values.{callAt};
 ghost use Rattle.ea_spans.specs.Listing.{roomOf, spansInto, filled, addressOf, lengthOf};
 use crate::count::count_index;
@@ -19,17 +19,11 @@ use ea_header::ExtensibleArrayHeader;
 use ea_header::Parsed;
 use refusal::Counted;
 use refusal::Refusal;
+use span_walk::Span;
 
 mod count;
 mod enter;
-pub mod records;
 mod write;
-
-// A structure's address and its bytes.
-pub struct Span {
-    pub address: u64,
-    pub length: u64,
-}
 
 // Lists the spans of the index whose header lies at an address: their addresses and their lengths, from number 0 on. The answer is how
 // many they are. After a refusal both lists are as they were; 9 tells how many numbers each list must hold.

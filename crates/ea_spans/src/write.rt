@@ -1,24 +1,22 @@
 // The walk that writes. What it walks has been tested and counted: nothing is refused any more.
 ghost use mathlib.Core.Path.{_≡_};
 ghost use mathlib.Core.Bool.{true};
-ghost use mathlib.Core.List.{List};
-ghost use Prim.Native.Nat.{ℕ, _+_, _<_, _≤_};
+ghost use Prim.Native.Nat.{_+_, _<_, _≤_};
 ghost use lib.ListN.{length, set};
-ghost use Rattle.refusal.specs.Outcome.{accepted};
 ghost use Rattle.fields.specs.Fields.{isWidth};
 ghost use Rattle.ea_geometry.specs.Bounded.{Bounded};
 ghost use Rattle.ea_geometry.specs.Sizes.{superBlocks};
 ghost use Rattle.ea_geometry.specs.Extents.{indexExtent};
-ghost use Rattle.ea_spans.specs.Spans.{blockLength};
-ghost use Rattle.ea_spans.specs.Walk.{supersFrom, indexSpans};
+ghost use Rattle.span_walk.specs.Spans.{blockLength};
+ghost use Rattle.span_walk.specs.Walk.{supersFrom, indexSpans};
 ghost use Rattle.ea_spans.specs.Listing.{filled, addressOf, lengthOf};
 ghost use Rattle.ea_spans.specs.Values.{callAt, FoundSuper, Room};
-use crate::Span;
 use crate::count::index_undefined;
 use ea_blocks::structures::Pointer;
 use ea_blocks::structures::block_pointer;
 use ea_blocks::structures::super_pointer;
 use ea_geometry::EaGeometry;
+use span_walk::Span;
 
 // Stores a span as number i of the two lists.
 pub fn put_span(addresses: &mut [u64], lengths: &mut [u64], i: usize, span: Span)

@@ -7,9 +7,10 @@ use Rattle.refusal.proofs.Outcomes.{room-refused}
 use Rattle.fields.proofs.Widths.{width-le}
 use Rattle.ea_header.specs.Header.{headerAt}
 use Rattle.ea_header.proofs.Header.{header-is, refused-is}
-use Rattle.ea_spans.specs.Walk.{Spanning, indexSpans, headTest, spans}
+use Rattle.span_walk.specs.Walk.{Spanning, indexSpans, headTest, spans}
 use Rattle.ea_spans.specs.Listing.{roomOf, spansInto, filled, addressOf, lengthOf}
-use Rattle.ea_spans.proofs.Listing.{answers-refused, head-passed, spans-refused, spans-are}
+use Rattle.span_walk.proofs.Heads.{head-passed}
+use Rattle.ea_spans.proofs.Listing.{answers-refused, spans-refused, spans-are}
 use borrow.Author.Needs.{needs}
 use Rattle.ea_spans.proofs.extensible_array_index_spans.Statement.{statement}
 use Rattle.ea_spans.specs.Values.{callAt}

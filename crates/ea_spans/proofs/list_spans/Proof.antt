@@ -8,8 +8,8 @@ use Rattle.refusal.specs.Outcome.{accepted, also, inRoom, countedOf}
 use Rattle.refusal.proofs.Outcomes.{room-refused, room-small, room-fits}
 use Rattle.refusal.specs.declared.Counted.the-variants.{Count}
 use Rattle.refusal.proofs.Counts.{counted-inv, refused-inv}
-use Rattle.ea_spans.specs.declared.Span.{Span}
-use Rattle.ea_spans.specs.Walk.{Spanning, indexSpans}
+use Rattle.span_walk.specs.declared.Span.{Span}
+use Rattle.span_walk.specs.Walk.{Spanning, indexSpans}
 use Rattle.ea_spans.specs.Listing.{roomOf, filled, addressOf, lengthOf}
 use Rattle.ea_spans.proofs.Lengths.{counted-more, refused-more, index-few}
 use Rattle.ea_spans.proofs.Writing.{Going, going-whole, going-put}

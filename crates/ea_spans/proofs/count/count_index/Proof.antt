@@ -8,7 +8,7 @@ use Rattle.fields.specs.Fields.{undefined}
 use Rattle.ea_blocks.specs.Structures.{indexAt}
 use Rattle.refusal.specs.Outcome.{countedOf}
 use Rattle.ea_blocks.proofs.StructureTests.{index-seen}
-use Rattle.ea_spans.specs.Walk.{indexTest}
+use Rattle.span_walk.specs.Walk.{indexTest}
 use Rattle.ea_spans.proofs.Tests.{seen}
 use Rattle.ea_spans.proofs.Lengths.{counted-more, refused-more, index-none, index-refused, index-tested, pointed-few}
 use borrow.Author.Needs.{needs}

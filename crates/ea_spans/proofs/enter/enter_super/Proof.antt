@@ -6,7 +6,7 @@ use native.Mathlib.Omega.{arith}
 use Rattle.ea_blocks.specs.Structures.{isDirect, superAt, superUndefined}
 use Rattle.ea_blocks.proofs.StructureTests.{is-direct, not-direct}
 use Rattle.ea_blocks.proofs.Pointers.{pointer-undefined, pointer-at}
-use Rattle.ea_spans.specs.Walk.{superTest}
+use Rattle.span_walk.specs.Walk.{superTest}
 use Rattle.ea_spans.proofs.Tests.{seen}
 use borrow.Author.Needs.{needs}
 use Rattle.ea_spans.proofs.enter.enter_super.Statement.{statement}

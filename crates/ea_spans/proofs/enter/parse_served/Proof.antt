@@ -8,8 +8,8 @@ use Rattle.ea_header.specs.Served.{servedTest}
 use Rattle.ea_header.specs.Header.{headerAt, headerTest}
 use Rattle.ea_header.specs.Values.{parsedAt}
 use Rattle.ea_header.proofs.Header.{header-after, refused-after, header-is, refused-is}
-use Rattle.ea_spans.specs.Spans.{spanTest, headerSpan}
-use Rattle.ea_spans.specs.Walk.{headTest}
+use Rattle.span_walk.specs.Spans.{spanTest, headerSpan}
+use Rattle.span_walk.specs.Walk.{headTest}
 use borrow.Author.Needs.{needs}
 use Rattle.ea_spans.proofs.enter.parse_served.Statement.{statement}
 use Rattle.ea_spans.proofs.enter.parse_served.Tie as tie

@@ -2,8 +2,8 @@
 use mathlib.Core.Path.{_≡_, sym, ap, _∙_}
 use native.Mathlib.Omega.{arith}
 use Rattle.refusal.proofs.Tests.{then-second, then-first}
-use Rattle.ea_spans.specs.Spans.{spanTest, indexSpan}
-use Rattle.ea_spans.specs.Walk.{indexTest}
+use Rattle.span_walk.specs.Spans.{spanTest, indexSpan}
+use Rattle.span_walk.specs.Walk.{indexTest}
 use Rattle.ea_spans.proofs.Tests.{seen, index-spanned}
 use borrow.Author.Needs.{needs}
 use Rattle.ea_spans.proofs.enter.test_index.Statement.{statement}

@@ -2,8 +2,8 @@
 use mathlib.Core.Path.{_≡_, sym, ap, _∙_}
 use Rattle.refusal.proofs.Tests.{then-second, then-first}
 use Rattle.ea_blocks.specs.Structures.{superAt}
-use Rattle.ea_spans.specs.Spans.{spanTest, superSpan}
-use Rattle.ea_spans.specs.Walk.{superTest}
+use Rattle.span_walk.specs.Spans.{spanTest, superSpan}
+use Rattle.span_walk.specs.Walk.{superTest}
 use Rattle.ea_spans.proofs.Tests.{seen, super-spanned}
 use borrow.Author.Needs.{needs}
 use Rattle.ea_spans.proofs.enter.test_super.Statement.{statement}

@@ -1,6 +1,6 @@
 -- `ea_spans::write::block_length` meets its contract. Assumes nothing.
 use mathlib.Core.Path.{sym, _∙_}
-use Rattle.ea_spans.specs.Spans.{blockLength}
+use Rattle.span_walk.specs.Spans.{blockLength}
 use borrow.Author.Needs.{needs}
 use Rattle.ea_spans.proofs.write.block_length.Statement.{statement}
 use Rattle.ea_spans.proofs.write.block_length.Tie as tie

@@ -9,7 +9,7 @@ use Rattle.ea_geometry.specs.Sizes.{superBlocks}
 use Rattle.ea_blocks.specs.Call.{Call}
 use Rattle.ea_blocks.specs.Structures.{indexAt}
 use Rattle.ea_blocks.proofs.StructureTests.{index-seen}
-use Rattle.ea_spans.specs.Walk.{indexTest, supersFrom, indexSpans}
+use Rattle.span_walk.specs.Walk.{indexTest, supersFrom, indexSpans}
 use Rattle.ea_spans.specs.Listing.{filled, addressOf, lengthOf}
 use Rattle.ea_spans.proofs.Tests.{seen, index-spanned}
 use Rattle.ea_spans.proofs.Lengths.{index-none, index-tested}

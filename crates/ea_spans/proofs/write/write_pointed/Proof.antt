@@ -17,8 +17,8 @@ use Rattle.ea_blocks.specs.Structures.{isDirect, blockAt, blockUndefined}
 use Rattle.ea_blocks.specs.Values.{pointerOf}
 use Rattle.ea_blocks.proofs.StructureTests.{is-direct, not-direct}
 use Rattle.ea_blocks.proofs.Pointers.{pointer-undefined, pointer-at}
-use Rattle.ea_spans.specs.Spans.{blockLength}
-use Rattle.ea_spans.specs.Walk.{Spanning, supersFrom}
+use Rattle.span_walk.specs.Spans.{blockLength}
+use Rattle.span_walk.specs.Walk.{Spanning, supersFrom}
 use Rattle.ea_spans.specs.Listing.{filled, addressOf, lengthOf}
 use Rattle.ea_spans.specs.Values.{callAt, EnteredSpan, FoundSuper}
 use Rattle.ea_spans.proofs.Tests.{seen, super-spanned, block-spanned}

@@ -11,8 +11,8 @@ use Rattle.refusal.specs.Outcome.{refused, accepted, _yields_, also}
 use Rattle.ea_geometry.specs.Sizes.{blocks}
 use Rattle.ea_blocks.specs.Call.{Call}
 use Rattle.ea_blocks.specs.Structures.{isDirect, superUndefined, blockUndefined}
-use Rattle.ea_spans.specs.Spans.{superSpan, blockSpan}
-use Rattle.ea_spans.specs.Walk.{Spanning, superTest, blocksFrom, supersFrom}
+use Rattle.span_walk.specs.Spans.{superSpan, blockSpan}
+use Rattle.span_walk.specs.Walk.{Spanning, superTest, blocksFrom, supersFrom}
 
 -- what is left of n, before and after a turn
 less : (n i : ℕ) → i < n → n - i ≡ suc (n - (i + 1))

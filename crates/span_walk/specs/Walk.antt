@@ -15,8 +15,8 @@ use Rattle.ea_header.specs.declared.ExtensibleArrayHeader.{ExtensibleArrayHeade
 use Rattle.ea_geometry.specs.Sizes.{superBlocks, blocks}
 use Rattle.ea_blocks.specs.Call.{Call, callOf}
 use Rattle.ea_blocks.specs.Structures.{indexBlock, superBlock, testOf, indexAt, isDirect, superUndefined, blockUndefined}
-use Rattle.ea_spans.specs.declared.Span.{Span}
-use Rattle.ea_spans.specs.Spans.{spanTest, headerSpan, indexSpan, superSpan, blockSpan}
+use Rattle.span_walk.specs.declared.Span.{Span}
+use Rattle.span_walk.specs.Spans.{spanTest, headerSpan, indexSpan, superSpan, blockSpan}
 
 -- a list of spans, or the refusal
 abbrev pub Spanning : Type 0

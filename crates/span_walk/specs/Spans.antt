@@ -10,7 +10,7 @@ use Rattle.ea_geometry.specs.Sizes.{overPage}
 use Rattle.ea_geometry.specs.Extents.{indexExtent, superExtent, dataExtent, pagedExtent}
 use Rattle.ea_blocks.specs.Call.{Call}
 use Rattle.ea_blocks.specs.Structures.{indexAt, superAt, blockAt}
-use Rattle.ea_spans.specs.declared.Span.{Span}
+use Rattle.span_walk.specs.declared.Span.{Span}
 
 -- 31: address plus length past 2^64 − 1 (both). The sum is exact.
 unfoldable pub spanTest : Span → Checked

@@ -9,9 +9,9 @@ use lib.Dec.{leb}
 use lib.ListN.{length, getD, take, set, length-set, length-take, List·getD-append}
 use lib.Seq.{sets, length-sets, sets-eq, take-suc, take-all}
 use Rattle.refusal.specs.Outcome.{accepted}
-use Rattle.ea_spans.specs.declared.Span.{Span}
+use Rattle.span_walk.specs.declared.Span.{Span}
 use Rattle.ea_spans.specs.Listing.{each, filled, addressOf, lengthOf}
-use Rattle.ea_spans.specs.Stored.{spanAt, stored, fits, storedWhere}
+use Rattle.span_records.specs.Stored.{spanAt, stored, fits, storedWhere}
 
 pub length-stored : (n : ℕ) (xs ls : List ℕ) (ys : List Span) → length (stored n xs ls ys) ≡ length ys
 length-stored zero xs ls ys = refl

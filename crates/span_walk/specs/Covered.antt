@@ -9,7 +9,7 @@ use Rattle.ea_geometry.specs.Place.{inPages, place}
 use Rattle.ea_blocks.specs.Call.{Call}
 use Rattle.ea_blocks.specs.Structures.{Structure, indexBlock, superBlock, dataBlock, dataPage, indexAt, isDirect, superAt, blockAt, dataPageAt, superUndefined}
 use Rattle.ea_elements.specs.Places.{blockReached, structures}
-use Rattle.ea_spans.specs.declared.Span.{Span}
+use Rattle.span_walk.specs.declared.Span.{Span}
 
 -- where a structure begins, and how many bytes its test covers
 unfoldable pub startOf : Call → Structure → ℕ

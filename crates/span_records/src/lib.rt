@@ -1,7 +1,7 @@
 // A lent list of span records, written in place.
 ghost use mathlib.Core.Path.{_≡_};
-ghost use Rattle.ea_spans.specs.Stored.{fits, storedWhere};
-use crate::Span;
+ghost use Rattle.span_records.specs.Stored.{fits, storedWhere};
+use span_walk::Span;
 
 // Stores the first n spans, whose addresses and lengths the two lists hold, as the first n records. Where a list is shorter than n
 // nothing is stored, and the answer is false.

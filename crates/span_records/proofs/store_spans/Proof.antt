@@ -1,4 +1,4 @@
--- `ea_spans::records::store_spans` meets its contract: a walk of its MIR, by hand, with three ways out and a loop. The borrow of the records
+-- `span_records::store_spans` meets its contract: a walk of its MIR, by hand, with three ways out and a loop. The borrow of the records
 -- is opened once before the loop and closed once after it; each turn looks into the two lists of numbers and stores one record.
 -- Assumes nothing.
 use mathlib.Core.Path.{_≡_, refl, sym, ap, subst}
@@ -52,16 +52,16 @@ use denote.Triple.Spec.{Meets, tripleOf}
 use denote.Triple.Table.{entered}
 use denote.Triple.Walked.{says, Stays, stay-slice, stay-none, stay-none-slice, walkOf, goes-slice, goes-none, goes-none-slice, Walks, ends-at, walked, walk-meets}
 use denote.Exit.{yes}
-use Rattle.ea_spans.specs.declared.Span.{Span}
-use Rattle.ea_spans.specs.Stored.{spanAt, stored, fits, storedWhere}
-use Rattle.ea_spans.proofs.Storing.{length-stored, fits-all, first as short-first, second as short-second, third as short-third, fits-not, stored-whole, stored-none}
-use Rattle.ea_spans.proofs.Span as T
-use Rattle.ea_spans.proofs.Span.Laws as T′
-use Rattle.ea_spans.proofs.records.store_spans.Key.{name as #store-spans}
-use Rattle.ea_spans.proofs.records.store_spans as f
-use Rattle.ea_spans.proofs.records.store_spans.Statement as stated
-use Rattle.ea_spans.proofs.records.store_spans.Code as code
-use Rattle.ea_spans.proofs.records.store_spans.Code.Mir as mir′
+use Rattle.span_walk.specs.declared.Span.{Span}
+use Rattle.span_records.specs.Stored.{spanAt, stored, fits, storedWhere}
+use Rattle.span_records.proofs.Storing.{length-stored, fits-all, first as short-first, second as short-second, third as short-third, fits-not, stored-whole, stored-none}
+use Rattle.span_walk.proofs.Span as T
+use Rattle.span_walk.proofs.Span.Laws as T′
+use Rattle.span_records.proofs.store_spans.Key.{name as #store-spans}
+use Rattle.span_records.proofs.store_spans as f
+use Rattle.span_records.proofs.store_spans.Statement as stated
+use Rattle.span_records.proofs.store_spans.Code as code
+use Rattle.span_records.proofs.store_spans.Code.Mir as mir′
 
 abbrev Arg : Type 0
 Arg = RefT (List Span) × (RefT (List ℕ) × (RefT (List ℕ) × (ℕ × Unit {0})))

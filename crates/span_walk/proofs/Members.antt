@@ -15,9 +15,9 @@ use Rattle.ea_blocks.specs.Call.{Call}
 use Rattle.ea_blocks.specs.Structures.{isDirect, superUndefined, blockUndefined}
 use Rattle.ea_elements.specs.Places.{blockReached}
 use Rattle.ea_elements.proofs.Passed.{gone}
-use Rattle.ea_spans.specs.declared.Span.{Span}
-use Rattle.ea_spans.specs.Spans.{superSpan, blockSpan}
-use Rattle.ea_spans.specs.Walk.{Spanning, blocksFrom, supersFrom}
+use Rattle.span_walk.specs.declared.Span.{Span}
+use Rattle.span_walk.specs.Spans.{superSpan, blockSpan}
+use Rattle.span_walk.specs.Walk.{Spanning, blocksFrom, supersFrom}
 
 -- every span of one list is in another
 abbrev pub Among : List Span → List Span → Type 0

@@ -30,12 +30,12 @@ use Rattle.ea_blocks.specs.declared.Kind.the-variants.{IndexBlock, SuperBlock, 
 use Rattle.ea_blocks.specs.Call.{Call, callOf}
 use Rattle.ea_blocks.specs.Structures.{Structure, indexBlock, superBlock, dataBlock, dataPage, structureTest, testOf, indexAt, isDirect, superAt, superNamedAt, blockAt, blockNamedAt, dataPageAt, superUndefined, blockUndefined, bitSet}
 use Rattle.ea_elements.specs.Places.{blockReached, leading, structures}
-use Rattle.ea_spans.specs.declared.Span.{Span}
-use Rattle.ea_spans.specs.Spans.{headerSpan, indexSpan, superSpan, blockLength, blockSpan}
-use Rattle.ea_spans.specs.Walk.{Spanning, indexTest, superTest, blocksFrom, supersFrom, indexSpans, indexOf, spans}
-use Rattle.ea_spans.specs.Covered.{startOf, extentOf, Within, Covered}
-use Rattle.ea_spans.proofs.Listing.{head-passed}
-use Rattle.ea_spans.proofs.Members.{among-cons, head-cons, Holds, holds-among, supers-in}
+use Rattle.span_walk.specs.declared.Span.{Span}
+use Rattle.span_walk.specs.Spans.{headerSpan, indexSpan, superSpan, blockLength, blockSpan}
+use Rattle.span_walk.specs.Walk.{Spanning, indexTest, superTest, blocksFrom, supersFrom, indexSpans, indexOf, spans}
+use Rattle.span_walk.specs.Covered.{startOf, extentOf, Within, Covered}
+use Rattle.span_walk.proofs.Heads.{head-passed}
+use Rattle.span_walk.proofs.Members.{among-cons, head-cons, Holds, holds-among, supers-in}
 
 -- the bytes that are said to be tested are the ones that are tested
 unfoldable pub kindOf : Structure → Kind

@@ -4,7 +4,7 @@ use mathlib.Core.Bool.{Bool, cond, _&&_}
 use mathlib.Core.List.{List}
 use lib.Dec.{leb}
 use lib.ListN.{length, getD, set}
-use Rattle.ea_spans.specs.declared.Span.{Span}
+use Rattle.span_walk.specs.declared.Span.{Span}
 
 -- the first n records hold the addresses and the lengths, and the others are as they were
 abbrev pub spanAt : List ℕ → List ℕ → ℕ → Span

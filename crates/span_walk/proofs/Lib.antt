@@ -1,0 +1,4 @@
+pub mod Heads
+pub mod Turns
+pub mod Members
+pub mod Covering
