@@ -79,7 +79,7 @@ enum cellumaq_order {
  * is tested and read each time: a hostile file's list takes a time that grows with the square of the file's length. For 1 MiB fewer than 2^20 blocks are
  * tested, together under 2^40 bytes, 8 minutes; and fewer than 2^39 elements are read, each twice: under 2 hours at rank 1, 4 at rank 3, 46 at rank 32; for
  * 64 KiB divide by 256. No element at or past the published count is read. Who must answer in time takes files of limited length, or calls from a process
- * that can be ended: a call allocates nothing and keeps no state, so one that is ended leaves nothing behind. A list and a lookup need less than 12 KiB of
+ * that can be ended: a call allocates nothing and keeps no state, so one that is ended leaves nothing behind. A list and a lookup need less than 8 KiB of
  * stack.
  */
 

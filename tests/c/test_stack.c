@@ -1,10 +1,11 @@
-/* List and lookup in a thread with a small stack between pages that may not be touched: the answers are those of the main thread. */
+/* List and lookup in a thread with a small stack between pages that may not be touched: the answers are those of the main thread, and they need no more
+ * stack than the header says. */
 #define _DEFAULT_SOURCE
 #include <pthread.h>
 
 #include "list_checks.h"
 
-enum { STACK = 64 * 1024, PAINT = 0xa5, RECORDS = 1000 };
+enum { STACK = 64 * 1024, NEEDED = 8 * 1024, PAINT = 0xa5, RECORDS = 1000 };
 
 /* The list of a call, and the lookup of each listed corner. */
 struct answers {
@@ -28,8 +29,13 @@ static void *answer(void *data)
     return NULL;
 }
 
-/* Runs in a thread on that stack; how many of its bytes were used. */
-static size_t answer_on(uint8_t *stack, struct answers *a)
+static void *nothing(void *data)
+{
+    return data;
+}
+
+/* Runs in a thread on that stack; how many of its bytes were used, the thread's own part with them. */
+static size_t used_on(uint8_t *stack, void *(*run)(void *), void *data)
 {
     pthread_attr_t attributes;
     pthread_t thread;
@@ -37,7 +43,7 @@ static size_t answer_on(uint8_t *stack, struct answers *a)
 
     memset(stack, PAINT, STACK);
     pthread_attr_init(&attributes);
-    if (pthread_attr_setstack(&attributes, stack, STACK) != 0 || pthread_create(&thread, &attributes, answer, a) != 0)
+    if (pthread_attr_setstack(&attributes, stack, STACK) != 0 || pthread_create(&thread, &attributes, run, data) != 0)
         return 0;
     pthread_join(thread, NULL);
     pthread_attr_destroy(&attributes);
@@ -45,6 +51,9 @@ static size_t answer_on(uint8_t *stack, struct answers *a)
         free_bytes++;
     return STACK - free_bytes;
 }
+
+/* The most that a call has needed. */
+static size_t deepest;
 
 static void check_call(const struct call *c, uint8_t *stack, const char *what)
 {
@@ -54,7 +63,11 @@ static void check_call(const struct call *c, uint8_t *stack, const char *what)
     memset(&there, 0, sizeof there);
     here.call = there.call = c;
     answer(&here);
-    CHECK(answer_on(stack, &there) != 0, "%s: no thread with a stack of %d bytes", what, STACK);
+    size_t own = used_on(stack, nothing, NULL), used = used_on(stack, answer, &there);
+    CHECK(own != 0 && used > own, "%s: no thread with a stack of %d bytes", what, STACK);
+    CHECK(used - own < NEEDED, "%s: %zu bytes of stack", what, used - own);
+    if (used - own > deepest)
+        deepest = used - own;
     CHECK(memcmp(&here, &there, sizeof here) == 0, "%s: other answers on a small stack", what);
     CHECK(here.count != 0 || here.refusal != 0, "%s: nothing was asked", what);
 }
@@ -90,6 +103,7 @@ static void small_stack(void)
 
 int main(void)
 {
-    test_run("list and lookup on a stack of 64 KiB", small_stack);
+    test_run("list and lookup need less than 8 KiB of stack", small_stack);
+    printf("most stack that was needed: %zu bytes\n", deepest);
     return test_summary();
 }
