@@ -12,9 +12,11 @@ use Rattle.refusal.specs.declared.Checked.{Checked}
 use Rattle.refusal.specs.declared.Checked.the-variants.{Passed, Refused}
 use Rattle.refusal.specs.Refusals.{figure, largest64, _then_}
 use Rattle.refusal.proofs.Tests.{lt-or-ge, then-first, then-second, then-assoc, then-inv, then-passed}
-use Rattle.fields.specs.Fields.{inFile}
+use Rattle.fields.specs.Fields.{isWidth, inFile}
 use Rattle.checksum.specs.Trailing.{trailingTest}
 use Rattle.fields.proofs.Fields.{inside, past-end, figure-in-file}
+use Rattle.fields.proofs.Widths.{width-le}
+use Rattle.ea_header.specs.Values.{Served}
 use Rattle.ea_geometry.specs.declared.EaGeometry.{EaGeometry}
 use Rattle.ea_geometry.specs.Sizes.{blockElements, directSuperBlocks, pageElements}
 use Rattle.ea_geometry.specs.Extents.{elementStride, elementAt, inlineElementAt, directPointersAt, indexExtent, directPointerAt, blockPointerAt, superExtent, blockElementAt, dataExtent, pagedHeadExtent, pageExtent}
@@ -23,7 +25,7 @@ use Rattle.ea_geometry.proofs.Positions.{direct-pointers-inside, super-pointers
 use Rattle.ea_blocks.specs.declared.Kind.{Kind}
 use Rattle.ea_blocks.specs.Call.{Call}
 use Rattle.ea_blocks.specs.Structures.{signatureTest, structureTest, indexBlock, superBlock, dataBlock, dataPage, testOf, indexAt, isDirect, superAt, blockNamedAt, blockAt, dataPageAt}
-use Rattle.ea_blocks.specs.Values.{Sees}
+use Rattle.ea_blocks.specs.Values.{Sees, IndexInFile}
 
 -- what the tests before the checksum say of the structure
 module _ (kind : Kind) (f : List ℕ) (pos len : ℕ) where
@@ -96,6 +98,9 @@ module _ (c : Call) (f : List ℕ) (g : EaGeometry) (s : Sees c f g) where
   pub index-seen : testOf c indexBlock ≡ Passed → g .header .«index_block_address» + indexExtent (g .header) (g .«offset_size») ≤ length f
   unfolding indexAt
   index-seen t = rw (s .bytes, s .header, s .offset) at (index-inside c t)
+
+  pub index-in-file : Served (g .header) → isWidth (g .«offset_size») ≡ true → testOf c indexBlock ≡ Passed → IndexInFile f g
+  index-in-file v w t = record { bounded = record { served = v; width = width-le _ w }; wide = w; inside = index-seen t }
 
   module _ (u : ℕ) where
     pub super-seen : testOf c (superBlock u) ≡ Passed → superAt c u + superExtent (g .header) (g .«offset_size») u ≤ length f

@@ -1,16 +1,12 @@
 // Stepping into the structures of an index: the pointer or page bit is looked at, then the structure is tested.
 ghost use mathlib.Core.Path.{_≡_};
-ghost use mathlib.Core.Bool.{true, false};
-ghost use Prim.Native.Nat.{_+_, _<_, _≤_};
+ghost use mathlib.Core.Bool.{false};
+ghost use Prim.Native.Nat.{_<_, _≤_};
 ghost use lib.ListN.{length};
-ghost use Rattle.fields.specs.Fields.{isWidth};
-ghost use Rattle.ea_geometry.specs.Bounded.{Bounded};
-ghost use Rattle.ea_geometry.specs.Sizes.{superBlocks, blocks, directSuperBlocks, pages};
-ghost use Rattle.ea_geometry.specs.Extents.{indexExtent, superExtent};
-ghost use Rattle.ea_geometry.specs.Place.{inPages};
+ghost use Rattle.ea_geometry.specs.Sizes.{superBlocks};
 ghost use Rattle.ea_blocks.specs.Call.{Call};
 ghost use Rattle.ea_blocks.specs.Structures.{dataBlock, dataPage, testOf, isDirect, superAt, blockAt};
-ghost use Rattle.ea_blocks.specs.Values.{Sees};
+ghost use Rattle.ea_blocks.specs.Values.{Sees, IndexInFile, PointerInFile, PageBitInFile};
 ghost use Rattle.ea_blocks.specs.declared.enter.Ahead.the-variants.{Known};
 ghost use Rattle.ea_blocks.specs.Entered.{enteredOf, EnteredSuper, EnteredBlock, EnteredPage, TestedAhead};
 use crate::structures::Pointer;
@@ -54,8 +50,7 @@ pub struct Turn {
 
 // Steps into super block u. Where the index block names its data blocks there is none, and the position is 0.
 pub fn enter_super(file: &[u8], geometry: EaGeometry, u: u64) -> Entered
-    requires { ⌜ (u < superBlocks (geometry .header)) × Bounded geometry × (isWidth (geometry .«offset_size») ≡ true)
-        × (geometry .header .«index_block_address» + indexExtent (geometry .header) (geometry .«offset_size») ≤ length (now file)) ⌝ }
+    requires { ⌜ (u < superBlocks (geometry .header)) × IndexInFile (now file) geometry ⌝ }
     ensures { λ r. ⌜ ((c : Call) → Sees c (now (file .entry)) geometry → EnteredSuper c u r) ⌝ }
 {
     if u < geometry.direct_super_blocks() {
@@ -69,9 +64,7 @@ pub fn enter_super(file: &[u8], geometry: EaGeometry, u: u64) -> Entered
 
 // Steps into data block k of super block u, which lies at super_at where the index block doesn't name its data blocks.
 pub fn enter_block(file: &[u8], geometry: EaGeometry, u: u64, k: u64, super_at: u64) -> Entered
-    requires { ⌜ (u < superBlocks (geometry .header)) × (k < blocks u) × Bounded geometry × (isWidth (geometry .«offset_size») ≡ true)
-        × (geometry .header .«index_block_address» + indexExtent (geometry .header) (geometry .«offset_size») ≤ length (now file))
-        × (directSuperBlocks (geometry .header) ≤ u → «super_at» + superExtent (geometry .header) (geometry .«offset_size») u ≤ length (now file)) ⌝ }
+    requires { ⌜ PointerInFile (now file) geometry u k «super_at» ⌝ }
     ensures { λ r. ⌜ ((c : Call) → Sees c (now (file .entry)) geometry → (isDirect c u ≡ false → «super_at» ≡ superAt c u)
         → EnteredBlock c u k r) ⌝ }
 {
@@ -90,9 +83,7 @@ pub fn enter_block_in_turn(
     super_at: u64,
     ahead: Ahead,
 ) -> Turn
-    requires { ⌜ (u < superBlocks (geometry .header)) × (k < blocks u) × Bounded geometry × (isWidth (geometry .«offset_size») ≡ true)
-        × (geometry .header .«index_block_address» + indexExtent (geometry .header) (geometry .«offset_size») ≤ length (now file))
-        × (directSuperBlocks (geometry .header) ≤ u → «super_at» + superExtent (geometry .header) (geometry .«offset_size») u ≤ length (now file)) ⌝ }
+    requires { ⌜ PointerInFile (now file) geometry u k «super_at» ⌝ }
     ensures { λ r. ⌜ ((c : Call) → Sees c (now (file .entry)) geometry → (isDirect c u ≡ false → «super_at» ≡ superAt c u)
         → TestedAhead c (dataBlock u) ahead → EnteredBlock c u k (r .found) × TestedAhead c (dataBlock u) (r .ahead)) ⌝ }
 {
@@ -124,9 +115,7 @@ fn block_verdict(
     at: u64,
     ahead: Ahead,
 ) -> Verdict
-    requires { ⌜ (u < superBlocks (geometry .header)) × (k < blocks u) × Bounded geometry × (isWidth (geometry .«offset_size») ≡ true)
-        × (geometry .header .«index_block_address» + indexExtent (geometry .header) (geometry .«offset_size») ≤ length (now file))
-        × (directSuperBlocks (geometry .header) ≤ u → «super_at» + superExtent (geometry .header) (geometry .«offset_size») u ≤ length (now file)) ⌝ }
+    requires { ⌜ PointerInFile (now file) geometry u k «super_at» ⌝ }
     ensures { λ r. ⌜ ((c : Call) → Sees c (now (file .entry)) geometry → (isDirect c u ≡ false → «super_at» ≡ superAt c u) → at ≡ blockAt c u k
         → TestedAhead c (dataBlock u) ahead → (r .checked ≡ testOf c (dataBlock u k)) × TestedAhead c (dataBlock u) (r .ahead)) ⌝ }
 {
@@ -162,10 +151,7 @@ pub fn enter_page(
     k: u64,
     p: u64,
 ) -> Entered
-    requires { ⌜ (u < superBlocks (geometry .header)) × (k < blocks u) × (p < pages (geometry .header) u) × Bounded geometry
-        × (inPages (geometry .header) u ≡ true)
-        × («super_at» + superExtent (geometry .header) (geometry .«offset_size») u ≤ length (now file))
-        × (at ≤ length (now file)) ⌝ }
+    requires { ⌜ PageBitInFile (now file) geometry «super_at» u k p × (at ≤ length (now file)) ⌝ }
     ensures { λ r. ⌜ ((c : Call) → Sees c (now (file .entry)) geometry → «super_at» ≡ superAt c u → at ≡ blockAt c u k
         → EnteredPage c u k p r) ⌝ }
 {
@@ -187,10 +173,7 @@ pub fn enter_page_in_turn(
     p: u64,
     ahead: Ahead,
 ) -> Turn
-    requires { ⌜ (u < superBlocks (geometry .header)) × (k < blocks u) × (p < pages (geometry .header) u) × Bounded geometry
-        × (inPages (geometry .header) u ≡ true)
-        × («super_at» + superExtent (geometry .header) (geometry .«offset_size») u ≤ length (now file))
-        × (at ≤ length (now file)) ⌝ }
+    requires { ⌜ PageBitInFile (now file) geometry «super_at» u k p × (at ≤ length (now file)) ⌝ }
     ensures { λ r. ⌜ ((c : Call) → Sees c (now (file .entry)) geometry → «super_at» ≡ superAt c u → at ≡ blockAt c u k
         → TestedAhead c (dataPage u k) ahead → EnteredPage c u k p (r .found) × TestedAhead c (dataPage u k) (r .ahead)) ⌝ }
 {
@@ -221,10 +204,7 @@ fn page_verdict(
     p: u64,
     ahead: Ahead,
 ) -> Verdict
-    requires { ⌜ (u < superBlocks (geometry .header)) × (k < blocks u) × (p < pages (geometry .header) u) × Bounded geometry
-        × (inPages (geometry .header) u ≡ true)
-        × («super_at» + superExtent (geometry .header) (geometry .«offset_size») u ≤ length (now file))
-        × (at ≤ length (now file)) ⌝ }
+    requires { ⌜ PageBitInFile (now file) geometry «super_at» u k p × (at ≤ length (now file)) ⌝ }
     ensures { λ r. ⌜ ((c : Call) → Sees c (now (file .entry)) geometry → at ≡ blockAt c u k
         → TestedAhead c (dataPage u k) ahead → (r .checked ≡ testOf c (dataPage u k p)) × TestedAhead c (dataPage u k) (r .ahead)) ⌝ }
 {

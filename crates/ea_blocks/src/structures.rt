@@ -6,13 +6,12 @@ ghost use lib.ListN.{length};
 ghost use Rattle.fields.specs.Fields.{isWidth, addressAt, undefinedAt};
 ghost use Rattle.ea_header.specs.Values.{Served};
 ghost use Rattle.ea_geometry.specs.Bounded.{Bounded};
-ghost use Rattle.ea_geometry.specs.Sizes.{superBlocks, blocks, directSuperBlocks, pages};
-ghost use Rattle.ea_geometry.specs.Extents.{indexExtent, superExtent};
+ghost use Rattle.ea_geometry.specs.Sizes.{superBlocks, directSuperBlocks, pages};
 ghost use Rattle.ea_geometry.specs.Place.{inPages};
 ghost use Rattle.ea_blocks.specs.Call.{Call};
 ghost use Rattle.ea_blocks.specs.Structures.{indexBlock, superBlock, dataBlock, dataPage, testOf, isDirect};
 ghost use Rattle.ea_blocks.specs.Structures.{superAt, blockAt, superUndefined, blockUndefined, pageSet};
-ghost use Rattle.ea_blocks.specs.Values.{Sees, pointerOf};
+ghost use Rattle.ea_blocks.specs.Values.{Sees, IndexInFile, PointerInFile, PageBitInFile, pointerOf};
 use crate::Kind;
 use crate::test_structure;
 use crate::test_two_structures;
@@ -44,9 +43,7 @@ pub fn test_index_block(file: &[u8], geometry: EaGeometry) -> Checked
 
 // The pointer in the index block to super block u.
 pub fn super_pointer(file: &[u8], geometry: EaGeometry, u: u64) -> Pointer
-    requires { ⌜ (directSuperBlocks (geometry .header) ≤ u) × (u < superBlocks (geometry .header)) × Bounded geometry
-        × (isWidth (geometry .«offset_size») ≡ true)
-        × (geometry .header .«index_block_address» + indexExtent (geometry .header) (geometry .«offset_size») ≤ length (now file)) ⌝ }
+    requires { ⌜ (directSuperBlocks (geometry .header) ≤ u) × (u < superBlocks (geometry .header)) × IndexInFile (now file) geometry ⌝ }
     ensures { λ r. ⌜ ((c : Call) → Sees c (now (file .entry)) geometry → r ≡ pointerOf (superUndefined c u) (superAt c u)) ⌝ }
 {
     let pos = geometry.header.index_block_address + geometry.super_pointer_at(u);
@@ -63,10 +60,7 @@ pub fn test_super_block(file: &[u8], geometry: EaGeometry, u: u64, at: u64) -> C
 
 // The pointer to data block k of super block u: in the index block, or in the super block, which then lies at super_at.
 pub fn block_pointer(file: &[u8], geometry: EaGeometry, u: u64, k: u64, super_at: u64) -> Pointer
-    requires { ⌜ (u < superBlocks (geometry .header)) × (k < blocks u) × Bounded geometry
-        × (isWidth (geometry .«offset_size») ≡ true)
-        × (geometry .header .«index_block_address» + indexExtent (geometry .header) (geometry .«offset_size») ≤ length (now file))
-        × (directSuperBlocks (geometry .header) ≤ u → «super_at» + superExtent (geometry .header) (geometry .«offset_size») u ≤ length (now file)) ⌝ }
+    requires { ⌜ PointerInFile (now file) geometry u k «super_at» ⌝ }
     ensures { λ r. ⌜ ((c : Call) → Sees c (now (file .entry)) geometry → (isDirect c u ≡ false → «super_at» ≡ superAt c u)
         → r ≡ pointerOf (blockUndefined c u k) (blockAt c u k)) ⌝ }
 {
@@ -103,9 +97,7 @@ pub fn test_two_blocks(file: &[u8], geometry: EaGeometry, u: u64, at: u64, other
 
 // Whether page p of data block k of super block u is set, in the page bits of the super block, which lies at super_at.
 pub fn page_set(file: &[u8], geometry: EaGeometry, super_at: u64, u: u64, k: u64, p: u64) -> bool
-    requires { ⌜ (u < superBlocks (geometry .header)) × (k < blocks u) × (p < pages (geometry .header) u) × Bounded geometry
-        × (inPages (geometry .header) u ≡ true)
-        × («super_at» + superExtent (geometry .header) (geometry .«offset_size») u ≤ length (now file)) ⌝ }
+    requires { ⌜ PageBitInFile (now file) geometry «super_at» u k p ⌝ }
     ensures { λ r. ⌜ ((c : Call) → Sees c (now (file .entry)) geometry → «super_at» ≡ superAt c u → r ≡ pageSet c u k p) ⌝ }
 {
     let pos = super_at + geometry.page_bits_at();

@@ -17,9 +17,7 @@ use Rattle.refusal.specs.Outcome.{accepted, countedOf}
 use Rattle.refusal.specs.Values.{plus}
 use Rattle.ea_header.specs.declared.ExtensibleArrayHeader.{ExtensibleArrayHeader}
 use Rattle.ea_geometry.specs.Sizes.{superBlocks, blocks, blockElements, directSuperBlocks, overPage, pageElements, pages}
-use Rattle.fields.specs.Fields.{isWidth}
-use Rattle.ea_geometry.specs.Bounded.{Bounded}
-use Rattle.ea_geometry.specs.Extents.{elementStride, elementAt, indexExtent, blockElementAt}
+use Rattle.ea_geometry.specs.Extents.{elementStride, elementAt, blockElementAt}
 use Rattle.ea_geometry.specs.Place.{inPages}
 use Rattle.ea_geometry.specs.Slots.{firstSlot}
 use Rattle.ea_header.specs.Values.{Served}
@@ -33,7 +31,7 @@ use Rattle.ea_blocks.specs.declared.enter.Entered.the-variants.{Absent, At, Ref
 use Rattle.ea_blocks.specs.Call.{Call}
 use Rattle.ea_blocks.specs.Structures.{Structure, isDirect, superAt, blockAt, dataPageAt}
 use Rattle.ea_elements.specs.Runs.{Listing, elements}
-use Rattle.ea_blocks.specs.Values.{Sees}
+use Rattle.ea_blocks.specs.Values.{Sees, IndexInFile}
 use Rattle.ea_blocks.specs.Entered.{EnteredSuper, EnteredBlock, EnteredPage, TestedAhead}
 use Rattle.refusal.proofs.Counts.{plus-none, answered, counted-inv}
 use Rattle.ea_elements.proofs.Runs.{run-count, run-refused, run-length}
@@ -358,10 +356,8 @@ pub record Fixed (f : List ℕ) (r : Reading) (chunk bound down : List ℕ) (cou
   pub super-blocks : supers ≡ superBlocks (r .geometry .header)
   pub direct-ones : directs ≡ directSuperBlocks (r .geometry .header)
   pub page-size : page ≡ pageElements (r .geometry .header)
-  pub bounded : Bounded (r .geometry)
   pub inline-few : r .geometry .header .«idx_blk_elmts» ≤ 255
-  pub wide : isWidth (r .geometry .«offset_size») ≡ true
-  pub index : r .geometry .header .«index_block_address» + indexExtent (r .geometry .header) (r .geometry .«offset_size») ≤ length f
+  pub index : IndexInFile f (r .geometry)
   pub some : (c : Call) × Walks c f r chunk bound down
 
 -- slots fit 64 bits

@@ -12,18 +12,17 @@ use Rattle.refusal.specs.declared.Refusal.{Refusal}
 use Rattle.refusal.specs.declared.Checked.{Checked}
 use Rattle.refusal.specs.declared.Checked.the-variants.{Passed, Refused}
 use Rattle.refusal.proofs.Tests.{false-true, then-inv}
-use Rattle.fields.specs.Fields.{isWidth}
 use Rattle.ea_header.specs.declared.ExtensibleArrayHeader.{ExtensibleArrayHeader}
 use Rattle.ea_header.specs.Values.{Served}
 use Rattle.ea_geometry.specs.declared.EaGeometry.{EaGeometry}
-use Rattle.ea_geometry.specs.Bounded.{Bounded}
 use Rattle.ea_geometry.specs.Sizes.{superBlocks, blocks, directSuperBlocks, blocksBefore}
-use Rattle.ea_geometry.specs.Extents.{indexExtent, superExtent}
+use Rattle.ea_geometry.specs.Extents.{superExtent}
 use Rattle.ea_geometry.proofs.Counts.{supers-few, blocks-before-few}
 use Rattle.refusal.specs.declared.Counted.{Counted}
 use Rattle.ea_blocks.specs.declared.enter.Entered.the-variants.{Absent, At, Refused as EnteredRefused}
 use Rattle.ea_blocks.specs.Call.{Call}
 use Rattle.ea_blocks.specs.Structures.{isDirect, superAt, blockUndefined}
+use Rattle.ea_blocks.specs.Values.{IndexInFile}
 use Rattle.refusal.specs.Outcome.{countedOf}
 use Rattle.refusal.specs.Values.{plus}
 use Rattle.refusal.proofs.Counts.{answered, plus-zero, plus-none, plus-also}
@@ -54,9 +53,7 @@ entered-room f g u at e le =
 pub record Fixed (f : List ℕ) (g : EaGeometry) (supers directs : ℕ) : Type 0 where
   pub super-blocks : supers ≡ superBlocks (g .header)
   pub direct-ones : directs ≡ directSuperBlocks (g .header)
-  pub bounded : Bounded g
-  pub wide : isWidth (g .«offset_size») ≡ true
-  pub index : g .header .«index_block_address» + indexExtent (g .header) (g .«offset_size») ≤ length f
+  pub index : IndexInFile f g
 
 module _ (c : Call) where
   abbrev all : ℕ

@@ -1,12 +1,10 @@
 // The walk that tests and counts.
 ghost use mathlib.Core.Path.{_≡_};
 ghost use mathlib.Core.Bool.{true};
-ghost use Prim.Native.Nat.{_+_, _≤_};
-ghost use lib.ListN.{length};
 ghost use Rattle.fields.specs.Fields.{isWidth, undefined};
 ghost use Rattle.ea_geometry.specs.Bounded.{Bounded};
 ghost use Rattle.ea_geometry.specs.Sizes.{superBlocks};
-ghost use Rattle.ea_geometry.specs.Extents.{indexExtent};
+ghost use Rattle.ea_blocks.specs.Values.{IndexInFile};
 ghost use Rattle.refusal.specs.Outcome.{countedOf};
 ghost use Rattle.span_walk.specs.Walk.{supersFrom, indexSpans};
 ghost use Rattle.ea_spans.specs.Values.{callAt};
@@ -51,8 +49,7 @@ pub fn index_undefined(geometry: EaGeometry) -> bool
 // Walks the super blocks and data blocks: tests the super blocks that the index block names, and counts them and every data block that
 // is pointed to.
 fn count_pointed(file: &[u8], geometry: EaGeometry) -> Counted
-    requires { ⌜ Bounded geometry × (isWidth (geometry .«offset_size») ≡ true)
-        × (geometry .header .«index_block_address» + indexExtent (geometry .header) (geometry .«offset_size») ≤ length (now file)) ⌝ }
+    requires { ⌜ IndexInFile (now file) geometry ⌝ }
     ensures { λ r. ⌜ r ≡ countedOf (supersFrom (callAt (now (file .entry)) geometry) (superBlocks (geometry .header)) 0) ⌝ }
 {
     let supers = geometry.super_blocks();

@@ -1,14 +1,11 @@
 // The tests of the structures that have spans: 31 before the others.
 ghost use mathlib.Core.Path.{_≡_};
-ghost use mathlib.Core.Bool.{true};
-ghost use Prim.Native.Nat.{_+_, _<_, _≤_};
-ghost use lib.ListN.{length};
-ghost use Rattle.fields.specs.Fields.{isWidth};
+ghost use Prim.Native.Nat.{_<_};
 ghost use Rattle.ea_header.specs.Header.{headerAt};
 ghost use Rattle.ea_header.specs.Values.{parsedAfter};
 ghost use Rattle.ea_geometry.specs.Bounded.{Bounded};
 ghost use Rattle.ea_geometry.specs.Sizes.{superBlocks};
-ghost use Rattle.ea_geometry.specs.Extents.{indexExtent};
+ghost use Rattle.ea_blocks.specs.Values.{IndexInFile};
 ghost use Rattle.span_walk.specs.Spans.{spanTest, headerSpan};
 ghost use Rattle.refusal.specs.declared.Checked.the-variants.{Refused};
 ghost use Rattle.ea_blocks.specs.Structures.{superAt};
@@ -98,8 +95,7 @@ pub fn test_index(file: &[u8], geometry: EaGeometry) -> Checked
 
 // Steps into super block u: 31, then 20, 25, 26. Where the index block names its data blocks there is none, and the position is 0.
 pub fn enter_super(file: &[u8], geometry: EaGeometry, u: u64) -> Entered
-    requires { ⌜ (u < superBlocks (geometry .header)) × Bounded geometry × (isWidth (geometry .«offset_size») ≡ true)
-        × (geometry .header .«index_block_address» + indexExtent (geometry .header) (geometry .«offset_size») ≤ length (now file)) ⌝ }
+    requires { ⌜ (u < superBlocks (geometry .header)) × IndexInFile (now file) geometry ⌝ }
     ensures { λ r. ⌜ EnteredSpan (callAt (now (file .entry)) geometry) u r ⌝ }
 {
     if u < geometry.direct_super_blocks() {

@@ -1,12 +1,12 @@
 // The walk that writes. What it walks has been tested and counted: nothing is refused any more.
 ghost use mathlib.Core.Path.{_≡_};
 ghost use mathlib.Core.Bool.{true};
-ghost use Prim.Native.Nat.{_+_, _<_, _≤_};
+ghost use Prim.Native.Nat.{_<_};
 ghost use lib.ListN.{length, set};
 ghost use Rattle.fields.specs.Fields.{isWidth};
 ghost use Rattle.ea_geometry.specs.Bounded.{Bounded};
 ghost use Rattle.ea_geometry.specs.Sizes.{superBlocks};
-ghost use Rattle.ea_geometry.specs.Extents.{indexExtent};
+ghost use Rattle.ea_blocks.specs.Values.{IndexInFile};
 ghost use Rattle.span_walk.specs.Spans.{blockLength};
 ghost use Rattle.span_walk.specs.Walk.{supersFrom, indexSpans};
 ghost use Rattle.ea_spans.specs.Listing.{filled, addressOf, lengthOf};
@@ -50,8 +50,7 @@ pub fn write_index(file: &[u8], geometry: EaGeometry, addresses: &mut [u64], len
 
 // Writes the spans of the super blocks and data blocks, from number 2 on.
 fn write_pointed(file: &[u8], geometry: EaGeometry, addresses: &mut [u64], lengths: &mut [u64])
-    requires { ⌜ Bounded geometry × (isWidth (geometry .«offset_size») ≡ true)
-        × (geometry .header .«index_block_address» + indexExtent (geometry .header) (geometry .«offset_size») ≤ length (now file))
+    requires { ⌜ IndexInFile (now file) geometry
         × Room (supersFrom (callAt (now file) geometry) (superBlocks (geometry .header)) 0) 2 (now addresses) (now lengths) ⌝ }
     ensures first { λ _. ⌜ now (addresses .exit)
         ≡ filled addressOf (supersFrom (callAt (now (file .entry)) geometry) (superBlocks (geometry .header)) 0) 2 (now (addresses .entry)) ⌝ }
@@ -95,8 +94,7 @@ fn write_pointed(file: &[u8], geometry: EaGeometry, addresses: &mut [u64], lengt
 
 // Where super block u lies. Where the index block names its data blocks there is none, and the position is 0.
 fn find_super(file: &[u8], geometry: EaGeometry, u: u64) -> Pointer
-    requires { ⌜ (u < superBlocks (geometry .header)) × Bounded geometry × (isWidth (geometry .«offset_size») ≡ true)
-        × (geometry .header .«index_block_address» + indexExtent (geometry .header) (geometry .«offset_size») ≤ length (now file)) ⌝ }
+    requires { ⌜ (u < superBlocks (geometry .header)) × IndexInFile (now file) geometry ⌝ }
     ensures { λ r. ⌜ FoundSuper (callAt (now (file .entry)) geometry) u r ⌝ }
 {
     if u < geometry.direct_super_blocks() {

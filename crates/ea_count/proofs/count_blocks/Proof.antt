@@ -13,11 +13,10 @@ use Rattle.ea_geometry.specs.Sizes as sizes
 use Rattle.ea_geometry.specs.Sizes.{blockElements}
 use Rattle.ea_geometry.specs.Place.{inPages}
 use Rattle.ea_count.proofs.WalkStates.{Fixed, AllTestedAhead, AtSuper, AtBlock, AtPage, BehindBlock, Done, sees, at-first, supers-done, super-ended, super-skip, super-refused, super-in, blocks-done, block-behind, block-ended, block-skip, block-refused, block-run, block-run-refused, block-pages, pages-done, page-skip, page-refused, page-run-refused, page-run-last, page-run-on, slot-few, block-few, entered-at, count-few, page-ends, paged-behind, unpaged-room}
-use Rattle.fields.proofs.Widths.{width-le}
 use Rattle.ea_geometry.proofs.Counts.{all-few, pages-exact}
 use Rattle.ea_geometry.proofs.Places.{next-slot}
 use Rattle.ea_blocks.specs.Entered.{EnteredSuper, EnteredBlock, EnteredPage, TestedAhead}
-use Rattle.ea_blocks.proofs.StructureTests.{index-seen, not-direct}
+use Rattle.ea_blocks.proofs.StructureTests.{index-in-file, not-direct}
 use Rattle.refusal.specs.Outcome.{accepted, countedOf}
 use mathlib.Core.List.{[]}
 use Rattle.ea_blocks.specs.Call.{Call}
@@ -134,7 +133,7 @@ last-page c =
     let yz = f .page-size in
     let tp = c .before .before .before .before .before .before .before .before .before .pages-test .taken in
     let s = x .9 in
-    let v = f .bounded .served in
+    let v = f .index .bounded .served in
     let us = c .before .before .before .before .before .before .before .before .before .before .before .before .before .before .before .before .before .before .before .before .before .before .before .before .before .before .before .before .before .supers .u in
     let w = f .some in
     let cf = count-few (w .0) _ _ _ _ (ran (c .before .before) (w .0) (w .1)) in
@@ -170,7 +169,7 @@ behind-block c =
     let t = w .3 .left in
     let us = c .before .before .before .before .before .before .before .before .before .before .before .before .before .before .before .before .before .supers .u in (
       subst (λ (y : ℕ). BehindBlock (c .before .before .before .before .before .before .before .before .before .before .before .before .before .before .before .before .before .before .before .before .before .before .before .before .args .file .now) (c .before .before .before .before .before .before .before .before .before .before .before .before .before .before .before .before .before .before .before .before .before .before .before .before .args .reading) (c .before .before .before .before .before .before .before .before .before .before .before .before .before .before .before .before .before .before .before .before .before .before .before .before .args .first) (c .before .before .before .before .before .before .before .before .before .before .before .before .before .before .before .before .before .before .before .before .before .before .before .before .args .chunk .now) (c .before .before .before .before .before .before .before .before .before .before .before .before .before .before .before .before .before .before .before .before .before .before .before .before .args .bound .now) (c .before .before .before .before .before .before .before .before .before .before .before .before .before .before .before .before .before .before .before .before .before .before .before .before .args .down .now) (y) (c .before .before .before .before .before .before .before .before .blocks2 .slot) (c .before .before .before .before .before .before .before .before .before .before .before .before .before .before .before .before .before .supers .u) (c .before .before .before .before .before .before .before .before .before .before .at .given .0 .0) (c .before .before .before .before .before .before .before .before .blocks2 .k)) (sym (w .5))
-          (pages-done _ _ _ _ _ _ _ _ _ _ _ _ _ _ (x .9) (omega arith) (pages-exact _ (x .0 .bounded .served) us (omega arith) (in-pages-over _ us (x .6))) (omega arith)),
+          (pages-done _ _ _ _ _ _ _ _ _ _ _ _ _ _ (x .9) (omega arith) (pages-exact _ (x .0 .index .bounded .served) us (omega arith) (in-pages-over _ us (x .6))) (omega arith)),
       w .4 ∙ x .8,
     ))
     (λ v. ⊎-elim
@@ -250,7 +249,7 @@ done-page c =
     let yz = f .page-size in
     let tp = c .before .before .before .before .pages-test .taken in
     let s = x .9 in
-    let v = f .bounded .served in
+    let v = f .index .bounded .served in
     let us = c .before .before .before .before .before .before .before .before .before .before .before .before .before .before .before .before .before .before .before .before .before .before .before .before .supers .u in
     page-refused _ _ _ _ _ _ _ _ _ _ _ _ _ _ s (omega arith) _ (λ k w. turned (c .before .before .before) k w (c .before .found4 .given .1))
 
@@ -266,7 +265,7 @@ done-page-run c =
     let yz = f .page-size in
     let tp = c .before .before .before .before .before .before .before .before .pages-test .taken in
     let s = x .9 in
-    let v = f .bounded .served in
+    let v = f .index .bounded .served in
     let us = c .before .before .before .before .before .before .before .before .before .before .before .before .before .before .before .before .before .before .before .before .before .before .before .before .before .before .before .before .supers .u in
     page-run-refused _ _ _ _ _ _ _ _ _ _ _ _ _ _ s (omega arith) _ (λ k w. turned (c .before .before .before .before .before .before .before) k w (c .before .before .before .before .before .found3 .given .1)) _
     (λ k w. sym (c .before .r2 .given .1) ∙ c .before .before .before .count-elements .ensures k (w .reads)
@@ -336,10 +335,8 @@ supers-holds c =
         super-blocks = c .before .before .before .super-blocks .ensures;
         direct-ones = c .before .before .direct-super-blocks .ensures;
         page-size = c .before .page-elements .ensures;
-        bounded = record { served = a .pre .1; width = width-le _ (a .pre .2) };
         inline-few = omega arith;
-        wide = a .pre .2;
-        index = index-seen _ _ _ s (a .pre .3 .2);
+        index = index-in-file _ _ _ s (a .pre .1) (a .pre .2) (a .pre .3 .2);
         some = (a .pre .3 .0, a .pre .3 .1);
       },
       omega arith,
@@ -369,7 +366,7 @@ mul-slot c =
     let f = x .0 in
     let lt = c .before .before .before .before .before .before .supers-test .taken in
     let y = f .super-blocks in
-    rw (c .before .before .before .before .blocks3 .ensures, c .before .before .before .block-elements .ensures) (omega (arith, all-few _ (f .bounded .served) (c .before .before .before .before .before .before .before .supers .u) (omega arith)))
+    rw (c .before .before .before .before .blocks3 .ensures, c .before .before .before .block-elements .ensures) (omega (arith, all-few _ (f .index .bounded .served) (c .before .before .before .before .before .before .before .supers .u) (omega arith)))
 
 add-slot : tie.Need-add-slot Inv-pages μ-pages Inv-blocks2 μ-blocks2 Inv-supers μ-supers
 add-slot c =
@@ -378,7 +375,7 @@ add-slot c =
     let f = x .0 in
     let lt = c .before .before .before .before .before .before .supers-test .taken in
     let y = f .super-blocks in
-    let z = slot-few _ (f .bounded .served) (f .inline-few) (c .before .before .before .before .before .before .before .supers .u + 1) (omega arith) in
+    let z = slot-few _ (f .index .bounded .served) (f .inline-few) (c .before .before .before .before .before .before .before .supers .u + 1) (omega arith) in
     let e = next-slot (a .args .reading .geometry .header) (c .before .before .before .before .before .before .before .supers .u) in
     let t = x .3 .at in
     rw (c .before .before .before .before .blocks3 .ensures, c .before .before .before .block-elements .ensures) (omega arith)
@@ -439,7 +436,7 @@ enter-block-in-turn-requires c κs =
     let tk = c .before .blocks2-test .taken in
     let lu = x .1 in
     let w = f .some in
-    (omega arith, omega arith, f .bounded, f .wide, f .index, λ le. entered-super-room (w .0) _ _ (sees _ _ 0 _ _ _ (w .0) (w .1)) _ _ (x .6 .entered (w .0) (w .1)) le)
+    record { super = omega arith; block = omega arith; index = f .index; inside = λ le. entered-super-room (w .0) _ _ (sees _ _ 0 _ _ _ (w .0) (w .1)) _ _ (x .6 .entered (w .0) (w .1)) le }
 
 enum-told-2 : tie.Need-enum-told-2 Inv-pages μ-pages Inv-blocks2 μ-blocks2 Inv-supers μ-supers
 enum-told-2 c = search needs
@@ -454,7 +451,7 @@ add-slot-2 c =
     let ye = x .3 in
     let tk = c .before .before .before .before .blocks2-test .taken in
     let lu = x .1 in
-    let z = block-few _ (f .bounded .served) (f .inline-few) (c .before .before .before .before .before .before .before .before .before .before .before .before .before .before .supers .u) (c .before .before .before .before .before .blocks2 .k) (omega arith) (omega arith) in
+    let z = block-few _ (f .index .bounded .served) (f .inline-few) (c .before .before .before .before .before .before .before .before .before .before .before .before .before .before .supers .u) (c .before .before .before .before .before .blocks2 .k) (omega arith) (omega arith) in
     let t = x .6 .at in
     omega arith
 
@@ -531,12 +528,13 @@ enter-page-in-turn-requires c κs =
     let yz = f .page-size in
     let tp = c .pages-test .taken in
     let s = x .9 in
-    let v = f .bounded .served in
+    let v = f .index .bounded .served in
     let us = c .before .before .before .before .before .before .before .before .before .before .before .before .before .before .before .before .before .before .before .before .supers .u in
     let w = f .some in
     let n = sees _ _ 0 _ _ _ (w .0) (w .1) in
     let room = entered-head-room (w .0) _ _ n _ _ _ (s .inside (w .0) (w .1)) (x .6) in
-    (omega arith, omega arith, omega arith, f .bounded, x .6, entered-super-room (w .0) _ _ n _ _ (s .entered (w .0) (w .1)) (paged-behind _ _ (x .6)), omega arith)
+    let inside = entered-super-room (w .0) _ _ n _ _ (s .entered (w .0) (w .1)) (paged-behind _ _ (x .6)) in
+    (record { super = omega arith; block = omega arith; page = omega arith; bounded = f .index .bounded; paged = x .6; inside = inside }, omega arith)
 
 enum-told-3 : tie.Need-enum-told-3 Inv-pages μ-pages Inv-blocks2 μ-blocks2 Inv-supers μ-supers
 enum-told-3 c = search needs
@@ -553,7 +551,7 @@ add-from c =
     let yz = f .page-size in
     let tp = c .before .before .before .pages-test .taken in
     let s = x .9 in
-    let v = f .bounded .served in
+    let v = f .index .bounded .served in
     let us = c .before .before .before .before .before .before .before .before .before .before .before .before .before .before .before .before .before .before .before .before .before .before .before .supers .u in
     let pe = page-ends _ v us (c .before .before .before .before .pages .p) _ _ (omega arith) (x .6) (omega arith) (s .at) in
     let z = block-few _ v (f .inline-few) us (c .before .before .before .before .before .before .before .before .before .before .before .before .before .before .blocks2 .k) (omega arith) (omega arith) in
@@ -578,7 +576,7 @@ pages-again c =
     let yz = f .page-size in
     let tp = c .before .before .before .pages-test .taken in
     let s = x .9 in
-    let v = f .bounded .served in
+    let v = f .index .bounded .served in
     let us = c .before .before .before .before .before .before .before .before .before .before .before .before .before .before .before .before .before .before .before .before .before .before .before .supers .u in
     (f, x .1, yb, ye, x .4, yp, x .6, omega arith, x .8, rw yz (page-skip _ _ _ _ _ _ _ _ _ _ _ _ _ _ s (omega arith) (λ k w. turned (c .before .before) k w (c .enum-told3 .given .1))), kept-page (c .before .before))
 
@@ -603,7 +601,7 @@ count-elements-requires c κs =
     let yz = f .page-size in
     let tp = c .before .before .before .before .pages-test .taken in
     let s = x .9 in
-    let v = f .bounded .served in
+    let v = f .index .bounded .served in
     let us = c .before .before .before .before .before .before .before .before .before .before .before .before .before .before .before .before .before .before .before .before .before .before .before .before .supers .u in
     let w = f .some in
     let n = sees _ _ 0 _ _ _ (w .0) (w .1) in
@@ -624,7 +622,7 @@ add-total c =
     let yz = f .page-size in
     let tp = c .before .before .before .before .before .before .before .before .pages-test .taken in
     let s = x .9 in
-    let v = f .bounded .served in
+    let v = f .index .bounded .served in
     let us = c .before .before .before .before .before .before .before .before .before .before .before .before .before .before .before .before .before .before .before .before .before .before .before .before .before .before .before .before .supers .u in
     let pe = page-ends _ v us (c .before .before .before .before .before .before .before .before .before .pages .p) _ _ (omega arith) (x .6) (omega arith) (s .at) in
     let z = block-few _ v (f .inline-few) us (c .before .before .before .before .before .before .before .before .before .before .before .before .before .before .before .before .before .before .before .blocks2 .k) (omega arith) (omega arith) in
@@ -650,7 +648,7 @@ add-if5 c =
     let yz = f .page-size in
     let tp = c .before .before .before .before .before .before .before .before .pages-test .taken in
     let s = x .9 in
-    let v = f .bounded .served in
+    let v = f .index .bounded .served in
     let us = c .before .before .before .before .before .before .before .before .before .before .before .before .before .before .before .before .before .before .before .before .before .before .before .before .before .before .before .before .supers .u in
     let pe = page-ends _ v us (c .before .before .before .before .before .before .before .before .before .pages .p) _ _ (omega arith) (x .6) (omega arith) (s .at) in
     let z = block-few _ v (f .inline-few) us (c .before .before .before .before .before .before .before .before .before .before .before .before .before .before .before .before .before .before .before .blocks2 .k) (omega arith) (omega arith) in
@@ -669,7 +667,7 @@ add-from-2 c =
     let yz = f .page-size in
     let tp = c .before .before .before .before .before .before .before .before .before .pages-test .taken in
     let s = x .9 in
-    let v = f .bounded .served in
+    let v = f .index .bounded .served in
     let us = c .before .before .before .before .before .before .before .before .before .before .before .before .before .before .before .before .before .before .before .before .before .before .before .before .before .before .before .before .before .supers .u in
     let pe = page-ends _ v us (c .before .before .before .before .before .before .before .before .before .before .pages .p) _ _ (omega arith) (x .6) (omega arith) (s .at) in
     let z = block-few _ v (f .inline-few) us (c .before .before .before .before .before .before .before .before .before .before .before .before .before .before .before .before .before .before .before .before .blocks2 .k) (omega arith) (omega arith) in
@@ -694,7 +692,7 @@ pages-again-2 c =
     let yz = f .page-size in
     let tp = c .before .before .before .before .before .before .before .before .before .pages-test .taken in
     let s = x .9 in
-    let v = f .bounded .served in
+    let v = f .index .bounded .served in
     let us = c .before .before .before .before .before .before .before .before .before .before .before .before .before .before .before .before .before .before .before .before .before .before .before .before .before .before .before .before .before .supers .u in
     let w = f .some in
     let cf = count-few (w .0) _ _ _ _ (ran (c .before .before) (w .0) (w .1)) in
@@ -766,7 +764,7 @@ add-total-2 c =
     let lu = x .1 in
     let w = f .some in
     let cf = count-few (w .0) _ _ _ _ (ran2 (c .before .before .before) (w .0) (w .1) (c .before .n2 .given .1)) in
-    let z = block-few _ (f .bounded .served) (f .inline-few) (c .before .before .before .before .before .before .before .before .before .before .before .before .before .before .before .before .before .before .before .before .before .before .supers .u) (c .before .before .before .before .before .before .before .before .before .before .before .before .before .blocks2 .k) (omega arith) (omega arith) in
+    let z = block-few _ (f .index .bounded .served) (f .inline-few) (c .before .before .before .before .before .before .before .before .before .before .before .before .before .before .before .before .before .before .before .before .before .before .supers .u) (c .before .before .before .before .before .before .before .before .before .before .before .before .before .blocks2 .k) (omega arith) (omega arith) in
     let t = x .6 .at in
     let l = x .6 .few in
     omega arith
@@ -785,7 +783,7 @@ add-slot-3 c =
     let ye = x .3 in
     let tk = c .before .before .before .before .before .before .before .blocks2-test .taken in
     let lu = x .1 in
-    let z = block-few _ (f .bounded .served) (f .inline-few) (c .before .before .before .before .before .before .before .before .before .before .before .before .before .before .before .before .before .supers .u) (c .before .before .before .before .before .before .before .before .blocks2 .k) (omega arith) (omega arith) in
+    let z = block-few _ (f .index .bounded .served) (f .inline-few) (c .before .before .before .before .before .before .before .before .before .before .before .before .before .before .before .before .before .supers .u) (c .before .before .before .before .before .before .before .before .blocks2 .k) (omega arith) (omega arith) in
     let t = x .6 .at in
     omega arith
 

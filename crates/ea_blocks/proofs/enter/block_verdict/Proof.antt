@@ -42,7 +42,7 @@ enum-known-next c = search needs
 test-two-blocks-requires : tie.Need-test-two-blocks-requires
 test-two-blocks-requires c κs =
     let a = c .before .before .before .before .before .before .before .before .before .before in
-    (a .pre .0, a .pre .2, sym (c .before .before .before .before .before .in-pages .ensures) ∙ not-true _ (c .before .before .before .before .if3 .taken))
+    (a .pre .super, a .pre .index .bounded, sym (c .before .before .before .before .before .in-pages .ensures) ∙ not-true _ (c .before .before .before .before .if3 .taken))
 
 add-keep-second : tie.Need-add-keep-second
 add-keep-second c = search needs

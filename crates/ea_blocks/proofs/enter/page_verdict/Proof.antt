@@ -35,7 +35,7 @@ page-set-requires c κs = search needs
 test-two-pages-requires : tie.Need-test-two-pages-requires
 test-two-pages-requires c κs =
     let a = c .before .before .before .before .before .before in
-    ((a .args .u, a .pre .0, omega arith), a .pre .3, a .pre .6)
+    ((a .args .u, a .pre .0 .super, omega arith), a .pre .0 .bounded, a .pre .1)
 
 add-keep-second : tie.Need-add-keep-second
 add-keep-second c = search needs

@@ -27,13 +27,13 @@ in-index c =
     let a = c .before .before .before .before .before in
     let h = a .args .geometry .header in
     let o = a .args .geometry .«offset_size» in
-    omega (arith, a .pre, c .before .direct-pointer-at .ensures, direct-pointer-inside h o (a .args .u) (a .args .k) (direct (c .before .before)) (a .pre .1), super-pointers-inside h o)
+    omega (arith, a .pre, c .before .direct-pointer-at .ensures, direct-pointer-inside h o (a .args .u) (a .args .k) (direct (c .before .before)) (a .pre .block), super-pointers-inside h o)
 
 add-pos : tie.Need-add-pos
 add-pos c = omega (arith, in-index c)
 
 read-pointer-requires : tie.Need-read-pointer-requires
-read-pointer-requires c κs = (in-index c, c .before .before .before .before .before .pre .3)
+read-pointer-requires c κs = (in-index c, c .before .before .before .before .before .pre .index .wide)
 
 returns : tie.Need-returns
 unfolding blockUndefined blockAt
@@ -55,13 +55,13 @@ in-super : (c : tie.After-block-pointer-at)
 in-super c =
     let a = c .before .before .before .before in
     let g = a .args .geometry in
-    omega (arith, a .pre .5 (beyond (c .before)), c .block-pointer-at .ensures, block-pointer-inside (g .header) (g .«offset_size») (a .args .u) (a .args .k) (a .pre .1))
+    omega (arith, a .pre .inside (beyond (c .before)), c .block-pointer-at .ensures, block-pointer-inside (g .header) (g .«offset_size») (a .args .u) (a .args .k) (a .pre .block))
 
 add-pos-2 : tie.Need-add-pos-2
 add-pos-2 c = omega (arith, in-super c)
 
 read-pointer-requires-2 : tie.Need-read-pointer-requires-2
-read-pointer-requires-2 c κs = (in-super c, c .before .before .before .before .pre .3)
+read-pointer-requires-2 c κs = (in-super c, c .before .before .before .before .pre .index .wide)
 
 returns-2 : tie.Need-returns-2
 unfolding blockUndefined blockAt

@@ -23,8 +23,8 @@ in-super a =
     let h = a .args .geometry .header in
     let o = a .args .geometry .«offset_size» in
     let u = a .args .u in
-    let over = both (leb (directSuperBlocks h) u) (overPage h u) (a .pre .4) .1 in
-    omega (arith, a .pre, bit-inside h o u (a .args .k) (a .args .p) over (a .pre .1) (a .pre .2), block-pointer-inside h o u 0 (omega (arith, a .pre)))
+    let over = both (leb (directSuperBlocks h) u) (overPage h u) (a .pre .paged) .1 in
+    omega (arith, a .pre, bit-inside h o u (a .args .k) (a .args .p) over (a .pre .block) (a .pre .page), block-pointer-inside h o u 0 (omega (arith, a .pre)))
 
 page-bits-at-requires : tie.Need-page-bits-at-requires
 page-bits-at-requires c κs = search needs

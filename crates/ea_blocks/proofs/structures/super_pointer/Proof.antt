@@ -22,7 +22,7 @@ add-pos : tie.Need-add-pos
 add-pos c = omega (arith, in-bounds c)
 
 read-pointer-requires : tie.Need-read-pointer-requires
-read-pointer-requires c κs = (in-bounds c, c .before .before .before .pre .3)
+read-pointer-requires c κs = (in-bounds c, c .before .before .before .pre .2 .wide)
 
 returns : tie.Need-returns
 unfolding superUndefined superAt superNamedAt indexAt

@@ -92,14 +92,15 @@ page-set-requires c κs =
     let p = a .pre .5 in
     let r = reached-by (c .before .before .before) (p .0) (p .1) in
     let v = a .pre .3 .served in
-    let d = page-not-direct (p .0) _ _ _ (p .1) v _ _ _ (a .pre .0) (a .pre .1) in (
-      a .pre .0 .super,
-      a .pre .0 .block,
-      rw (a .pre .2) (page-below _ v _ _ (a .pre .0 .super) (a .pre .1) (a .pre .0 .element)),
-      a .pre .3,
-      a .pre .1,
-      rw (r .2 d) (page-super-room (p .0) _ _ _ (p .1) v _ _ _ (a .pre .0) (a .pre .1) (r .0)),
-    )
+    let d = page-not-direct (p .0) _ _ _ (p .1) v _ _ _ (a .pre .0) (a .pre .1) in
+    record {
+      super = a .pre .0 .super;
+      block = a .pre .0 .block;
+      page = rw (a .pre .2) (page-below _ v _ _ (a .pre .0 .super) (a .pre .1) (a .pre .0 .element));
+      bounded = a .pre .3;
+      paged = a .pre .1;
+      inside = rw (r .2 d) (page-super-room (p .0) _ _ _ (p .1) v _ _ _ (a .pre .0) (a .pre .1) (r .0));
+    }
 
 paged-element-at-requires : tie.Need-paged-element-at-requires
 paged-element-at-requires c κs =

@@ -9,7 +9,7 @@ use Rattle.ea_geometry.specs.Sizes.{directSuperBlocks}
 use Rattle.ea_geometry.specs.Extents.{superExtent}
 use Rattle.ea_blocks.specs.Call.{Call}
 use Rattle.ea_blocks.specs.Values.{Sees}
-use Rattle.ea_blocks.proofs.StructureTests.{index-seen, super-seen, is-direct, not-direct}
+use Rattle.ea_blocks.proofs.StructureTests.{index-in-file, super-seen, is-direct, not-direct}
 use Rattle.ea_blocks.proofs.Pointers.{pointer-undefined, pointer-at}
 use Rattle.ea_elements.proofs.Reached.{Named, named-reached, named-at, named-defined}
 use borrow.Author.Needs.{needs}
@@ -24,7 +24,7 @@ super-pointer-requires c κs =
     let a = c .before .before .before in
     let d = c .before .direct-super-blocks .ensures in
     let p = a .pre .4 in
-    (omega arith, a .pre .0, a .pre .2, a .pre .3, index-seen _ _ _ (p .1) (p .2))
+    (omega arith, a .pre .0, index-in-file _ _ _ (p .1) (a .pre .2 .served) (a .pre .3) (p .2))
 
 enum-told : tie.Need-enum-told
 enum-told c = search needs
@@ -64,7 +64,7 @@ block-pointer-requires : tie.Need-block-pointer-requires
 block-pointer-requires c κs =
     let a = c .before .before .before in
     let p = a .pre .4 in
-    (a .pre .0, a .pre .1, a .pre .2, a .pre .3, index-seen _ _ _ (p .1) (p .2), super-room c)
+    record { super = a .pre .0; block = a .pre .1; index = index-in-file _ _ _ (p .1) (a .pre .2 .served) (a .pre .3) (p .2); inside = super-room c }
 
 enum-told-2 : tie.Need-enum-told-2
 enum-told-2 c = search needs

@@ -48,12 +48,14 @@ enter-page-requires c κs =
     let v = a .pre .3 in
     let b = a .pre .0 in
     let t = both c (p .0) (p .1) in (
-      b .super,
-      b .block,
-      page-below-pages (p .1) v _ _ _ _ b _ _ t (a .pre .1) _ (a .pre .2),
-      bounded-by (p .1) v _ _ _ _ b _ _ t,
-      a .pre .1,
-      super-room (p .1) v _ _ _ _ b _ _ t (a .pre .1) _ (a .pre .2),
+      record {
+        super = b .super;
+        block = b .block;
+        page = page-below-pages (p .1) v _ _ _ _ b _ _ t (a .pre .1) _ (a .pre .2);
+        bounded = bounded-by (p .1) v _ _ _ _ b _ _ t;
+        paged = a .pre .1;
+        inside = super-room (p .1) v _ _ _ _ b _ _ t (a .pre .1) _ (a .pre .2);
+      },
       head-room (p .1) v _ _ _ _ b _ _ t (a .pre .1) _ (a .pre .2),
     )
 

@@ -1,15 +1,13 @@
 -- `ea_lookup::paths::way_to_block` meets its contract. Assumes nothing.
 use mathlib.Core.Path.{_≡_, sym, subst, _∙_}
-use mathlib.Core.Bool.{true}
 use Rattle.refusal.specs.declared.Checked.the-variants.{Passed}
-use Rattle.fields.specs.Fields.{isWidth, widthTest}
+use Rattle.fields.specs.Fields.{widthTest}
 use Rattle.fields.proofs.Fields.{width-is}
 use Rattle.fields.proofs.Widths.{width-le}
-use Rattle.ea_geometry.specs.Bounded.{Bounded}
 use Rattle.ea_blocks.specs.declared.enter.Entered.{Entered}
 use Rattle.ea_blocks.specs.declared.enter.Entered.the-variants.{At}
 use Rattle.ea_blocks.specs.Call.{Call}
-use Rattle.ea_blocks.specs.Values.{Sees}
+use Rattle.ea_blocks.specs.Values.{Sees, IndexInFile}
 use Rattle.ea_blocks.specs.Entered.{EnteredSuper, EnteredBlock}
 use Rattle.ea_blocks.proofs.Entering.{entered-super-room}
 use Rattle.ea_count.proofs.WalkStates.{entered-at}
@@ -31,21 +29,19 @@ returns c = λ k s.
 enum-told : tie.Need-enum-told
 enum-told c = search needs
 
--- the offset size is a width
-width : (c : tie.After-enum-told) → isWidth (c .before .before .before .before .args .geometry .«offset_size») ≡ true
-width c = width-is _ _ (sym (c .before .before .ensure-width .ensures) ∙ c .enum-told .given .1)
-
-bounded : (c : tie.After-enum-told) → Bounded (c .before .before .before .before .args .geometry)
-bounded c = record { served = c .before .before .before .before .pre .2; width = width-le _ (width c) }
+-- the offset size is a width, and the index block lies in the file
+index : (c : tie.After-enum-told) → IndexInFile (c .before .before .before .before .args .file .now) (c .before .before .before .before .args .geometry)
+index c =
+    let p = c .before .before .before .before .pre in
+    let w = width-is _ _ (sym (c .before .before .ensure-width .ensures) ∙ c .enum-told .given .1) in
+    record { bounded = record { served = p .2; width = width-le _ w }; wide = w; inside = p .3 }
 
 passed : (c : tie.After-enum-told) (k : Call) → Sees k (c .before .before .before .before .args .file .now) (c .before .before .before .before .args .geometry)
     → widthTest 1 (k .offsetSize) ≡ Passed
 passed c k s = rw (s .offset) (sym (c .before .before .ensure-width .ensures) ∙ c .enum-told .given .1)
 
 enter-super-requires : tie.Need-enter-super-requires
-enter-super-requires c κs =
-    let a = c .before .before .before .before in
-    (a .pre .0, bounded c, width c, a .pre .3)
+enter-super-requires c κs = (c .before .before .before .before .pre .0, index c)
 
 enum-told-2 : tie.Need-enum-told-2
 enum-told-2 c = search needs
@@ -68,8 +64,8 @@ enter-block-requires : tie.Need-enter-block-requires
 enter-block-requires c κs =
     let a = c .before .before .before .before .before .before .before .before in
     let p = a .pre .4 in
-    let n = c .before .before .before .before in
-    (a .pre .0, a .pre .1, bounded n, width n, a .pre .3, entered-super-room (p .0) _ _ (p .1) _ _ (super c (p .0) (p .1)))
+    let room = entered-super-room (p .0) _ _ (p .1) _ _ (super c (p .0) (p .1)) in
+    record { super = a .pre .0; block = a .pre .1; index = index (c .before .before .before .before); inside = room }
 
 enum-told-3 : tie.Need-enum-told-3
 enum-told-3 c = search needs

@@ -7,7 +7,7 @@ use Rattle.refusal.proofs.Tests.{then-inv}
 use Rattle.fields.specs.Fields.{undefined}
 use Rattle.ea_blocks.specs.Structures.{indexAt}
 use Rattle.refusal.specs.Outcome.{countedOf}
-use Rattle.ea_blocks.proofs.StructureTests.{index-seen}
+use Rattle.ea_blocks.proofs.StructureTests.{index-in-file}
 use Rattle.span_walk.specs.Walk.{indexTest}
 use Rattle.ea_spans.proofs.Tests.{seen}
 use Rattle.ea_spans.proofs.Lengths.{counted-more, refused-more, index-none, index-refused, index-tested, pointed-few}
@@ -41,7 +41,7 @@ count-pointed-requires : tie.Need-count-pointed-requires
 unfolding indexTest
 count-pointed-requires c κs =
     let p = c .before .before .before .before .before .before .pre in
-    (p .0, p .1, index-seen _ _ _ (seen _ _) (then-inv _ _ (passed c) .1))
+    index-in-file _ _ _ (seen _ _) (p .0 .served) (p .1) (then-inv _ _ (passed c) .1)
 
 enum-known-n : tie.Need-enum-known-n
 enum-known-n c = search needs

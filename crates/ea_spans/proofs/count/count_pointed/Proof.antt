@@ -55,24 +55,13 @@ direct-super-blocks-requires c κs = search needs
 
 supers-holds : tie.Need-supers-holds Inv-blocks2 μ-blocks2 Inv-supers μ-supers
 supers-holds c =
-    let p = c .before .before .before .pre in (
-      record {
-        super-blocks = c .before .super-blocks .ensures;
-        direct-ones = c .direct-super-blocks .ensures;
-        bounded = p .0;
-        wide = p .1;
-        index = p .2;
-      },
-      omega arith,
-      refl,
-      at-first _,
-    )
+    (record { super-blocks = c .before .super-blocks .ensures; direct-ones = c .direct-super-blocks .ensures; index = c .before .before .before .pre }, omega arith, refl, at-first _)
 
 enter-super-requires : tie.Need-enter-super-requires Inv-blocks2 μ-blocks2 Inv-supers μ-supers
 enter-super-requires c κs =
     let f = c .before .supers .inv .0 in
     let e = f .super-blocks in
-    (omega arith, f .bounded, f .wide, f .index)
+    (omega arith, f .index)
 
 enum-told : tie.Need-enum-told Inv-blocks2 μ-blocks2 Inv-supers μ-supers
 enum-told c = search needs
@@ -80,7 +69,7 @@ enum-told c = search needs
 add-u : tie.Need-add-u Inv-blocks2 μ-blocks2 Inv-supers μ-supers
 add-u c =
     let f = c .before .before .before .before .supers .inv .0 in
-    omega (arith, f .super-blocks, supers-few _ (f .bounded .served))
+    omega (arith, f .super-blocks, supers-few _ (f .index .bounded .served))
 
 supers-less : tie.Need-supers-less Inv-blocks2 μ-blocks2 Inv-supers μ-supers
 supers-less c = search needs
@@ -102,13 +91,13 @@ add-total c =
     let l = c .before .before .before .before .before .before .supers .inv in
     let e = l .0 .super-blocks in
     let x = l .3 .few in
-    omega (arith, few-enough _ (l .0 .bounded .served) _ 0 (let z : c .before .before .before .before .before .before .supers .u < sizes.superBlocks _ = omega arith in z) (omega arith))
+    omega (arith, few-enough _ (l .0 .index .bounded .served) _ 0 (let z : c .before .before .before .before .before .before .supers .u < sizes.superBlocks _ = omega arith in z) (omega arith))
 
 blocks-requires : tie.Need-blocks-requires Inv-blocks2 μ-blocks2 Inv-supers μ-supers
 blocks-requires c κs =
     let f = c .before .before .before .before .before .before .supers .inv .0 in
     let e = f .super-blocks in
-    (omega arith, f .bounded .served)
+    (omega arith, f .index .bounded .served)
 
 blocks2-holds : tie.Need-blocks2-holds Inv-blocks2 μ-blocks2 Inv-supers μ-supers
 blocks2-holds c =
@@ -134,7 +123,7 @@ block-pointer-requires c κs =
     let f = l .0 in
     let e = f .super-blocks in
     let b = l .2 in
-    (omega arith, omega arith, f .bounded, f .wide, f .index, λ le. entered-room _ _ _ _ (l .5 .entered) le)
+    record { super = omega arith; block = omega arith; index = f .index; inside = λ le. entered-room _ _ _ _ (l .5 .entered) le }
 
 enum-told-2 : tie.Need-enum-told-2 Inv-blocks2 μ-blocks2 Inv-supers μ-supers
 enum-told-2 c = search needs
@@ -146,7 +135,7 @@ add-total-2 c =
     let e = l .0 .super-blocks in
     let b = l .2 in
     let x = l .5 .few in
-    omega (arith, few-enough _ (l .0 .bounded .served) _ (i .blocks2 .k) (let z : i .before .before .before .before .before .before .before .before .supers .u < sizes.superBlocks _ = omega arith in z) (omega arith))
+    omega (arith, few-enough _ (l .0 .index .bounded .served) _ (i .blocks2 .k) (let z : i .before .before .before .before .before .before .before .before .supers .u < sizes.superBlocks _ = omega arith in z) (omega arith))
 
 -- what the pointer to a data block says
 pointed : (c : tie.After-block-pointer Inv-blocks2 μ-blocks2 Inv-supers μ-supers) {p : Pointer} → c .block-pointer .result ≡ p
@@ -181,7 +170,7 @@ blocks2-again c =
 add-u-2 : tie.Need-add-u-2 Inv-blocks2 μ-blocks2 Inv-supers μ-supers
 add-u-2 c =
     let f = c .before .blocks2 .inv .0 in
-    omega (arith, f .super-blocks, supers-few _ (f .bounded .served))
+    omega (arith, f .super-blocks, supers-few _ (f .index .bounded .served))
 
 supers-less-2 : tie.Need-supers-less-2 Inv-blocks2 μ-blocks2 Inv-supers μ-supers
 supers-less-2 c = search needs

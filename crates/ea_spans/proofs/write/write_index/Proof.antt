@@ -8,7 +8,7 @@ use Rattle.fields.specs.Fields.{undefined}
 use Rattle.ea_geometry.specs.Sizes.{superBlocks}
 use Rattle.ea_blocks.specs.Call.{Call}
 use Rattle.ea_blocks.specs.Structures.{indexAt}
-use Rattle.ea_blocks.proofs.StructureTests.{index-seen}
+use Rattle.ea_blocks.proofs.StructureTests.{index-in-file}
 use Rattle.span_walk.specs.Walk.{indexTest, supersFrom, indexSpans}
 use Rattle.ea_spans.specs.Listing.{filled, addressOf, lengthOf}
 use Rattle.ea_spans.proofs.Tests.{seen, index-spanned}
@@ -70,7 +70,7 @@ write-pointed-requires c κs =
     let p = c .before .before .before .before .before .before in
     let e = p .before .before .before .before in
     let s = start e in
-    (s .pre .0, s .pre .1, index-seen _ _ _ (seen _ _) (then-inv _ _ (index-passed _ (s .pre .2) (there e)) .1), next p .room)
+    (index-in-file _ _ _ (seen _ _) (s .pre .0 .served) (s .pre .1) (then-inv _ _ (index-passed _ (s .pre .2) (there e)) .1), next p .room)
 
 same-length : tie.Need-same-length
 same-length c = search needs

@@ -61,12 +61,10 @@ supers-holds c =
       record {
         super-blocks = c .before .super-blocks .ensures;
         direct-ones = c .direct-super-blocks .ensures;
-        bounded = p .0;
-        wide = p .1;
-        index = p .2;
+        index = p .0;
       },
       omega arith,
-      going-first _ _ _ _ (p .3),
+      going-first _ _ _ _ (p .1),
       refl,
       refl,
     )
@@ -75,7 +73,7 @@ find-super-requires : tie.Need-find-super-requires Inv-blocks2 μ-blocks2 Inv-su
 find-super-requires c κs =
     let f = c .before .supers .inv .0 in
     let e = f .super-blocks in
-    (omega arith, f .bounded, f .wide, f .index)
+    (omega arith, f .index)
 
 enum-told : tie.Need-enum-told Inv-blocks2 μ-blocks2 Inv-supers μ-supers
 enum-told c = search needs
@@ -83,7 +81,7 @@ enum-told c = search needs
 add-u : tie.Need-add-u Inv-blocks2 μ-blocks2 Inv-supers μ-supers
 add-u c =
     let f = c .before .before .before .before .supers .inv .0 in
-    omega (arith, f .super-blocks, supers-few _ (f .bounded .served))
+    omega (arith, f .super-blocks, supers-few _ (f .index .bounded .served))
 
 supers-less : tie.Need-supers-less Inv-blocks2 μ-blocks2 Inv-supers μ-supers
 supers-less c = search needs
@@ -120,7 +118,7 @@ super-extent-requires : tie.Need-super-extent-requires Inv-blocks2 μ-blocks2 In
 super-extent-requires c κs =
     let f = c .before .before .before .before .before .before .supers .inv .0 in
     let e = f .super-blocks in
-    (omega arith, f .bounded)
+    (omega arith, f .index .bounded)
 
 -- the call, and the lists that are to be made
 abbrev call : tie.Start Inv-blocks2 μ-blocks2 Inv-supers μ-supers → Call
@@ -187,13 +185,13 @@ blocks-requires : tie.Need-blocks-requires Inv-blocks2 μ-blocks2 Inv-supers μ-
 blocks-requires c κs =
     let f = c .before .before .before .before .before .before .supers .inv .0 in
     let e = f .super-blocks in
-    (omega arith, f .bounded .served)
+    (omega arith, f .index .bounded .served)
 
 block-length-requires : tie.Need-block-length-requires Inv-blocks2 μ-blocks2 Inv-supers μ-supers
 block-length-requires c κs =
     let f = c .before .before .before .before .before .before .before .supers .inv .0 in
     let e = f .super-blocks in
-    (omega arith, f .bounded)
+    (omega arith, f .index .bounded)
 
 blocks2-holds : tie.Need-blocks2-holds Inv-blocks2 μ-blocks2 Inv-supers μ-supers
 blocks2-holds c =
@@ -208,7 +206,7 @@ block-pointer-requires c κs =
     let f = l .0 in
     let e = f .super-blocks in
     let b = l .2 in
-    (omega arith, omega arith, f .bounded, f .wide, f .index, λ le. entered-room _ _ _ _ (l .5) le)
+    record { super = omega arith; block = omega arith; index = f .index; inside = λ le. entered-room _ _ _ _ (l .5) le }
 
 enum-known-address : tie.Need-enum-known-address Inv-blocks2 μ-blocks2 Inv-supers μ-supers
 enum-known-address c = search needs
@@ -286,7 +284,7 @@ blocks2-again c =
 add-u-2 : tie.Need-add-u-2 Inv-blocks2 μ-blocks2 Inv-supers μ-supers
 add-u-2 c =
     let f = c .before .blocks2 .inv .0 in
-    omega (arith, f .super-blocks, supers-few _ (f .bounded .served))
+    omega (arith, f .super-blocks, supers-few _ (f .index .bounded .served))
 
 supers-less-2 : tie.Need-supers-less-2 Inv-blocks2 μ-blocks2 Inv-supers μ-supers
 supers-less-2 c = search needs
