@@ -16,7 +16,7 @@ use Rattle.ea_geometry.specs.declared.Place.the-variants.{Block, Page}
 use Rattle.ea_blocks.specs.Call.{Call}
 use Rattle.ea_elements.specs.Elements.{Rec, element}
 use Rattle.ea_blocks.specs.Structures.{Structure, superBlock, dataBlock, dataPage, testOf, isDirect, superUndefined, blockUndefined, bitSet}
-use Rattle.ea_elements.specs.Places.{blockReached, reached, positionOf, leading, structures, pointerTest, answerOf, tested, pathAt, path}
+use Rattle.ea_elements.specs.Places.{blockReached, reached, positionOf, leadingTo, structures, pointerTest, answerOf, tested, pathAt, path}
 use Rattle.ea_elements.proofs.Paths.{tested-inv}
 
 -- the tests on the way to data block k of super block u, and to what is in it
@@ -38,8 +38,8 @@ module _ (c : Call) (u k : ℕ) (inner : List Structure) (rest : Outcome (Option
       let b : blockUndefined c u k ≡ false = not-true _ (both (isDirect c u || not (superUndefined c u)) (not (blockUndefined c u k)) r .1) in
       yields-inv _ _ x (rw b at h)
 
-  pub way : tested c (leading c u k inner) rest ≡ accepted x → Way c u k inner rest x
-  unfolding leading tested
+  pub way : tested c (leadingTo c u k inner) rest ≡ accepted x → Way c u k inner rest x
+  unfolding leadingTo tested
   way h = go (isDirect c u) refl (superUndefined c u) refl h
     where
       part : List Structure

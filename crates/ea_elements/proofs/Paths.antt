@@ -20,7 +20,7 @@ use Rattle.ea_elements.specs.declared.Entry.{Entry}
 use Rattle.ea_blocks.specs.Call.{Call}
 use Rattle.ea_elements.specs.Elements.{Rec, element}
 use Rattle.ea_blocks.specs.Structures.{Structure, superBlock, dataBlock, dataPage, testOf, isDirect, blockAt, superUndefined, blockUndefined, pageSet}
-use Rattle.ea_elements.specs.Places.{blockReached, reached, positionOf, heldAt, held, leading, structures, pointerTest, answerOf, tested, pathAt, path}
+use Rattle.ea_elements.specs.Places.{blockReached, reached, positionOf, heldAt, held, leadingTo, structures, pointerTest, answerOf, tested, pathAt, path}
 use Rattle.ea_elements.specs.SlotRecords.{recordOf, recordAt}
 use Rattle.ea_elements.proofs.Elements.{some-is, element-record}
 
@@ -75,8 +75,8 @@ path-record c s x h =
 
 module _ (c : Call) (u k : ℕ) where
   ready-tested : Ready c u → (inner : List Structure) (rest : Outcome (Option Rec))
-      → tested c (leading c u k inner) rest ≡ tested c (cond (blockUndefined c u k) [] (dataBlock u k ∷ inner)) rest
-  unfolding leading tested
+      → tested c (leadingTo c u k inner) rest ≡ tested c (cond (blockUndefined c u k) [] (dataBlock u k ∷ inner)) rest
+  unfolding leadingTo tested
   ready-tested r inner rest =
       ⊎-elim (λ (d : isDirect c u ≡ true). rw d refl) (λ d. rw (d .0, d .1) (yields-passed _ _ (d .2))) (r .named)
 
@@ -85,20 +85,20 @@ module _ (c : Call) (u k : ℕ) where
   ready-reached r = ⊎-elim (λ (d : isDirect c u ≡ true). rw d refl) (λ d. rw (d .0, d .1) refl) (r .named)
 
   -- the way to a place, the block's pointer undefined
-  tested-undefined : Ready c u → blockUndefined c u k ≡ true → (inner : List Structure) (rest : Outcome (Option Rec)) → tested c (leading c u k inner) rest ≡ rest
+  tested-undefined : Ready c u → blockUndefined c u k ≡ true → (inner : List Structure) (rest : Outcome (Option Rec)) → tested c (leadingTo c u k inner) rest ≡ rest
   unfolding tested
   tested-undefined r t inner rest = ready-tested r inner rest ∙ rw t refl
 
   -- and defined, its test passed
   tested-defined : Ready c u → blockUndefined c u k ≡ false → testOf c (dataBlock u k) ≡ Passed → (inner : List Structure) (rest : Outcome (Option Rec))
-      → tested c (leading c u k inner) rest ≡ tested c inner rest
+      → tested c (leadingTo c u k inner) rest ≡ tested c inner rest
   unfolding tested
   tested-defined r t p inner rest = ready-tested r inner rest ∙ rw t (yields-passed _ _ p)
 
 module _ (c : Call) (u k i s : ℕ) (wide : widthTest 1 (c .offsetSize) ≡ Passed) (e : place (c .header) s ≡ placeIn (c .header) u k i) where
   -- the super block's pointer undefined
   pub no-super : isDirect c u ≡ false → superUndefined c u ≡ true → Misses c s
-  unfolding path pathAt pointerTest structures reached leading blockReached placeIn tested
+  unfolding path pathAt pointerTest structures reached leadingTo blockReached placeIn tested
   no-super d t = go (inPages (c .header) u) refl
     where
       go : (b : Bool) → inPages (c .header) u ≡ b → Misses c s

@@ -45,16 +45,16 @@ unfoldable pub held : Call → ℕ → Option Entry
 held c s = heldAt c (place (c .header) s)
 
 -- The super block and data block that lead to data block k of super block u and to what is in it, up to an undefined pointer.
-unfoldable pub leading : Call → ℕ → ℕ → List Structure → List Structure
-leading c u k inner =
+unfoldable pub leadingTo : Call → ℕ → ℕ → List Structure → List Structure
+leadingTo c u k inner =
     let block = cond (blockUndefined c u k) [] (dataBlock u k ∷ inner) in
     cond (isDirect c u) block (cond (superUndefined c u) [] (superBlock u ∷ block))
 
 -- The super block, data block and, its bit set, page that lead to a place, up to an undefined pointer.
 unfoldable pub structures : Call → Place → List Structure
 structures c (Inline i) = []
-structures c (Block u k i) = leading c u k []
-structures c (Page u k i p b) = leading c u k (cond (bitSet c u b) (dataPage u k p ∷ []) [])
+structures c (Block u k i) = leadingTo c u k []
+structures c (Page u k i p b) = leadingTo c u k (cond (bitSet c u b) (dataPage u k p ∷ []) [])
 structures c Nowhere = []
 
 -- Pointer: 1. There is a pointer on the way to every place but an inline one.

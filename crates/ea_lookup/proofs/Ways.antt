@@ -33,7 +33,7 @@ use Rattle.ea_blocks.specs.Call.{Call}
 use Rattle.ea_elements.specs.Elements.{Rec, elementSizeTest, element}
 use Rattle.ea_blocks.specs.Structures.{Structure, dataBlock, dataPage, indexAt, isDirect, superAt, blockAt, dataPageAt, blockUndefined, pageSet}
 use Rattle.ea_blocks.specs.Entered.{EnteredSuper, EnteredBlock, EnteredPage}
-use Rattle.ea_elements.specs.Places.{blockReached, reached, positionOf, leading, structures, pointerTest, answerOf, tested, pathAt, path}
+use Rattle.ea_elements.specs.Places.{blockReached, reached, positionOf, leadingTo, structures, pointerTest, answerOf, tested, pathAt, path}
 use Rattle.ea_elements.proofs.Paths.{Ready, in-index, no-place, in-block, in-clear, in-page}
 use Rattle.ea_elements.proofs.Passed.{gone}
 use Rattle.ea_elements.proofs.Sized.{element-refused}
@@ -79,18 +79,18 @@ module _ (c : Call) (u k : ℕ) where
 
   module _ (w : widthTest 1 (c .offsetSize) ≡ Passed) where
     pub way-no-super : EnteredSuper c u EnteredAbsent → WayTo c u k WayAbsent
-    unfolding wayTo leading tested
+    unfolding wayTo leadingTo tested
     way-no-super e = (gone c u k (e .0) (e .1), λ inner rest. yields-passed _ _ w ∙ rw (e .0, e .1) refl)
 
     pub way-super-refused : (r : Refusal) → EnteredSuper c u (EnteredRefused r) → WayTo c u k (WayRefused r)
-    unfolding wayTo leading tested
+    unfolding wayTo leadingTo tested
     way-super-refused r e = λ inner rest. yields-passed _ _ w ∙ rw (e .0, e .1) (yields-refused _ _ r (e .2))
 
     module _ (super : ℕ) (s : EnteredSuper c u (At super)) where
       -- behind a super block that has passed
       behind : (inner : List Structure) (rest : Outcome (Option Rec))
           → wayTo c u k inner rest ≡ tested c (cond (blockUndefined c u k) [] (dataBlock u k ∷ inner)) rest
-      unfolding wayTo leading tested
+      unfolding wayTo leadingTo tested
       behind inner rest =
           yields-passed _ _ w
           ∙ ⊎-elim (λ (d : isDirect c u ≡ true). rw d refl) (λ d. rw (d .0, d .1) (yields-passed _ _ (d .2))) s

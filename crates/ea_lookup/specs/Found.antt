@@ -14,7 +14,7 @@ use Rattle.ea_elements.specs.Elements.{Rec}
 use Rattle.ea_elements.specs.Runs.{Listing}
 use Rattle.ea_blocks.specs.Structures.{Structure}
 use Rattle.ea_blocks.specs.Entered.{EnteredSuper, EnteredBlock}
-use Rattle.ea_elements.specs.Places.{blockReached, leading, tested}
+use Rattle.ea_elements.specs.Places.{blockReached, leadingTo, tested}
 use Rattle.ea_lookup.specs.Lookup.{Answers, Agrees}
 use Rattle.ea_lookup.specs.Door.{foundOf}
 use Rattle.ea_lookup.specs.declared.Found.{Found}
@@ -34,7 +34,7 @@ Agreed listing g corner found =
 -- The way to data block k of super block u: 1, then the tests of the super block and the data block, up to an undefined pointer; then
 -- the structures in it, and what is behind them.
 unfoldable pub wayTo : Call → ℕ → ℕ → List Structure → Outcome (Option Rec) → Outcome (Option Rec)
-wayTo c u k inner rest = widthTest 1 (c .offsetSize) yields tested c (leading c u k inner) rest
+wayTo c u k inner rest = widthTest 1 (c .offsetSize) yields tested c (leadingTo c u k inner) rest
 
 -- What it comes to: an undefined pointer, both structures, or a refusal.
 abbrev pub WayTo : Call → ℕ → ℕ → Way → Type 0

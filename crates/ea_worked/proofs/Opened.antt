@@ -14,7 +14,7 @@ use Rattle.ea_geometry.specs.PageBits.{bitNumber, bitByte, bitMask, pageBit}
 use Rattle.ea_geometry.specs.Place.{superOf, inPages, placeIn, inSuperBlock, place}
 use Rattle.ea_blocks.specs.Structures.{signatureTest, structureTest, indexAt, isDirect, superNamedAt, superAt, blockNamedAt, blockAt, dataPageAt, superUndefined, blockUndefined, bitSet, pageSet, testOf}
 use Rattle.ea_elements.specs.Elements.{filtered, product, chunkBytes, sizeBytes, sizeAt, maskAt, entryAt, elementSizeTest, entryTest, _gives_, insideOnly, element}
-use Rattle.ea_elements.specs.Places.{blockReached, reached, positionOf, leading as leadingStructures, structures, pointerTest, answerOf, tested, pathAt, path}
+use Rattle.ea_elements.specs.Places.{blockReached, reached, positionOf, leadingTo, structures, pointerTest, answerOf, tested, pathAt, path}
 use Rattle.ea_walk.specs.Walk.{pagesFrom, block, blocksFrom, supers, behindInline, walk}
 use Rattle.ea_elements.specs.Runs.{alsoElement, elements}
 use Rattle.ea_list.specs.Listing.{list, listInto, listContent}
@@ -23,5 +23,5 @@ use Rattle.ea_lookup.specs.Lookup.{slotPath, lookup}
 use Rattle.ea_worked.specs.Files.{undefinedBytes, callOn, callAt, listAt, lookupAt}
 
 unfoldable pub opened : Unit {0}
-unfolding figure refuse _then_ _yields_ leValue leAt leBytes sizeTest isWidth widthTest inFile undefined addressAt undefinedAt trailingTest pairwise every any ceilDiv countOf counts firstUnlimited leadingIn leading toFront fromFront ordered multiplier multipliers hasZero numbersNothing quotients offsets overflows below offsetsTest insideOr inExtent aligned isChunk cornerTest total slotFrom slotOf shapesTest multiplierTest productTest gridTest log2In statistic headerAt formTest sizesTest headerTest served servedTest superBlocks blocks blockElements directSuperBlocks blocksBefore directPointers superPointers elementsBefore pageElements overPage pages bitBytes bitmapBytes elementStride elementAt pointerAt indexPrefix inlineElementAt directPointersAt superPointersAt indexExtent directPointerAt superPointerAt blockPrefix pageBitsAt blockPointerAt superExtent blockElementAt dataExtent pagedHeadExtent pageExtent pageAt pagedElementAt bitNumber bitByte bitMask pageBit superOf inPages placeIn inSuperBlock place signatureTest structureTest indexAt isDirect superNamedAt superAt blockNamedAt blockAt dataPageAt superUndefined blockUndefined bitSet pageSet testOf filtered product chunkBytes sizeBytes sizeAt maskAt entryAt elementSizeTest entryTest _gives_ insideOnly element blockReached reached positionOf leadingStructures structures pointerTest answerOf tested pathAt path also alsoElement elements pagesFrom block blocksFrom supers behindInline walk list recordLength offsetBytes recordBytes listBytes inRoom listInto listContent slotPath lookup undefinedBytes callOn callAt listAt lookupAt
+unfolding figure refuse _then_ _yields_ leValue leAt leBytes sizeTest isWidth widthTest inFile undefined addressAt undefinedAt trailingTest pairwise every any ceilDiv countOf counts firstUnlimited leadingIn leading toFront fromFront ordered multiplier multipliers hasZero numbersNothing quotients offsets overflows below offsetsTest insideOr inExtent aligned isChunk cornerTest total slotFrom slotOf shapesTest multiplierTest productTest gridTest log2In statistic headerAt formTest sizesTest headerTest served servedTest superBlocks blocks blockElements directSuperBlocks blocksBefore directPointers superPointers elementsBefore pageElements overPage pages bitBytes bitmapBytes elementStride elementAt pointerAt indexPrefix inlineElementAt directPointersAt superPointersAt indexExtent directPointerAt superPointerAt blockPrefix pageBitsAt blockPointerAt superExtent blockElementAt dataExtent pagedHeadExtent pageExtent pageAt pagedElementAt bitNumber bitByte bitMask pageBit superOf inPages placeIn inSuperBlock place signatureTest structureTest indexAt isDirect superNamedAt superAt blockNamedAt blockAt dataPageAt superUndefined blockUndefined bitSet pageSet testOf filtered product chunkBytes sizeBytes sizeAt maskAt entryAt elementSizeTest entryTest _gives_ insideOnly element blockReached reached positionOf leadingTo structures pointerTest answerOf tested pathAt path also alsoElement elements pagesFrom block blocksFrom supers behindInline walk list recordLength offsetBytes recordBytes listBytes inRoom listInto listContent slotPath lookup undefinedBytes callOn callAt listAt lookupAt
 opened = tt

@@ -29,7 +29,7 @@ use Rattle.ea_blocks.specs.declared.Kind.{Kind}
 use Rattle.ea_blocks.specs.declared.Kind.the-variants.{IndexBlock, SuperBlock, DataBlock, Page as PageKind}
 use Rattle.ea_blocks.specs.Call.{Call, callOf}
 use Rattle.ea_blocks.specs.Structures.{Structure, indexBlock, superBlock, dataBlock, dataPage, structureTest, testOf, indexAt, isDirect, superAt, superNamedAt, blockAt, blockNamedAt, dataPageAt, superUndefined, blockUndefined, bitSet}
-use Rattle.ea_elements.specs.Places.{blockReached, leading, structures}
+use Rattle.ea_elements.specs.Places.{blockReached, leadingTo, structures}
 use Rattle.span_walk.specs.declared.Span.{Span}
 use Rattle.span_walk.specs.Spans.{headerSpan, indexSpan, superSpan, blockLength, blockSpan}
 use Rattle.span_walk.specs.Walk.{Spanning, indexTest, superTest, blocksFrom, supersFrom, indexSpans, indexOf, spans}
@@ -95,9 +95,9 @@ module _ (h : ExtensibleArrayHeader) (o u : ℕ) (v : Served h) (m : u < superBl
       (subst (λ (x : ℕ). i < x) (sym (pages-exact h v u m (pages-over q))) lt)
 
 -- which structures lead to a data block and to what is in it
-leads : (c : Call) (u k : ℕ) (inner : List Structure) (x : Structure) → List·Memᴰ x (leading c u k inner)
+leads : (c : Call) (u k : ℕ) (inner : List Structure) (x : Structure) → List·Memᴰ x (leadingTo c u k inner)
     → ((x ≡ superBlock u) × (isDirect c u ≡ false) × (superUndefined c u ≡ false)) ⊎ ((blockReached c u k ≡ true) × ((x ≡ dataBlock u k) ⊎ List·Memᴰ x inner))
-unfolding leading blockReached
+unfolding leadingTo blockReached
 leads c u k inner x h = go (isDirect c u) refl (superUndefined c u) refl (blockUndefined c u k) refl h
   where
     Goal : Bool → Bool → Bool → Type 0
