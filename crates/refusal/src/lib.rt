@@ -81,6 +81,17 @@ impl Refusal {
 
     // 33 offset past 2^64 - 1.
     pub const OFFSET_OVERFLOW: u64 = 33;
+
+    // A refusal whose number names no figures.
+    pub fn plain(number: u64) -> Refusal
+        ensures { λ r. ⌜ r ≡ record { number = number; first = 0; second = 0 } ⌝ }
+    {
+        Refusal {
+            number,
+            first: 0,
+            second: 0,
+        }
+    }
 }
 
 // What a test answers.

@@ -1,0 +1,3 @@
+pub mod Structures
+pub mod PageBits
+pub mod Header
