@@ -8,7 +8,7 @@ use lib.Arith.{digits-lt}
 use lib.Dec.{eqb}
 use lib.Pow.{pow-pos}
 use Rattle.ea_header.specs.Values.{Served}
-use Rattle.ea_header.specs.declared.ExtensibleArrayHeader.{ExtensibleArrayHeader}
+use Rattle.ea_header.specs.declared.Parameters.{Parameters}
 use Rattle.refusal.proofs.Tests.{by-cond}
 use Rattle.ea_geometry.specs.Sizes.{superBlocks, blocks, blockElements, directSuperBlocks, blocksBefore, directPointers, superPointers, pageElements, overPage, pages, bitBytes, bitmapBytes}
 use Rattle.ea_geometry.specs.Extents.{elementStride, elementAt, pointerAt, indexPrefix, inlineElementAt, directPointersAt, superPointersAt, indexExtent, directPointerAt, superPointerAt, blockPrefix, pageBitsAt, blockPointerAt, superExtent, blockElementAt, dataExtent, pagedHeadExtent, pageExtent, pageAt, pagedExtent, pagedElementAt}
@@ -19,7 +19,7 @@ use Rattle.ea_geometry.proofs.Counts.{blocks-before-lt, supers-few, dir
 part-inside : (first s i n : ℕ) → i < n → first + i * s + s ≤ first + n * s
 part-inside first s i n lt = let a = mul-le-mul-right s lt in omega arith
 
-module _ (h : ExtensibleArrayHeader) (o : ℕ) where
+module _ (h : Parameters) (o : ℕ) where
   pub element-inside : (first i n : ℕ) → i < n → elementAt h o first i + elementStride h o ≤ elementAt h o first n
   unfolding elementAt
   element-inside first i n lt = part-inside first (elementStride h o) i n lt

@@ -6,7 +6,7 @@ use lib.Dec.{T, eqb}
 use Rattle.ea_header.specs.Header.{headerBytes}
 use Rattle.ea_header.specs.Log.{log2In}
 use Rattle.ea_header.specs.Served.{served}
-use Rattle.ea_header.specs.declared.ExtensibleArrayHeader.{ExtensibleArrayHeader}
+use Rattle.ea_header.specs.declared.Parameters.{Parameters}
 use Rattle.ea_geometry.specs.Sizes.{superBlocks, blocks, blockElements, directSuperBlocks, blocksBefore, directPointers, superPointers, elementsBefore, pageElements, overPage, pages, bitBytes, bitmapBytes}
 use Rattle.ea_geometry.specs.Extents.{elementStride, elementAt, pointerAt, indexPrefix, inlineElementAt, directPointersAt, superPointersAt, indexExtent, blockPrefix, blockElementAt, dataExtent}
 use Rattle.ea_geometry.specs.PageBits.{bitNumber, bitByte, bitMask, pageBit}
@@ -15,7 +15,7 @@ use Rattle.ea_geometry.specs.declared.Place.{Place}
 use Rattle.ea_geometry.specs.declared.Place.the-variants.{Inline, Block, Page, Nowhere}
 
 -- an unfiltered array with max bits 32, least block elements 16, super block minimum 4, page exponent 10, and this inline count
-abbrev pub header : ℕ → ExtensibleArrayHeader
+abbrev pub header : ℕ → Parameters
 header inline = record {
   «client_id» = 0;
   «element_size» = 8;

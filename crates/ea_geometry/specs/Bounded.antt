@@ -9,5 +9,5 @@ mostElements = 2 ^ 35
 
 -- The header is served, and the offset size is not above the legal ones.
 pub record Bounded (g : EaGeometry) : Type 0 where
-  pub served : Served (g .header)
+  pub served : Served (g .parameters)
   pub width : g .«offset_size» ≤ 8

@@ -4,11 +4,11 @@ use mathlib.Core.Bool.{Bool}
 use mathlib.Core.List.{List}
 use lib.Dec.{eqb}
 use lib.ListN.{getD}
-use Rattle.ea_header.specs.declared.ExtensibleArrayHeader.{ExtensibleArrayHeader}
+use Rattle.ea_header.specs.declared.Parameters.{Parameters}
 use Rattle.ea_geometry.specs.Sizes.{pages}
 
 -- Page p of data block k of super block u has bit number b = k × pages + p, ..
-unfoldable pub bitNumber : ExtensibleArrayHeader → ℕ → ℕ → ℕ → ℕ
+unfoldable pub bitNumber : Parameters → ℕ → ℕ → ℕ → ℕ
 bitNumber h u k p = k * pages h u + p
 
 -- .. byte b / 8, ..

@@ -8,12 +8,12 @@ use Rattle.refusal.specs.declared.Checked.the-variants.{Passed}
 use Rattle.refusal.proofs.Tests.{then-inv}
 use Rattle.fields.specs.Fields.{isWidth}
 use Rattle.fields.proofs.Fields.{inside, width-is}
-use Rattle.structures.specs.Header.{sizesTest, headerTest}
+use Rattle.structures.specs.Header.{sizesTest, signedHeaderTest}
 
 -- a header that passes lies in the file, and its sizes are right
-pub passed-is : (number signature : ℕ) (sum : List ℕ → ℕ) (f : List ℕ) (pos len o l : ℕ) → headerTest number signature sum f pos len o l ≡ Passed
+pub passed-is : (number signature : ℕ) (sum : List ℕ → ℕ) (f : List ℕ) (pos len o l : ℕ) → signedHeaderTest number signature sum f pos len o l ≡ Passed
     → (pos + len ≤ length f) × (isWidth o ≡ true) × (isWidth l ≡ true)
-unfolding headerTest sizesTest
+unfolding signedHeaderTest sizesTest
 passed-is number signature sum f pos len o l h =
     let a = then-inv _ _ h in
     let b = then-inv _ _ (then-inv _ _ (then-inv _ _ (a .1) .1) .0) in

@@ -15,7 +15,7 @@ use Rattle.fields.proofs.Fields.{inside, past-end, figure-in-file}
 use Rattle.checksum.specs.Trailing.{trailingTest}
 use Rattle.structures.specs.declared.Kind.{Kind}
 use Rattle.structures.specs.Structures.{signatureTest, structureTest}
-use Rattle.structures.specs.Header.{headerTest}
+use Rattle.structures.specs.Header.{signedHeaderTest}
 
 -- what the tests before the checksum say of the structure
 module _ (kind : Kind) (f : List ℕ) (pos len : ℕ) where
@@ -59,6 +59,6 @@ module _ (sum : List ℕ → ℕ) (f : List ℕ) (pos len : ℕ) where
     figure-structure short = figure-first f pos len (λ (n : ℕ). signatureTest kind f pos then trailingTest sum (take n (drop pos f))) short
 
   pub figure-header : (number signature o l : ℕ) → length f < 2 ^ 63
-      → headerTest number signature sum f pos (figure len) o l ≡ headerTest number signature sum f pos len o l
-  unfolding headerTest
+      → signedHeaderTest number signature sum f pos (figure len) o l ≡ signedHeaderTest number signature sum f pos len o l
+  unfolding signedHeaderTest
   figure-header number signature o l short = figure-first f pos len (λ (n : ℕ). _ then _ then trailingTest sum (take n (drop pos f))) short

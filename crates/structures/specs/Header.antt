@@ -21,6 +21,6 @@ unfoldable pub sizesTest : ℕ → ℕ → Checked
 sizesTest o l = widthTest 2 l then widthTest 1 o
 
 -- A header of len bytes at pos: 20, its signature's number, 22, 2, 1, 26.
-unfoldable pub headerTest : ℕ → ℕ → (List ℕ → ℕ) → List ℕ → ℕ → ℕ → ℕ → ℕ → Checked
-headerTest number signature sum f pos len o l =
+unfoldable pub signedHeaderTest : ℕ → ℕ → (List ℕ → ℕ) → List ℕ → ℕ → ℕ → ℕ → ℕ → Checked
+signedHeaderTest number signature sum f pos len o l =
     inFile f pos len then formTest number signature f pos then sizesTest o l then trailingTest sum (take len (drop pos f))

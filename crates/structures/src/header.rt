@@ -3,7 +3,7 @@ ghost use mathlib.Core.Path.{_≡_};
 ghost use Prim.Native.Nat.{_+_, _≤_};
 ghost use lib.ListN.{length};
 ghost use Rattle.checksum.specs.Lookup3.{lookup3};
-ghost use Rattle.structures.specs.Header.{formTest, sizesTest, headerTest};
+ghost use Rattle.structures.specs.Header.{formTest, sizesTest, signedHeaderTest};
 use crate::Kind;
 use crate::test_signature;
 use checksum::verify_trailing;
@@ -23,7 +23,7 @@ pub fn test_header(
     length_size: u64,
 ) -> Checked
     requires { ⌜ 5 ≤ size ⌝ }
-    ensures { λ r. ⌜ r ≡ headerTest number signature lookup3 (now (file .entry)) address size «offset_size» «length_size» ⌝ }
+    ensures { λ r. ⌜ r ≡ signedHeaderTest number signature lookup3 (now (file .entry)) address size «offset_size» «length_size» ⌝ }
 {
     let inside = ensure_len(file, address, size);
     let Checked::Passed = inside else {

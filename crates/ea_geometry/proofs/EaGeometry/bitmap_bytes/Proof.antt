@@ -18,12 +18,12 @@ pages-requires c κs = search needs
 
 add-result : tie.Need-add-result
 add-result c = let a = c .before .before .before .before in
-    omega (arith, elements-few (a .args .self .header) (a .pre .1) (a .args .u) (a .pre .0), pages-few (a .args .self .header) (a .pre .1) (a .args .u) (a .pre .0), c .pages .ensures)
+    omega (arith, elements-few (a .args .self .parameters) (a .pre .1) (a .args .u) (a .pre .0), pages-few (a .args .self .parameters) (a .pre .1) (a .args .u) (a .pre .0), c .pages .ensures)
 
 mul-result : tie.Need-mul-result
 unfolding bitBytes
 mul-result c = let a = c .before .before .before .before in
-    rw (c .before .blocks2 .ensures, c .pages .ensures) (omega (arith, bitmap-few (a .args .self .header) (a .pre .1) (a .args .u) (a .pre .0)))
+    rw (c .before .blocks2 .ensures, c .pages .ensures) (omega (arith, bitmap-few (a .args .self .parameters) (a .pre .1) (a .args .u) (a .pre .0)))
 
 returns : tie.Need-returns
 unfolding bitmapBytes bitBytes

@@ -9,7 +9,7 @@ use Rattle.fields.specs.Fields.{inFile}
 use Rattle.fields.proofs.Fields.{inside}
 use Rattle.checksum.specs.Lookup3.{lookup3}
 use Rattle.checksum.specs.Trailing.{trailingTest}
-use Rattle.structures.specs.Header.{headerTest}
+use Rattle.structures.specs.Header.{signedHeaderTest}
 use borrow.Author.Needs.{needs}
 use Rattle.structures.proofs.header.test_header.Statement.{statement}
 use Rattle.structures.proofs.header.test_header.Tie as tie
@@ -24,7 +24,7 @@ enum-told-2 : tie.Need-enum-told-2
 enum-told-2 c = search needs
 
 returns : tie.Need-returns
-unfolding headerTest
+unfolding signedHeaderTest
 returns c = c .enum-told2 .given .1 ∙ then-first _ _ (sym (c .enum-told2 .given .1) ∙ c .before .before .ensure-len .ensures)
 
 -- past the first test, the header lies in the file
@@ -48,7 +48,7 @@ enum-told-4 : tie.Need-enum-told-4
 enum-told-4 c = search needs
 
 returns-2 : tie.Need-returns-2
-unfolding headerTest
+unfolding signedHeaderTest
 returns-2 c =
     let t = c .before .before in
     c .enum-told4 .given .1 ∙ then-first _ _ (sym (c .enum-told4 .given .1) ∙ t .test-form .ensures) ∙ then-second _ _ (stands (t .before))
@@ -63,7 +63,7 @@ enum-told-6 : tie.Need-enum-told-6
 enum-told-6 c = search needs
 
 returns-3 : tie.Need-returns-3
-unfolding headerTest
+unfolding signedHeaderTest
 returns-3 c =
     let t = c .before .before in
     let f = t .before in
@@ -86,7 +86,7 @@ verify-trailing-requires : tie.Need-verify-trailing-requires
 verify-trailing-requires c κs = search needs
 
 returns-4 : tie.Need-returns-4
-unfolding headerTest
+unfolding signedHeaderTest
 returns-4 c =
     let t = c .before .before in
     let f = t .before .before .before in
