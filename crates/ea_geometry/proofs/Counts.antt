@@ -12,7 +12,8 @@ use Rattle.ea_header.specs.declared.Parameters.{Parameters}
 use Rattle.refusal.proofs.Tests.{by-cond}
 use Rattle.ea_header.proofs.Log.{exponent-lt}
 use Rattle.ea_header.proofs.Served.{log-small}
-use Rattle.ea_geometry.specs.Sizes.{superBlocks, blocks, blockElements, directSuperBlocks, blocksBefore, directPointers, elementsBefore, pageElements, overPage, pages, bitBytes, bitmapBytes}
+use Rattle.ea_geometry.specs.Sizes.{superBlocks, blocks, blockElements, directSuperBlocks, blocksBefore, directPointers, elementsBefore, pageElements, overPage, pages, bitmapBytes}
+use Rattle.structures.specs.PageBits.{bitBytes}
 
 pub next-power : (u : ℕ) → 2 ^ (u + 1) ≡ 2 * 2 ^ u
 next-power u = pow-add 2 u 1 ∙ mul-comm (2 ^ u) 2

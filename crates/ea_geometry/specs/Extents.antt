@@ -1,13 +1,17 @@
--- How many bytes each structure takes, and where in it its parts lie. All of it follows from the header h and the offset size o.
+-- How many bytes each structure takes, and where in it its parts lie. All of it follows from the parameters h and the offset size o.
 use Prim.Native.Nat.{ℕ, _+_, _-_, _*_, _/_, _%_}
-use mathlib.Core.Bool.{cond}
-use lib.Dec.{eqb}
+use Rattle.element_form.specs.declared.Form.{Form}
+use Rattle.element_form.specs.Form.{stride}
+use Rattle.structures.specs.PageBits.{bitBytes}
 use Rattle.ea_header.specs.declared.Parameters.{Parameters}
-use Rattle.ea_geometry.specs.Sizes.{blocks, blockElements, directSuperBlocks, blocksBefore, directPointers, superPointers, pageElements, pages, bitBytes, bitmapBytes}
+use Rattle.ea_geometry.specs.Sizes.{blocks, blockElements, directSuperBlocks, blocksBefore, directPointers, superPointers, pageElements, pages, bitmapBytes}
 
--- Client 0 is unfiltered: an element is an address. Any other client is filtered.
-unfoldable pub elementStride : Parameters → ℕ → ℕ
-elementStride h o = cond (eqb (h .«client_id») 0) o (h .«element_size»)
+-- the form of the array's elements
+abbrev pub formOf : Parameters → ℕ → Form
+formOf h o = record { «client_id» = h .«client_id»; «element_size» = h .«element_size»; «offset_size» = o }
+
+abbrev pub elementStride : Parameters → ℕ → ℕ
+elementStride h o = stride (formOf h o)
 
 -- element i of elements that begin at `first`
 unfoldable pub elementAt : Parameters → ℕ → ℕ → ℕ → ℕ

@@ -5,7 +5,7 @@ use lib.Dec.{ltb, leb}
 use Rattle.ea_header.specs.Log.{log2}
 use Rattle.ea_header.specs.declared.Parameters.{Parameters}
 use Rattle.ea_geometry.specs.Sizes.{superBlocks, blockElements, directSuperBlocks, elementsBefore, pageElements, overPage}
-use Rattle.ea_geometry.specs.PageBits.{bitNumber}
+use Rattle.ea_geometry.specs.Sizes.{bitNumber}
 use Rattle.ea_geometry.specs.declared.Place.{Place}
 use Rattle.ea_geometry.specs.declared.Place.the-variants.{Inline, Block, Page, Nowhere}
 

@@ -1,7 +1,8 @@
--- Super blocks, data blocks, elements and pages: how many there are. All of it follows from the header alone.
+-- Super blocks, data blocks, elements and pages: how many there are. All of it follows from the parameters alone.
 use Prim.Native.Nat.{ℕ, zero, suc, _+_, _-_, _*_, _/_, _^_, min}
 use mathlib.Core.Bool.{Bool, cond}
 use lib.Dec.{ltb}
+use Rattle.structures.specs.PageBits.{bitBytes}
 use Rattle.ea_header.specs.Log.{log2}
 use Rattle.ea_header.specs.declared.Parameters.{Parameters}
 
@@ -48,10 +49,10 @@ overPage h u = ltb (pageElements h) (blockElements h u)
 unfoldable pub pages : Parameters → ℕ → ℕ
 pages h u = blockElements h u / pageElements h
 
--- the bytes that n bits take
-unfoldable pub bitBytes : ℕ → ℕ
-bitBytes n = (n + 7) / 8
-
 -- The page bits take blocks × ceil(pages / 8) bytes; there are none where a block is not over a page.
 unfoldable pub bitmapBytes : Parameters → ℕ → ℕ
 bitmapBytes h u = cond (overPage h u) (blocks u * bitBytes (pages h u)) 0
+
+-- Page p of data block k of super block u has bit number b = k × pages + p.
+unfoldable pub bitNumber : Parameters → ℕ → ℕ → ℕ → ℕ
+bitNumber h u k p = k * pages h u + p

@@ -6,7 +6,7 @@ use mathlib.Core.Path.{_≡_}
 use lib.Dec.{eqb, ltb}
 use Rattle.ea_header.specs.declared.Parameters.{Parameters}
 use Rattle.ea_geometry.specs.Sizes.{superBlocks, blocks, blockElements, elementsBefore, pageElements}
-use Rattle.ea_geometry.specs.PageBits.{bitNumber}
+use Rattle.ea_geometry.specs.Sizes.{bitNumber}
 use Rattle.ea_geometry.specs.Place.{inPages}
 use Rattle.ea_geometry.specs.declared.Place.{Place}
 use Rattle.ea_geometry.specs.declared.Place.the-variants.{Inline, Block, Page, Nowhere}

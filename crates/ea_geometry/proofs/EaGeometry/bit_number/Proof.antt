@@ -3,7 +3,7 @@ use Prim.Native.Nat.{_+_, _*_, _^_, _<_}
 use native.Mathlib.Omega.{arith}
 use lib.Arith.{digits-lt}
 use borrow.Author.Needs.{needs}
-use Rattle.ea_geometry.specs.PageBits.{bitNumber}
+use Rattle.ea_geometry.specs.Sizes.{bitNumber}
 use Rattle.ea_geometry.proofs.Counts.{bits-few}
 use Rattle.ea_geometry.proofs.EaGeometry.bit_number.Statement.{statement}
 use Rattle.ea_geometry.proofs.EaGeometry.bit_number.Tie as tie

@@ -2,7 +2,8 @@
 use mathlib.Core.Path.{sym, _∙_}
 use native.Mathlib.Omega.{arith}
 use borrow.Author.Needs.{needs}
-use Rattle.ea_geometry.specs.Sizes.{bitBytes, bitmapBytes}
+use Rattle.ea_geometry.specs.Sizes.{bitmapBytes}
+use Rattle.structures.specs.PageBits.{bitBytes}
 use Rattle.ea_geometry.proofs.Counts.{elements-few, pages-few, bitmap-few}
 use Rattle.ea_geometry.proofs.EaGeometry.bitmap_bytes.Statement.{statement}
 use Rattle.ea_geometry.proofs.EaGeometry.bitmap_bytes.Tie as tie
