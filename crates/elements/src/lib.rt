@@ -3,8 +3,6 @@ use element_form::Form;
 use index::Entry;
 use refusal::Refusal;
 
-pub mod read;
-
 // What reading an element gives: no chunk, a chunk's entry, or a refusal.
 pub enum Element {
     Absent,
