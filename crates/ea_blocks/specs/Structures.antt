@@ -3,11 +3,13 @@ use Prim.Native.Nat.{ℕ, _+_}
 use mathlib.Core.Bool.{Bool, cond}
 use lib.Dec.{ltb}
 use Rattle.refusal.specs.declared.Checked.{Checked}
+use Rattle.refusal.specs.Refusals.{_then_}
 use Rattle.fields.specs.Fields.{addressAt, undefinedAt}
 use Rattle.structures.specs.declared.Kind.{Kind}
 use Rattle.structures.specs.declared.Kind.the-variants.{Signed, Page}
 use Rattle.structures.specs.Structures.{structureTest, Pages}
 use Rattle.structures.specs.PageBits.{pageBit}
+use Rattle.ea_header.specs.Served.{servedTest}
 use Rattle.ea_geometry.specs.Sizes.{directSuperBlocks, pageElements, bitNumber}
 use Rattle.ea_geometry.specs.Extents.{indexExtent, superExtent, dataExtent, pagedHeadExtent, pageExtent, pageAt, pageBitsAt, directPointerAt, superPointerAt, blockPointerAt}
 use Rattle.ea_geometry.specs.Place.{inPages}
@@ -82,6 +84,10 @@ extentOf a (dataPage u k p) = pageExtent (a .parameters) (a .offsetSize)
 
 unfoldable pub testOf : Array → Structure → Checked
 testOf a x = structureTest (a .sum) (kindOf x) (a .file) (startOf a x) (extentOf a x)
+
+-- The way into an array: 27, then the index block's 20, 23, 26.
+unfoldable pub arrayTest : Array → Checked
+arrayTest a = servedTest (a .parameters) then testOf a indexBlock
 
 -- the pages of data block k of super block u
 abbrev pub pagesOf : Array → ℕ → ℕ → Pages

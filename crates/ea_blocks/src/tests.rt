@@ -8,7 +8,7 @@ ghost use Rattle.ea_geometry.specs.Bounded.{Bounded};
 ghost use Rattle.ea_geometry.specs.Sizes.{superBlocks, pages};
 ghost use Rattle.ea_geometry.specs.Place.{inPages};
 ghost use Rattle.ea_blocks.specs.Array.{arrayOf};
-ghost use Rattle.ea_blocks.specs.Structures.{indexBlock, superBlock, dataBlock, dataPage, testOf};
+ghost use Rattle.ea_blocks.specs.Structures.{indexBlock, arrayTest, superBlock, dataBlock, dataPage, testOf};
 ghost use Rattle.ea_blocks.specs.Structures.{superAt, blockAt};
 use crate::ExtensibleArray;
 use checksum::TwoChecked;
@@ -33,6 +33,17 @@ const DATA_BLOCK: Kind = Kind::Signed {
     number: Refusal::DATA_BLOCK_SIGNATURE,
     signature: 0x4244_4145,
 };
+
+// The way into an array: its parameters' test, then its index block's.
+pub fn test_array(file: &[u8], array: ExtensibleArray) -> Checked
+    ensures { λ r. ⌜ r ≡ arrayTest (arrayOf (now (file .entry)) array) ⌝ }
+{
+    let served = array.geometry.parameters.served_test();
+    let Checked::Passed = served else {
+        return served;
+    };
+    test_index_block(file, array)
+}
 
 // Tests the index block.
 pub fn test_index_block(file: &[u8], array: ExtensibleArray) -> Checked
