@@ -1,12 +1,12 @@
--- `ea_geometry::page_bits::page_is_initialized` meets its contract. Assumes nothing.
+-- `structures::page_bits::page_is_initialized` meets its contract. Assumes nothing.
 use Prim.Native.Nat.{_+_, _/_, _%_}
 use native.Mathlib.Omega.{arith}
 use lib.ListN.{getD}
 use borrow.Author.Needs.{needs}
-use Rattle.ea_geometry.specs.PageBits.{bitByte, bitMask, pageBit}
-use Rattle.ea_geometry.proofs.PageBits.{mask-test}
-use Rattle.ea_geometry.proofs.page_bits.page_is_initialized.Statement.{statement}
-use Rattle.ea_geometry.proofs.page_bits.page_is_initialized.Tie as tie
+use Rattle.structures.specs.PageBits.{bitByte, bitMask, pageBit}
+use Rattle.structures.proofs.Masks.{mask-test}
+use Rattle.structures.proofs.page_bits.page_is_initialized.Statement.{statement}
+use Rattle.structures.proofs.page_bits.page_is_initialized.Tie as tie
 
 add-result : tie.Need-add-result
 add-result c = search needs

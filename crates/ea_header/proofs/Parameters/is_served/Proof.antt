@@ -1,4 +1,4 @@
--- `ea_header::ExtensibleArrayHeader::is_served` meets its contract. Assumes nothing.
+-- `ea_header::Parameters::is_served` meets its contract. Assumes nothing.
 use mathlib.Core.Path.{_≡_, sym, _∙_}
 use mathlib.Core.Bool.{_&&_}
 use native.Mathlib.Omega.{arith}
@@ -7,8 +7,8 @@ use borrow.Author.Tests.{not-true, not-false, le-leb, lt-leb}
 use borrow.Author.Needs.{needs}
 use Rattle.ea_header.specs.Served.{served}
 use Rattle.ea_header.proofs.Served.{not-power, power-first}
-use Rattle.ea_header.proofs.ExtensibleArrayHeader.is_served.Statement.{statement}
-use Rattle.ea_header.proofs.ExtensibleArrayHeader.is_served.Tie as tie
+use Rattle.ea_header.proofs.Parameters.is_served.Statement.{statement}
+use Rattle.ea_header.proofs.Parameters.is_served.Tie as tie
 
 cast-is-power-of-two : tie.Need-cast-is-power-of-two
 cast-is-power-of-two c = search needs

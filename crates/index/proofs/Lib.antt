@@ -1,0 +1,3 @@
+pub mod Records
+pub mod Exact
+pub mod Answers
