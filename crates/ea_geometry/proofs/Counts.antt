@@ -8,11 +8,12 @@ use borrow.Author.Tests.{ltb-true}
 use lib.Pow.{pow-pos, pow-add, pow-mono, shl-shr}
 use Rattle.ea_header.specs.Log.{log2}
 use Rattle.ea_header.specs.Values.{Served}
-use Rattle.ea_header.specs.declared.ExtensibleArrayHeader.{ExtensibleArrayHeader}
+use Rattle.ea_header.specs.declared.Parameters.{Parameters}
 use Rattle.refusal.proofs.Tests.{by-cond}
 use Rattle.ea_header.proofs.Log.{exponent-lt}
 use Rattle.ea_header.proofs.Served.{log-small}
-use Rattle.ea_geometry.specs.Sizes.{superBlocks, blocks, blockElements, directSuperBlocks, blocksBefore, directPointers, elementsBefore, pageElements, overPage, pages, bitBytes, bitmapBytes}
+use Rattle.ea_geometry.specs.Sizes.{superBlocks, blocks, blockElements, directSuperBlocks, blocksBefore, directPointers, elementsBefore, pageElements, overPage, pages, bitmapBytes}
+use Rattle.structures.specs.PageBits.{bitBytes}
 
 pub next-power : (u : ℕ) → 2 ^ (u + 1) ≡ 2 * 2 ^ u
 next-power u = pow-add 2 u 1 ∙ mul-comm (2 ^ u) 2
@@ -44,7 +45,7 @@ unfolding blocksBefore
 blocks-before-lt u v k h lt = let a = blocks-before-le (suc u) v h in omega arith
 
 -- the blocks of a super block have m * 2 ^ u elements together
-pub in-all : (h : ExtensibleArrayHeader) (u : ℕ) → blocks u * blockElements h u ≡ h .«min_dblk_nelmts» * 2 ^ u
+pub in-all : (h : Parameters) (u : ℕ) → blocks u * blockElements h u ≡ h .«min_dblk_nelmts» * 2 ^ u
 unfolding blocks blockElements
 in-all h u =
     let e : u / 2 + (u + 1) / 2 ≡ u = omega arith in
@@ -52,7 +53,7 @@ in-all h u =
     ∙ ap (λ (x : ℕ). h .«min_dblk_nelmts» * x) (sym (pow-add 2 (u / 2) ((u + 1) / 2)) ∙ ap (λ (x : ℕ). 2 ^ x) e)
 
 -- and those before it m * (2 ^ u - 1)
-pub next-elements : (h : ExtensibleArrayHeader) (u : ℕ) → elementsBefore h u + blocks u * blockElements h u ≡ elementsBefore h (u + 1)
+pub next-elements : (h : Parameters) (u : ℕ) → elementsBefore h u + blocks u * blockElements h u ≡ elementsBefore h (u + 1)
 unfolding elementsBefore
 next-elements h u =
     let p = pow-pos u in
@@ -60,16 +61,16 @@ next-elements h u =
     let half : 2 ^ u - 1 + 2 ^ u ≡ 2 ^ (u + 1) - 1 = omega arith in
     rw (in-all h u) (sym (mul-add (h .«min_dblk_nelmts») (2 ^ u - 1) (2 ^ u)) ∙ ap (λ (x : ℕ). h .«min_dblk_nelmts» * x) half)
 
-pub elements-before-mono : (h : ExtensibleArrayHeader) (u v : ℕ) → u ≤ v → elementsBefore h u ≤ elementsBefore h v
+pub elements-before-mono : (h : Parameters) (u v : ℕ) → u ≤ v → elementsBefore h u ≤ elementsBefore h v
 unfolding elementsBefore
 elements-before-mono h u v le = mul-le-mul-left (h .«min_dblk_nelmts») (omega (arith, pow-mono {i = u} {j = v} le))
 
 -- the definition of which super blocks are named in the index block is opened here alone
-pub direct-le : (h : ExtensibleArrayHeader) → directSuperBlocks h ≤ superBlocks h
+pub direct-le : (h : Parameters) → directSuperBlocks h ≤ superBlocks h
 unfolding directSuperBlocks
 direct-le h = omega arith
 
-module _ (h : ExtensibleArrayHeader) (v : Served h) where
+module _ (h : Parameters) (v : Served h) where
   pub supers-few : superBlocks h ≤ 63
   unfolding superBlocks
   supers-few = let b = v .bits in omega arith

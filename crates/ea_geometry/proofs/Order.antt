@@ -8,7 +8,7 @@ use native.Mathlib.Omega.{arith}
 use native.Mathlib.Nat.{eq-or-lt-of-le, mul-le-mul-right}
 use borrow.Author.Tests.{lt-ltb, le-ltb, eq-eqb}
 use Rattle.ea_header.specs.Values.{Served}
-use Rattle.ea_header.specs.declared.ExtensibleArrayHeader.{ExtensibleArrayHeader}
+use Rattle.ea_header.specs.declared.Parameters.{Parameters}
 use Rattle.refusal.proofs.Tests.{lt-or-ge}
 use Rattle.ea_geometry.specs.Sizes.{blockElements}
 use Rattle.ea_geometry.specs.Place.{place}
@@ -38,7 +38,7 @@ digits-grow n k k′ i i′ small h = go (lt-or-ge k k′)
     go (inl lt) = inl lt
     go (inr ge) = same (eq-or-lt-of-le ge)
 
-module _ (h : ExtensibleArrayHeader) (v : Served h) (s t : ℕ) (less : s < t) where
+module _ (h : Parameters) (v : Served h) (s t : ℕ) (less : s < t) where
   -- in one super block
   block-grow : (u k i k′ i′ : ℕ) → InBlock h s u k i → InBlock h t u k′ i′ → lower (k ∷ i ∷ []) (k′ ∷ i′ ∷ []) ≡ true
   unfolding slotIn
@@ -61,17 +61,17 @@ module _ (h : ExtensibleArrayHeader) (v : Served h) (s t : ℕ) (less : s < t) w
       go (inr ge) = same (eq-or-lt-of-le ge)
 
 -- a place by its coordinates: an inline one, or one in a data block
-Coordinates : ExtensibleArrayHeader → ℕ → List ℕ → Type 0
+Coordinates : Parameters → ℕ → List ℕ → Type 0
 Coordinates h s l = ((s < h .«idx_blk_elmts») × (l ≡ 0 ∷ s ∷ [])) ⊎ ((u : ℕ) × (k : ℕ) × (i : ℕ) × InBlock h s u k i × (l ≡ suc u ∷ k ∷ i ∷ []))
 
-coordinates-of : (h : ExtensibleArrayHeader) (s : ℕ) (p : Place) → s < capacity h → PlaceOf h s p → Coordinates h s (coordinates p)
+coordinates-of : (h : Parameters) (s : ℕ) (p : Place) → s < capacity h → PlaceOf h s p → Coordinates h s (coordinates p)
 unfolding Coordinates PlaceOf coordinates
 coordinates-of h s (Inline i) lt b = inl (omega arith, rw (b .0))
 coordinates-of h s (Block u k i) lt b = inr (u, k, i, b .0, refl)
 coordinates-of h s (Page u k i p n) lt b = inr (u, k, i, b .0, refl)
 coordinates-of h s Nowhere lt b = absurd (omega arith)
 
-pub places-grow : (h : ExtensibleArrayHeader) → Served h → (s t : ℕ) → s < t → t < capacity h → before (place h s) (place h t) ≡ true
+pub places-grow : (h : Parameters) → Served h → (s t : ℕ) → s < t → t < capacity h → before (place h s) (place h t) ≡ true
 unfolding before Coordinates firstSlot
 places-grow h v s t less lt = go (coordinates-of h s (place h s) (omega arith) (place-of h v s)) (coordinates-of h t (place h t) lt (place-of h v t))
   where

@@ -11,7 +11,7 @@ use lib.Arith.{digits-lt, digits-div, digits-mod}
 use lib.Pow.{pow-pos}
 use Rattle.ea_header.specs.Log.{log2}
 use Rattle.ea_header.specs.Values.{Served}
-use Rattle.ea_header.specs.declared.ExtensibleArrayHeader.{ExtensibleArrayHeader}
+use Rattle.ea_header.specs.declared.Parameters.{Parameters}
 use Rattle.refusal.proofs.Tests.{by-cond, both}
 use Rattle.ea_header.proofs.Log.{log2-is, log2-ge, log2-lo, log2-hi}
 use Rattle.ea_header.proofs.Served.{least-pos}
@@ -23,15 +23,15 @@ use Rattle.ea_geometry.specs.declared.Place.the-variants.{Inline, Block,
 use Rattle.ea_geometry.proofs.Counts.{next-power, next-elements, elements-before-mono, supers-few, elements-pos, pages-exact}
 
 -- super block 0 begins behind the inline slots, and each further one where the one before it ends
-pub first-slot-zero : (h : ExtensibleArrayHeader) → firstSlot h 0 ≡ h .«idx_blk_elmts»
+pub first-slot-zero : (h : Parameters) → firstSlot h 0 ≡ h .«idx_blk_elmts»
 unfolding firstSlot elementsBefore
 first-slot-zero h = omega arith
 
-pub next-slot : (h : ExtensibleArrayHeader) (u : ℕ) → firstSlot h u + blocks u * blockElements h u ≡ firstSlot h (u + 1)
+pub next-slot : (h : Parameters) (u : ℕ) → firstSlot h u + blocks u * blockElements h u ≡ firstSlot h (u + 1)
 unfolding firstSlot
 next-slot h u = omega (arith, next-elements h u)
 
-module _ (h : ExtensibleArrayHeader) (v : Served h) where
+module _ (h : Parameters) (v : Served h) where
   -- element e behind the inline ones lies in super block u if it lies between what stands before u and what stands before u + 1 ..
   pub super-is : (e u : ℕ) → u < 63 → elementsBefore h u ≤ e → e < elementsBefore h (u + 1) → superOf h e ≡ u
   unfolding superOf elementsBefore

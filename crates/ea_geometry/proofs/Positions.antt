@@ -1,4 +1,4 @@
--- Where the parts of a structure lie: inside it, and, for served headers and offset sizes up to 8, at numbers that fit 64 bits. Assumes nothing.
+-- Where the parts of a structure lie: inside it, and, for served parameters and offset sizes up to 8, at numbers that fit 64 bits. Assumes nothing.
 use Prim.Native.Nat.{ℕ, _+_, _-_, _*_, _/_, _%_, _^_, _<_, _≤_}
 use mathlib.Core.Path.{_≡_}
 use mathlib.Core.Bool.{true}
@@ -8,18 +8,20 @@ use lib.Arith.{digits-lt}
 use lib.Dec.{eqb}
 use lib.Pow.{pow-pos}
 use Rattle.ea_header.specs.Values.{Served}
-use Rattle.ea_header.specs.declared.ExtensibleArrayHeader.{ExtensibleArrayHeader}
+use Rattle.ea_header.specs.declared.Parameters.{Parameters}
 use Rattle.refusal.proofs.Tests.{by-cond}
-use Rattle.ea_geometry.specs.Sizes.{superBlocks, blocks, blockElements, directSuperBlocks, blocksBefore, directPointers, superPointers, pageElements, overPage, pages, bitBytes, bitmapBytes}
-use Rattle.ea_geometry.specs.Extents.{elementStride, elementAt, pointerAt, indexPrefix, inlineElementAt, directPointersAt, superPointersAt, indexExtent, directPointerAt, superPointerAt, blockPrefix, pageBitsAt, blockPointerAt, superExtent, blockElementAt, dataExtent, pagedHeadExtent, pageExtent, pageAt, pagedExtent, pagedElementAt}
-use Rattle.ea_geometry.specs.PageBits.{bitNumber, bitByte}
+use Rattle.ea_geometry.specs.Sizes.{superBlocks, blocks, blockElements, directSuperBlocks, blocksBefore, directPointers, superPointers, pageElements, overPage, pages, bitmapBytes}
+use Rattle.structures.specs.PageBits.{bitBytes, bitByte}
+use Rattle.element_form.specs.Form.{filtered, stride}
+use Rattle.ea_geometry.specs.Extents.{formOf, elementStride, elementAt, pointerAt, indexPrefix, inlineElementAt, directPointersAt, superPointersAt, indexExtent, directPointerAt, superPointerAt, blockPrefix, pageBitsAt, blockPointerAt, superExtent, blockElementAt, dataExtent, pagedHeadExtent, pageExtent, pageAt, pagedExtent, pagedElementAt}
+use Rattle.ea_geometry.specs.Sizes.{bitNumber}
 use Rattle.ea_geometry.proofs.Counts.{blocks-before-lt, supers-few, direct-pointers-few}
 
 -- the i-th of n parts of the same length
 part-inside : (first s i n : ℕ) → i < n → first + i * s + s ≤ first + n * s
 part-inside first s i n lt = let a = mul-le-mul-right s lt in omega arith
 
-module _ (h : ExtensibleArrayHeader) (o : ℕ) where
+module _ (h : Parameters) (o : ℕ) where
   pub element-inside : (first i n : ℕ) → i < n → elementAt h o first i + elementStride h o ≤ elementAt h o first n
   unfolding elementAt
   element-inside first i n lt = part-inside first (elementStride h o) i n lt
@@ -94,8 +96,8 @@ module _ (h : ExtensibleArrayHeader) (o : ℕ) where
 
     module _ (e : h .«element_size» < 256) where
       pub stride-few : elementStride h o ≤ 255
-      unfolding elementStride
-      stride-few = by-cond (λ (s : ℕ). s ≤ 255) (eqb (h .«client_id») 0) {x = o} {y = h .«element_size»} (λ t. omega arith) (λ t. omega arith)
+      unfolding stride
+      stride-few = by-cond (λ (s : ℕ). s ≤ 255) (filtered (formOf h o)) {x = h .«element_size»} {y = o} (λ t. omega arith) (λ t. omega arith)
 
       pub element-at-le : (first i : ℕ) → elementAt h o first i ≤ first + 255 * i
       unfolding elementAt

@@ -3,11 +3,11 @@ use Prim.Native.Nat.{ℕ, _^_, _≤_}
 use Rattle.ea_header.specs.Values.{Served}
 use Rattle.ea_geometry.specs.declared.EaGeometry.{EaGeometry}
 
--- No data block of a served header has more elements than this.
+-- No data block of served parameters has more elements than this.
 abbrev pub mostElements : ℕ
 mostElements = 2 ^ 35
 
--- The header is served, and the offset size is not above the legal ones.
+-- The parameters are served, and the offset size is not above the legal ones.
 pub record Bounded (g : EaGeometry) : Type 0 where
-  pub served : Served (g .header)
+  pub served : Served (g .parameters)
   pub width : g .«offset_size» ≤ 8

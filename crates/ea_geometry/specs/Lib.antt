@@ -1,6 +1,5 @@
 pub mod Bounded
 pub mod Extents
-pub mod PageBits
 pub mod Place
 pub mod Sizes
 pub mod Slots

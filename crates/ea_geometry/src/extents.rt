@@ -5,29 +5,38 @@ ghost use Rattle.refusal.specs.Refusals.{figure};
 ghost use Rattle.ea_header.specs.Values.{Served};
 ghost use Rattle.ea_geometry.specs.Bounded.{mostElements, Bounded};
 ghost use Rattle.ea_geometry.specs.Sizes.{superBlocks, blocks, directSuperBlocks, pageElements};
-ghost use Rattle.ea_geometry.specs.Extents.{elementStride, elementAt, pointerAt, indexPrefix, inlineElementAt, pagedElementAt};
+ghost use Rattle.ea_geometry.specs.Extents.{formOf, elementStride, elementAt, pointerAt, indexPrefix, inlineElementAt, pagedElementAt};
 ghost use Rattle.ea_geometry.specs.Extents.{directPointersAt, superPointersAt, indexExtent, directPointerAt};
 ghost use Rattle.ea_geometry.specs.Extents.{superPointerAt, blockPrefix, pageBitsAt, blockPointerAt, superExtent, blockElementAt};
 ghost use Rattle.ea_geometry.specs.Extents.{dataExtent, pagedHeadExtent, pageExtent, pageAt, pagedExtent};
 use crate::EaGeometry;
+use element_form::Form;
 use fields::convert::saturating_add;
 use fields::convert::saturating_mul;
 
 impl EaGeometry {
+    // The form of the array's elements.
+    pub fn form(self) -> Form
+        ensures { λ r. ⌜ r ≡ formOf (self .parameters) (self .«offset_size») ⌝ }
+    {
+        Form {
+            client_id: self.parameters.client_id,
+            element_size: self.parameters.element_size,
+            offset_size: self.offset_size,
+        }
+    }
+
     // The bytes of an element.
     pub fn element_stride(self) -> u64
-        ensures { λ r. ⌜ r ≡ elementStride (self .header) (self .«offset_size») ⌝ }
+        ensures { λ r. ⌜ r ≡ elementStride (self .parameters) (self .«offset_size») ⌝ }
     {
-        if self.header.client_id == 0 {
-            return self.offset_size;
-        }
-        self.header.element_size as u64
+        self.form().stride()
     }
 
     // Where element i lies of elements that begin at `first`.
     pub fn element_at(self, first: u64, i: u64) -> u64
         requires { ⌜ (first ≤ 2 ^ 63) × (i ≤ mostElements) × Bounded self ⌝ }
-        ensures { λ r. ⌜ r ≡ elementAt (self .header) (self .«offset_size») first i ⌝ }
+        ensures { λ r. ⌜ r ≡ elementAt (self .parameters) (self .«offset_size») first i ⌝ }
     {
         first + i * self.element_stride()
     }
@@ -50,8 +59,8 @@ impl EaGeometry {
 
     // Where in the index block inline element i lies, or, behind the last, what follows them.
     pub fn inline_element_at(self, i: u64) -> u64
-        requires { ⌜ (i ≤ self .header .«idx_blk_elmts») × Bounded self ⌝ }
-        ensures { λ r. ⌜ r ≡ inlineElementAt (self .header) (self .«offset_size») i ⌝ }
+        requires { ⌜ (i ≤ self .parameters .«idx_blk_elmts») × Bounded self ⌝ }
+        ensures { λ r. ⌜ r ≡ inlineElementAt (self .parameters) (self .«offset_size») i ⌝ }
     {
         self.element_at(self.index_prefix(), i)
     }
@@ -59,74 +68,74 @@ impl EaGeometry {
     // Where in the index block the pointers to data blocks begin.
     pub fn direct_pointers_at(self) -> u64
         requires { ⌜ Bounded self ⌝ }
-        ensures { λ r. ⌜ r ≡ directPointersAt (self .header) (self .«offset_size») ⌝ }
+        ensures { λ r. ⌜ r ≡ directPointersAt (self .parameters) (self .«offset_size») ⌝ }
     {
-        self.inline_element_at(self.header.idx_blk_elmts as u64)
+        self.inline_element_at(self.parameters.idx_blk_elmts as u64)
     }
 
     // Where in the index block the pointers to super blocks begin.
     pub fn super_pointers_at(self) -> u64
         requires { ⌜ Bounded self ⌝ }
-        ensures { λ r. ⌜ r ≡ superPointersAt (self .header) (self .«offset_size») ⌝ }
+        ensures { λ r. ⌜ r ≡ superPointersAt (self .parameters) (self .«offset_size») ⌝ }
     {
         self.pointer_at(self.direct_pointers_at(), self.direct_pointers())
     }
 
     // Where in the index block the pointer to data block k of super block u lies.
     pub fn direct_pointer_at(self, u: u64, k: u64) -> u64
-        requires { ⌜ (u < directSuperBlocks (self .header)) × (k < blocks u) × Bounded self ⌝ }
-        ensures { λ r. ⌜ r ≡ directPointerAt (self .header) (self .«offset_size») u k ⌝ }
+        requires { ⌜ (u < directSuperBlocks (self .parameters)) × (k < blocks u) × Bounded self ⌝ }
+        ensures { λ r. ⌜ r ≡ directPointerAt (self .parameters) (self .«offset_size») u k ⌝ }
     {
         self.pointer_at(self.direct_pointers_at(), self.blocks_before(u) + k)
     }
 
     // Where in the index block the pointer to super block u lies.
     pub fn super_pointer_at(self, u: u64) -> u64
-        requires { ⌜ (directSuperBlocks (self .header) ≤ u) × (u < superBlocks (self .header)) × Bounded self ⌝ }
-        ensures { λ r. ⌜ r ≡ superPointerAt (self .header) (self .«offset_size») u ⌝ }
+        requires { ⌜ (directSuperBlocks (self .parameters) ≤ u) × (u < superBlocks (self .parameters)) × Bounded self ⌝ }
+        ensures { λ r. ⌜ r ≡ superPointerAt (self .parameters) (self .«offset_size») u ⌝ }
     {
         self.pointer_at(self.super_pointers_at(), u - self.direct_super_blocks())
     }
 
     // The bytes of the index block, for every offset size; past 2^64 - 1 it is 2^64 - 1.
     pub fn index_extent(self) -> u64
-        requires { ⌜ Served (self .header) ⌝ }
-        ensures { λ r. ⌜ r ≡ figure (indexExtent (self .header) (self .«offset_size»)) ⌝ }
+        requires { ⌜ Served (self .parameters) ⌝ }
+        ensures { λ r. ⌜ r ≡ figure (indexExtent (self .parameters) (self .«offset_size»)) ⌝ }
     {
         let addresses = 1 + self.direct_pointers() + self.super_pointers();
         let pointers = saturating_mul(addresses, self.offset_size);
-        let elements = saturating_mul(self.header.idx_blk_elmts as u64, self.element_stride());
+        let elements = saturating_mul(self.parameters.idx_blk_elmts as u64, self.element_stride());
         saturating_add(saturating_add(10, pointers), elements)
     }
 
     // A super block before its page bits, a data block before its elements.
     pub fn block_prefix(self) -> u64
         requires { ⌜ Bounded self ⌝ }
-        ensures { λ r. ⌜ r ≡ blockPrefix (self .header) (self .«offset_size») ⌝ }
+        ensures { λ r. ⌜ r ≡ blockPrefix (self .parameters) (self .«offset_size») ⌝ }
     {
-        6 + self.offset_size + (self.header.max_nelmts_bits as u64 + 7) / 8
+        6 + self.offset_size + (self.parameters.max_nelmts_bits as u64 + 7) / 8
     }
 
     // Where in a super block its page bits begin.
     pub fn page_bits_at(self) -> u64
         requires { ⌜ Bounded self ⌝ }
-        ensures { λ r. ⌜ r ≡ pageBitsAt (self .header) (self .«offset_size») ⌝ }
+        ensures { λ r. ⌜ r ≡ pageBitsAt (self .parameters) (self .«offset_size») ⌝ }
     {
         self.block_prefix()
     }
 
     // Where in super block u the pointer to its data block k lies, or, behind the last, what follows them.
     pub fn block_pointer_at(self, u: u64, k: u64) -> u64
-        requires { ⌜ (u < superBlocks (self .header)) × (k ≤ blocks u) × Bounded self ⌝ }
-        ensures { λ r. ⌜ r ≡ blockPointerAt (self .header) (self .«offset_size») u k ⌝ }
+        requires { ⌜ (u < superBlocks (self .parameters)) × (k ≤ blocks u) × Bounded self ⌝ }
+        ensures { λ r. ⌜ r ≡ blockPointerAt (self .parameters) (self .«offset_size») u k ⌝ }
     {
         self.pointer_at(self.page_bits_at() + self.bitmap_bytes(u), k)
     }
 
     // The bytes of super block u.
     pub fn super_extent(self, u: u64) -> u64
-        requires { ⌜ (u < superBlocks (self .header)) × Bounded self ⌝ }
-        ensures { λ r. ⌜ r ≡ superExtent (self .header) (self .«offset_size») u ⌝ }
+        requires { ⌜ (u < superBlocks (self .parameters)) × Bounded self ⌝ }
+        ensures { λ r. ⌜ r ≡ superExtent (self .parameters) (self .«offset_size») u ⌝ }
     {
         self.block_pointer_at(u, self.blocks(u)) + 4
     }
@@ -134,15 +143,15 @@ impl EaGeometry {
     // Where in an unpaged data block element i lies.
     pub fn block_element_at(self, i: u64) -> u64
         requires { ⌜ (i ≤ mostElements) × Bounded self ⌝ }
-        ensures { λ r. ⌜ r ≡ blockElementAt (self .header) (self .«offset_size») i ⌝ }
+        ensures { λ r. ⌜ r ≡ blockElementAt (self .parameters) (self .«offset_size») i ⌝ }
     {
         self.element_at(self.block_prefix(), i)
     }
 
     // The bytes of an unpaged data block of super block u.
     pub fn data_extent(self, u: u64) -> u64
-        requires { ⌜ (u < superBlocks (self .header)) × Bounded self ⌝ }
-        ensures { λ r. ⌜ r ≡ dataExtent (self .header) (self .«offset_size») u ⌝ }
+        requires { ⌜ (u < superBlocks (self .parameters)) × Bounded self ⌝ }
+        ensures { λ r. ⌜ r ≡ dataExtent (self .parameters) (self .«offset_size») u ⌝ }
     {
         self.block_element_at(self.block_elements(u)) + 4
     }
@@ -150,7 +159,7 @@ impl EaGeometry {
     // The bytes of a paged data block before its pages.
     pub fn paged_head_extent(self) -> u64
         requires { ⌜ Bounded self ⌝ }
-        ensures { λ r. ⌜ r ≡ pagedHeadExtent (self .header) (self .«offset_size») ⌝ }
+        ensures { λ r. ⌜ r ≡ pagedHeadExtent (self .parameters) (self .«offset_size») ⌝ }
     {
         self.block_prefix() + 4
     }
@@ -158,23 +167,23 @@ impl EaGeometry {
     // The bytes of a page.
     pub fn page_extent(self) -> u64
         requires { ⌜ Bounded self ⌝ }
-        ensures { λ r. ⌜ r ≡ pageExtent (self .header) (self .«offset_size») ⌝ }
+        ensures { λ r. ⌜ r ≡ pageExtent (self .parameters) (self .«offset_size») ⌝ }
     {
         self.element_at(0, self.page_elements()) + 4
     }
 
     // Where in a paged data block page p lies, or, behind the last, where the block ends.
     pub fn page_at(self, p: u64) -> u64
-        requires { ⌜ (p * pageElements (self .header) ≤ mostElements) × Bounded self ⌝ }
-        ensures { λ r. ⌜ r ≡ pageAt (self .header) (self .«offset_size») p ⌝ }
+        requires { ⌜ (p * pageElements (self .parameters) ≤ mostElements) × Bounded self ⌝ }
+        ensures { λ r. ⌜ r ≡ pageAt (self .parameters) (self .«offset_size») p ⌝ }
     {
         self.paged_head_extent() + p * self.page_extent()
     }
 
     // The bytes of a paged data block of super block u.
     pub fn paged_extent(self, u: u64) -> u64
-        requires { ⌜ (u < superBlocks (self .header)) × Bounded self ⌝ }
-        ensures { λ r. ⌜ r ≡ pagedExtent (self .header) (self .«offset_size») u ⌝ }
+        requires { ⌜ (u < superBlocks (self .parameters)) × Bounded self ⌝ }
+        ensures { λ r. ⌜ r ≡ pagedExtent (self .parameters) (self .«offset_size») u ⌝ }
     {
         self.page_at(self.pages(u))
     }
@@ -182,7 +191,7 @@ impl EaGeometry {
     // Where in a paged data block element i lies.
     pub fn paged_element_at(self, i: u64) -> u64
         requires { ⌜ (i ≤ mostElements) × Bounded self ⌝ }
-        ensures { λ r. ⌜ r ≡ pagedElementAt (self .header) (self .«offset_size») i ⌝ }
+        ensures { λ r. ⌜ r ≡ pagedElementAt (self .parameters) (self .«offset_size») i ⌝ }
     {
         let n = self.page_elements();
         self.element_at(self.page_at(i / n), i % n)

@@ -2,15 +2,15 @@
 // takes, where its parts lie, and the place of a slot.
 ghost use mathlib.Core.Path.{_≡_};
 use ea_header::ExtensibleArrayHeader;
+use ea_header::Parameters;
 
 mod extents;
-pub mod page_bits;
 mod sizes;
 mod slots;
 
 // All that sizes and positions follow from.
 pub struct EaGeometry {
-    pub header: ExtensibleArrayHeader,
+    pub parameters: Parameters,
     pub offset_size: u64,
 }
 
@@ -38,10 +38,11 @@ pub enum Place {
 
 impl EaGeometry {
     pub fn from_header(header: ExtensibleArrayHeader, offset_size: u64) -> Self
-        ensures { λ r. ⌜ (r .header ≡ header) × (r .«offset_size» ≡ «offset_size») ⌝ }
+        ensures { λ r. ⌜ (r .parameters ≡ header .parameters) × (r .«offset_size» ≡ «offset_size») ⌝ }
     {
+        let parameters = header.parameters;
         Self {
-            header,
+            parameters,
             offset_size,
         }
     }

@@ -11,32 +11,32 @@ use crate::Place;
 impl EaGeometry {
     // The first slot of super block u; behind the last, the number of slots.
     pub fn first_slot(self, u: u64) -> u64
-        requires { ⌜ (u ≤ superBlocks (self .header)) × Served (self .header) ⌝ }
-        ensures { λ r. ⌜ r ≡ firstSlot (self .header) u ⌝ }
+        requires { ⌜ (u ≤ superBlocks (self .parameters)) × Served (self .parameters) ⌝ }
+        ensures { λ r. ⌜ r ≡ firstSlot (self .parameters) u ⌝ }
     {
-        self.header.idx_blk_elmts as u64 + self.elements_before(u)
+        self.parameters.idx_blk_elmts as u64 + self.elements_before(u)
     }
 
     // How many slots the array has at most.
     pub fn capacity(self) -> u64
-        requires { ⌜ Served (self .header) ⌝ }
-        ensures { λ r. ⌜ r ≡ capacity (self .header) ⌝ }
+        requires { ⌜ Served (self .parameters) ⌝ }
+        ensures { λ r. ⌜ r ≡ capacity (self .parameters) ⌝ }
     {
         self.first_slot(self.super_blocks())
     }
 
     // The super block of element e behind the inline ones.
     fn super_block_of(self, e: u64) -> u64
-        requires { ⌜ (e < 2 ^ 64 - 1) × Served (self .header) ⌝ }
-        ensures { λ r. ⌜ r ≡ superOf (self .header) e ⌝ }
+        requires { ⌜ (e < 2 ^ 64 - 1) × Served (self .parameters) ⌝ }
+        ensures { λ r. ⌜ r ≡ superOf (self .parameters) e ⌝ }
     {
         63 - u64::leading_zeros(e / self.least_block_elements() + 1) as u64
     }
 
     // Whether the data blocks of super block u are read by pages.
     pub fn in_pages(self, u: u64) -> bool
-        requires { ⌜ (u < superBlocks (self .header)) × Served (self .header) ⌝ }
-        ensures { λ r. ⌜ r ≡ inPages (self .header) u ⌝ }
+        requires { ⌜ (u < superBlocks (self .parameters)) × Served (self .parameters) ⌝ }
+        ensures { λ r. ⌜ r ≡ inPages (self .parameters) u ⌝ }
     {
         if u < self.direct_super_blocks() {
             return false;
@@ -46,8 +46,8 @@ impl EaGeometry {
 
     // The place of element i of data block k of super block u.
     fn place_in(self, u: u64, k: u64, i: u64) -> Place
-        requires { ⌜ (u < superBlocks (self .header)) × (k < blocks u) × (i < blockElements (self .header) u) × Served (self .header) ⌝ }
-        ensures { λ r. ⌜ r ≡ placeIn (self .header) u k i ⌝ }
+        requires { ⌜ (u < superBlocks (self .parameters)) × (k < blocks u) × (i < blockElements (self .parameters) u) × Served (self .parameters) ⌝ }
+        ensures { λ r. ⌜ r ≡ placeIn (self .parameters) u k i ⌝ }
     {
         if self.in_pages(u) {
             let page = i / self.page_elements();
@@ -69,10 +69,10 @@ impl EaGeometry {
 
     // The place of a slot.
     pub fn place_of(self, slot: u64) -> Place
-        requires { ⌜ Served (self .header) ⌝ }
-        ensures { λ r. ⌜ r ≡ place (self .header) slot ⌝ }
+        requires { ⌜ Served (self .parameters) ⌝ }
+        ensures { λ r. ⌜ r ≡ place (self .parameters) slot ⌝ }
     {
-        let inline = self.header.idx_blk_elmts as u64;
+        let inline = self.parameters.idx_blk_elmts as u64;
         if slot < inline {
             return Place::Inline(slot);
         }

@@ -4,6 +4,7 @@ use mathlib.Core.List.{List}
 use Rattle.refusal.specs.declared.Checked.{Checked}
 use Rattle.refusal.specs.declared.Checked.the-variants.{Passed, Refused}
 use Rattle.ea_header.specs.declared.ExtensibleArrayHeader.{ExtensibleArrayHeader}
+use Rattle.ea_header.specs.declared.Parameters.{Parameters}
 use Rattle.ea_header.specs.declared.Parsed.{Parsed}
 use Rattle.ea_header.specs.declared.Parsed.the-variants.{Header, Refused as ParsedRefused}
 use mathlib.Core.Path.{_≡_}
@@ -18,8 +19,8 @@ parsedAfter (Refused r) h = ParsedRefused r
 unfoldable pub parsedAt : (List ℕ → ℕ) → List ℕ → ℕ → ℕ → ℕ → Parsed
 parsedAt sum f pos o l = parsedAfter (headerTest sum f pos o l) (headerAt f pos o l)
 
--- what a served header keeps to, as facts, for functions that are called on served headers only
-pub record Served (h : ExtensibleArrayHeader) : Type 0 where
+-- what served parameters keep to, as facts, for functions that are called on them only
+pub record Served (h : Parameters) : Type 0 where
   pub power : h .«min_dblk_nelmts» ≡ 2 ^ log2 (h .«min_dblk_nelmts»)
   pub least : h .«min_dblk_nelmts» ≤ 128
   pub bits : h .«max_nelmts_bits» ≤ 62

@@ -7,23 +7,20 @@ ghost use lib.ListN.{length};
 ghost use Rattle.refusal.specs.Refusals.{figure};
 ghost use Rattle.fields.specs.Fields.{isWidth};
 ghost use Rattle.checksum.specs.Lookup3.{lookup3};
-ghost use Rattle.ea_header.specs.Header.{headerBytes, headerAt, formTest, sizesTest, headerTest};
+ghost use Rattle.ea_header.specs.Header.{headerBytes, parametersAt, headerAt, headerTest};
 ghost use Rattle.ea_header.specs.Values.{parsedAt};
 ghost use Rattle.ea_header.specs.Log.{log2};
 ghost use Rattle.ea_header.specs.Served.{served, servedTest};
-use checksum::verify_trailing;
-use fields::bytes::ensure_len;
-use fields::bytes::ensure_width;
 use fields::bytes::read_address;
 use fields::bytes::read_le;
-use fields::bytes::read_u32_le;
 use fields::convert::saturating_add;
 use fields::convert::saturating_mul;
 use refusal::Checked;
 use refusal::Refusal;
+use structures::header::test_header;
 
-// What the header of an extensible array says, apart from the statistics that no reader needs.
-pub struct ExtensibleArrayHeader {
+// The parameters of an extensible array: sizes, extents and places of its structures follow from them and the offset size alone.
+pub struct Parameters {
     // 0 for chunks without filters; any other client is filtered.
     pub client_id: u8,
     // The bytes of an element.
@@ -38,6 +35,11 @@ pub struct ExtensibleArrayHeader {
     pub super_blk_min_nelmts: u8,
     // Page exponent: a page has 2^exponent elements.
     pub max_dblk_nelmts_bits: u8,
+}
+
+// What the header of an extensible array says, apart from the statistics that no reader needs.
+pub struct ExtensibleArrayHeader {
+    pub parameters: Parameters,
     // The published count.
     pub num_elements: u64,
     pub index_block_address: u64,
@@ -78,7 +80,9 @@ impl ExtensibleArrayHeader {
             offset_size,
         )
     }
+}
 
+impl Parameters {
     // Whether the least block elements are a power of two, and bits, minimum and page exponent within their limits.
     pub fn is_served(self) -> bool
         ensures { λ r. ⌜ r ≡ served self ⌝ }
@@ -102,11 +106,7 @@ impl ExtensibleArrayHeader {
         if self.is_served() {
             return Checked::Passed;
         }
-        Checked::Refused(Refusal {
-            number: Refusal::HEADER_NOT_SERVED,
-            first: 0,
-            second: 0,
-        })
+        Checked::Refused(Refusal::plain(Refusal::HEADER_NOT_SERVED))
     }
 }
 
@@ -120,54 +120,20 @@ fn is_power_of_two(n: u64) -> bool
     n == 1 << (63 - u64::leading_zeros(n) as u64)
 }
 
+// Tests the header at an address.
 fn header_test(file: &[u8], address: u64, offset_size: u64, length_size: u64) -> Checked
     ensures { λ r. ⌜ r ≡ headerTest lookup3 (now (file .entry)) address «offset_size» «length_size» ⌝ }
 {
     let size = ExtensibleArrayHeader::serialized_size(offset_size, length_size);
-    if let Checked::Refused(r) = ensure_len(file, address, size) {
-        return Checked::Refused(r);
-    }
-    let pos = address as usize;
-    if let Checked::Refused(r) = form_test(file, pos) {
-        return Checked::Refused(r);
-    }
-    if let Checked::Refused(r) = sizes_test(offset_size, length_size) {
-        return Checked::Refused(r);
-    }
-    let end = pos + size as usize;
-    verify_trailing(&file[pos..end])
-}
-
-// Signature and version of the header at pos.
-fn form_test(file: &[u8], pos: usize) -> Checked
-    requires { ⌜ pos + 5 ≤ length (now file) ⌝ }
-    ensures { λ r. ⌜ r ≡ formTest (now (file .entry)) pos ⌝ }
-{
-    if read_u32_le(file, pos) != ExtensibleArrayHeader::SIGNATURE {
-        return Checked::Refused(Refusal {
-            number: Refusal::HEADER_SIGNATURE,
-            first: 0,
-            second: 0,
-        });
-    }
-    let version = file[pos + 4];
-    if version != 0 {
-        return Checked::Refused(Refusal {
-            number: Refusal::HEADER_VERSION,
-            first: version as u64,
-            second: 0,
-        });
-    }
-    Checked::Passed
-}
-
-fn sizes_test(offset_size: u64, length_size: u64) -> Checked
-    ensures { λ r. ⌜ r ≡ sizesTest «offset_size» «length_size» ⌝ }
-{
-    match ensure_width(length_size, Refusal::LENGTH_SIZE) {
-        Checked::Passed => ensure_width(offset_size, Refusal::OFFSET_SIZE),
-        Checked::Refused(r) => Checked::Refused(r),
-    }
+    test_header(
+        file,
+        Refusal::HEADER_SIGNATURE,
+        ExtensibleArrayHeader::SIGNATURE,
+        address,
+        size,
+        offset_size,
+        length_size,
+    )
 }
 
 // The fields of the header at pos.
@@ -183,6 +149,18 @@ fn read_header(
     let count = read_le(file, pos + 12 + 4 * length_size, length_size);
     let index = read_address(file, pos + 12 + 6 * length_size, offset_size);
     ExtensibleArrayHeader {
+        parameters: read_parameters(file, pos),
+        num_elements: count,
+        index_block_address: index.value,
+    }
+}
+
+// The parameters of the header at pos.
+fn read_parameters(file: &[u8], pos: usize) -> Parameters
+    requires { ⌜ pos + 12 ≤ length (now file) ⌝ }
+    ensures { λ r. ⌜ r ≡ parametersAt (now (file .entry)) pos ⌝ }
+{
+    Parameters {
         client_id: file[pos + 5],
         element_size: file[pos + 6],
         max_nelmts_bits: file[pos + 7],
@@ -190,7 +168,5 @@ fn read_header(
         min_dblk_nelmts: file[pos + 9],
         super_blk_min_nelmts: file[pos + 10],
         max_dblk_nelmts_bits: file[pos + 11],
-        num_elements: count,
-        index_block_address: index.value,
     }
 }

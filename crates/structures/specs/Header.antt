@@ -11,18 +11,16 @@ use Rattle.checksum.specs.Trailing.{trailingTest}
 use Rattle.structures.specs.Structures.{signatureTest}
 use Rattle.structures.specs.declared.Kind.the-variants.{Signed}
 
--- 22 header version (version)
-unfoldable pub versionTest : List ℕ → ℕ → Checked
-versionTest f pos = refuse 22 (getD f (pos + 4) 0) 0 (not (eqb (getD f (pos + 4) 0) 0))
+-- its signature's number, 22 header version (version)
+unfoldable pub formTest : ℕ → ℕ → List ℕ → ℕ → Checked
+formTest number signature f pos =
+    signatureTest (Signed number signature) f pos then refuse 22 (getD f (pos + 4) 0) 0 (not (eqb (getD f (pos + 4) 0) 0))
 
 -- 2 length size, 1 offset size
 unfoldable pub sizesTest : ℕ → ℕ → Checked
 sizesTest o l = widthTest 2 l then widthTest 1 o
 
--- A header of len bytes at pos: 20, its signature's number, 22, 2, 1, 26; 20 is judged with the sizes as given.
-unfoldable pub headerTest : ℕ → ℕ → (List ℕ → ℕ) → List ℕ → ℕ → ℕ → ℕ → ℕ → Checked
-headerTest number signature sum f pos len o l =
-    inFile f pos len
-    then (signatureTest (Signed number signature) f pos then versionTest f pos)
-    then sizesTest o l
-    then trailingTest sum (take len (drop pos f))
+-- A header of len bytes at pos: 20, its signature's number, 22, 2, 1, 26.
+unfoldable pub signedHeaderTest : ℕ → ℕ → (List ℕ → ℕ) → List ℕ → ℕ → ℕ → ℕ → ℕ → Checked
+signedHeaderTest number signature sum f pos len o l =
+    inFile f pos len then formTest number signature f pos then sizesTest o l then trailingTest sum (take len (drop pos f))

@@ -3,7 +3,7 @@ use Prim.Native.Nat.{_+_, _*_, _^_, _<_}
 use native.Mathlib.Omega.{arith}
 use lib.Arith.{digits-lt}
 use borrow.Author.Needs.{needs}
-use Rattle.ea_geometry.specs.PageBits.{bitNumber}
+use Rattle.ea_geometry.specs.Sizes.{bitNumber}
 use Rattle.ea_geometry.proofs.Counts.{bits-few}
 use Rattle.ea_geometry.proofs.EaGeometry.bit_number.Statement.{statement}
 use Rattle.ea_geometry.proofs.EaGeometry.bit_number.Tie as tie
@@ -14,7 +14,7 @@ pages-requires c κs = search needs
 few : (c : tie.After-pages) → c .before .args .k * c .pages .result + c .before .args .p < 2 ^ 62
 few c =
     let a = c .before in
-    rw (c .pages .ensures) (omega (arith, digits-lt (a .pre .1) (a .pre .2), bits-few (a .args .self .header) (a .pre .3) (a .args .u) (a .pre .0)))
+    rw (c .pages .ensures) (omega (arith, digits-lt (a .pre .1) (a .pre .2), bits-few (a .args .self .parameters) (a .pre .3) (a .args .u) (a .pre .0)))
 
 mul-result : tie.Need-mul-result
 mul-result c = omega (arith, few c)

@@ -2,7 +2,8 @@
 use mathlib.Core.Path.{sym, _∙_}
 use native.Mathlib.Omega.{arith}
 use borrow.Author.Needs.{needs}
-use Rattle.ea_geometry.specs.Sizes.{bitBytes, bitmapBytes}
+use Rattle.ea_geometry.specs.Sizes.{bitmapBytes}
+use Rattle.structures.specs.PageBits.{bitBytes}
 use Rattle.ea_geometry.proofs.Counts.{elements-few, pages-few, bitmap-few}
 use Rattle.ea_geometry.proofs.EaGeometry.bitmap_bytes.Statement.{statement}
 use Rattle.ea_geometry.proofs.EaGeometry.bitmap_bytes.Tie as tie
@@ -18,12 +19,12 @@ pages-requires c κs = search needs
 
 add-result : tie.Need-add-result
 add-result c = let a = c .before .before .before .before in
-    omega (arith, elements-few (a .args .self .header) (a .pre .1) (a .args .u) (a .pre .0), pages-few (a .args .self .header) (a .pre .1) (a .args .u) (a .pre .0), c .pages .ensures)
+    omega (arith, elements-few (a .args .self .parameters) (a .pre .1) (a .args .u) (a .pre .0), pages-few (a .args .self .parameters) (a .pre .1) (a .args .u) (a .pre .0), c .pages .ensures)
 
 mul-result : tie.Need-mul-result
 unfolding bitBytes
 mul-result c = let a = c .before .before .before .before in
-    rw (c .before .blocks2 .ensures, c .pages .ensures) (omega (arith, bitmap-few (a .args .self .header) (a .pre .1) (a .args .u) (a .pre .0)))
+    rw (c .before .blocks2 .ensures, c .pages .ensures) (omega (arith, bitmap-few (a .args .self .parameters) (a .pre .1) (a .args .u) (a .pre .0)))
 
 returns : tie.Need-returns
 unfolding bitmapBytes bitBytes

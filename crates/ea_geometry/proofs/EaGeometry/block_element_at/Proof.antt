@@ -13,7 +13,7 @@ element-at-requires : tie.Need-element-at-requires
 element-at-requires c κs =
     let g = c .before .args .self in
     let b = c .before .pre .1 in
-    (omega (arith, c .block-prefix .ensures, block-prefix-few (g .header) (g .«offset_size») (b .width) (b .served)), c .before .pre .0, b)
+    (omega (arith, c .block-prefix .ensures, block-prefix-few (g .parameters) (g .«offset_size») (b .width) (b .served)), c .before .pre .0, b)
 
 returns : tie.Need-returns
 unfolding blockElementAt

@@ -12,15 +12,15 @@ least-block-elements-requires : tie.Need-least-block-elements-requires
 least-block-elements-requires c κs = search needs
 
 add-result : tie.Need-add-result
-add-result c = omega (arith, supers-few (c .before .args .self .header) (c .before .pre .1))
+add-result c = omega (arith, supers-few (c .before .args .self .parameters) (c .before .pre .1))
 
 shl-result : tie.Need-shl-result
-shl-result c = omega (arith, supers-few (c .before .args .self .header) (c .before .pre .1))
+shl-result c = omega (arith, supers-few (c .before .args .self .parameters) (c .before .pre .1))
 
 returns : tie.Need-returns
 unfolding blockElements
 returns c = let a = c .before .args in
-    rw (c .least-block-elements .ensures) (shl-exact 8 ((a .u + 1) / 2) 64 (omega arith) (omega (arith, supers-few (a .self .header) (c .before .pre .1))))
+    rw (c .least-block-elements .ensures) (shl-exact 8 ((a .u + 1) / 2) 64 (omega arith) (omega (arith, supers-few (a .self .parameters) (c .before .pre .1))))
 
 pub block-elements-spec : {M : Type 1} → statement M
 block-elements-spec =

@@ -20,7 +20,7 @@ behind c =
     let a = c .before .before in
     let g = a .args .self in
     let b = a .pre .2 in
-    omega (arith, c .before .page-bits-at .ensures, c .bitmap-bytes .ensures, block-prefix-few (g .header) (g .«offset_size») (b .width) (b .served), bitmap-bytes-few (g .header) (b .served) (a .args .u) (a .pre .0))
+    omega (arith, c .before .page-bits-at .ensures, c .bitmap-bytes .ensures, block-prefix-few (g .parameters) (g .«offset_size») (b .width) (b .served), bitmap-bytes-few (g .parameters) (b .served) (a .args .u) (a .pre .0))
 
 add-pointer-at : tie.Need-add-pointer-at
 add-pointer-at c = omega (arith, behind c)
@@ -28,7 +28,7 @@ add-pointer-at c = omega (arith, behind c)
 pointer-at-requires : tie.Need-pointer-at-requires
 pointer-at-requires c κs =
     let a = c .before .before in
-    (behind c, omega (arith, blocks-few (a .args .self .header) (a .pre .2 .served) (a .args .u) (a .pre .0)), a .pre .2)
+    (behind c, omega (arith, blocks-few (a .args .self .parameters) (a .pre .2 .served) (a .args .u) (a .pre .0)), a .pre .2)
 
 returns : tie.Need-returns
 unfolding blockPointerAt

@@ -1,7 +1,7 @@
 -- `ea_geometry::EaGeometry::block_prefix` meets its contract. Assumes nothing.
 use mathlib.Core.Path.{refl}
 use borrow.Author.Needs.{needs}
-use Rattle.ea_geometry.specs.Sizes.{bitBytes}
+use Rattle.structures.specs.PageBits.{bitBytes}
 use Rattle.ea_geometry.specs.Extents.{blockPrefix}
 use Rattle.ea_geometry.proofs.EaGeometry.block_prefix.Statement.{statement}
 use Rattle.ea_geometry.proofs.EaGeometry.block_prefix.Tie as tie

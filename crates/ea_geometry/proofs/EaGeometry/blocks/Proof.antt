@@ -8,11 +8,11 @@ use Rattle.ea_geometry.proofs.EaGeometry.blocks.Statement.{statement}
 use Rattle.ea_geometry.proofs.EaGeometry.blocks.Tie as tie
 
 shl-result : tie.Need-shl-result
-shl-result c = omega (arith, supers-few (c .args .self .header) (c .pre .1))
+shl-result c = omega (arith, supers-few (c .args .self .parameters) (c .pre .1))
 
 returns : tie.Need-returns
 unfolding blocks
-returns c = one-shl (c .args .u / 2) (omega (arith, supers-few (c .args .self .header) (c .pre .1)))
+returns c = one-shl (c .args .u / 2) (omega (arith, supers-few (c .args .self .parameters) (c .pre .1)))
 
 pub blocks-spec : {M : Type 1} → statement M
 blocks-spec = tie.close (tie.spec shl-result returns)

@@ -9,7 +9,7 @@ use Rattle.ea_geometry.proofs.EaGeometry.blocks_before.Statement.{state
 use Rattle.ea_geometry.proofs.EaGeometry.blocks_before.Tie as tie
 
 few : (c : tie.Start) → c .args .u ≤ 63
-few c = omega (arith, supers-few (c .args .self .header) (c .pre .1))
+few c = omega (arith, supers-few (c .args .self .parameters) (c .pre .1))
 
 add-result : tie.Need-add-result
 add-result c = omega (arith, few c)
@@ -31,7 +31,7 @@ sub-result-2 c = let k = c .args .u / 2 in
 add-result-2 : tie.Need-add-result-2
 add-result-2 c = let u = c .args .u in
     rw (one-shl ((u + 1) / 2) (omega (arith, few c)), one-shl (u / 2) (omega (arith, few c)))
-    (omega (arith, blocks-before-is u, blocks-before-few (c .args .self .header) (c .pre .1) u (c .pre .0)))
+    (omega (arith, blocks-before-is u, blocks-before-few (c .args .self .parameters) (c .pre .1) u (c .pre .0)))
 
 returns : tie.Need-returns
 returns c = let u = c .args .u in

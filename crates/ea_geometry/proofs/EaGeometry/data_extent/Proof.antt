@@ -13,13 +13,13 @@ block-elements-requires c κs = search needs
 block-element-at-requires : tie.Need-block-element-at-requires
 block-element-at-requires c κs =
     let a = c .before in
-    (omega (arith, c .block-elements .ensures, elements-few (a .args .self .header) (a .pre .1 .served) (a .args .u) (a .pre .0)), a .pre .1)
+    (omega (arith, c .block-elements .ensures, elements-few (a .args .self .parameters) (a .pre .1 .served) (a .args .u) (a .pre .0)), a .pre .1)
 
 add-result : tie.Need-add-result
 unfolding blockElementAt
 add-result c =
     let a = c .before .before in
-    let h = a .args .self .header in
+    let h = a .args .self .parameters in
     let o = a .args .self .«offset_size» in
     let b = a .pre .1 in
     omega (arith, c .block-element-at .ensures, element-at-le h o (b .width) (omega arith) (blockPrefix h o) (c .before .block-elements .result), block-prefix-few h o (b .width) (b .served), c .before .block-elements .ensures, elements-few h (b .served) (a .args .u) (a .pre .0))

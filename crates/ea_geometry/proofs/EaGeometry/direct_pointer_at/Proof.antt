@@ -13,12 +13,12 @@ direct-pointers-at-requires : tie.Need-direct-pointers-at-requires
 direct-pointers-at-requires c κs = search needs
 
 blocks-before-requires : tie.Need-blocks-before-requires
-blocks-before-requires c κs = (omega (arith, direct-le (c .before .args .self .header)), c .before .pre .2 .served)
+blocks-before-requires c κs = (omega (arith, direct-le (c .before .args .self .parameters)), c .before .pre .2 .served)
 
 number-few : (c : tie.After-blocks-before) → c .blocks-before .result + c .before .before .args .k ≤ 2 ^ 33
 number-few c =
     let a = c .before .before in
-    let h = a .args .self .header in
+    let h = a .args .self .parameters in
     omega (arith, c .blocks-before .ensures, blocks-before-lt (a .args .u) (directSuperBlocks h) (a .args .k) (a .pre .0) (a .pre .1), blocks-before-few h (a .pre .2 .served) (directSuperBlocks h) (direct-le h))
 
 add-pointer-at : tie.Need-add-pointer-at
@@ -28,7 +28,7 @@ pointer-at-requires : tie.Need-pointer-at-requires
 pointer-at-requires c κs =
     let a = c .before .before in
     let g = a .args .self in
-    (omega (arith, c .before .direct-pointers-at .ensures, direct-pointers-at-few (g .header) (g .«offset_size») (a .pre .2 .width) (omega arith) (omega arith)), number-few c, a .pre .2)
+    (omega (arith, c .before .direct-pointers-at .ensures, direct-pointers-at-few (g .parameters) (g .«offset_size») (a .pre .2 .width) (omega arith) (omega arith)), number-few c, a .pre .2)
 
 returns : tie.Need-returns
 unfolding directPointerAt

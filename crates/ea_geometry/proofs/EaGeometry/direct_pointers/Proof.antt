@@ -10,7 +10,7 @@ direct-super-blocks-requires : tie.Need-direct-super-blocks-requires
 direct-super-blocks-requires c κs = search needs
 
 blocks-before-requires : tie.Need-blocks-before-requires
-blocks-before-requires c κs = rw (c .direct-super-blocks .ensures) (direct-le (c .before .args .self .header), c .before .pre)
+blocks-before-requires c κs = rw (c .direct-super-blocks .ensures) (direct-le (c .before .args .self .parameters), c .before .pre)
 
 returns : tie.Need-returns
 unfolding directPointers

@@ -14,7 +14,7 @@ bounded : (c : tie.After-element-stride) → c .before .args .first + c .before 
 unfolding elementAt
 bounded c =
     let a = c .before .args in
-    rw (c .element-stride .ensures) (element-at-le (a .self .header) (a .self .«offset_size») (c .before .pre .2 .width) (omega arith) (a .first) (a .i))
+    rw (c .element-stride .ensures) (element-at-le (a .self .parameters) (a .self .«offset_size») (c .before .pre .2 .width) (omega arith) (a .first) (a .i))
 
 mul-result : tie.Need-mul-result
 mul-result c = omega (arith, bounded c)

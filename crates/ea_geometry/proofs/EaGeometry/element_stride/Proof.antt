@@ -1,20 +1,18 @@
 -- `ea_geometry::EaGeometry::element_stride` meets its contract. Assumes nothing.
-use borrow.Author.Tests.{eq-eqb, ne-eqb}
+use mathlib.Core.Path.{ap, _∙_}
+use Rattle.element_form.specs.Form.{stride}
 use borrow.Author.Needs.{needs}
-use Rattle.ea_geometry.specs.Extents.{elementStride}
 use Rattle.ea_geometry.proofs.EaGeometry.element_stride.Statement.{statement}
 use Rattle.ea_geometry.proofs.EaGeometry.element_stride.Tie as tie
 
+form-requires : tie.Need-form-requires
+form-requires c κs = search needs
+
+stride-requires : tie.Need-stride-requires
+stride-requires c κs = search needs
+
 returns : tie.Need-returns
-unfolding elementStride
-returns c = simp (eq-eqb (c .before .before .args .self .header .«client_id») 0 (c .if1 .taken))
-
-cast-result : tie.Need-cast-result
-cast-result c = search needs
-
-returns-2 : tie.Need-returns-2
-unfolding elementStride
-returns-2 c = simp (ne-eqb (c .before .before .before .args .self .header .«client_id») 0 (c .before .if1 .left))
+returns c = c .stride .ensures ∙ ap stride (c .before .form .ensures)
 
 pub element-stride-spec : {M : Type 1} → statement M
-element-stride-spec = tie.close (tie.spec returns cast-result returns-2)
+element-stride-spec = tie.close (tie.spec form-requires stride-requires returns)

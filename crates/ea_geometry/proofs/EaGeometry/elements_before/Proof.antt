@@ -13,7 +13,7 @@ least-block-elements-requires : tie.Need-least-block-elements-requires
 least-block-elements-requires c κs = search needs
 
 few : (c : tie.After-least-block-elements) → c .before .args .u < 64
-few c = omega (arith, supers-few (c .before .args .self .header) (c .before .pre .1))
+few c = omega (arith, supers-few (c .before .args .self .parameters) (c .before .pre .1))
 
 shl-result : tie.Need-shl-result
 shl-result c = few c
@@ -25,7 +25,7 @@ mul-result : tie.Need-mul-result
 unfolding elementsBefore
 mul-result c = let a = c .before in
     rw (one-shl (a .args .u) (few c), c .least-block-elements .ensures)
-    (omega (arith, elements-before-few (a .args .self .header) (a .pre .1) (a .args .u) (a .pre .0)))
+    (omega (arith, elements-before-few (a .args .self .parameters) (a .pre .1) (a .args .u) (a .pre .0)))
 
 returns : tie.Need-returns
 unfolding elementsBefore

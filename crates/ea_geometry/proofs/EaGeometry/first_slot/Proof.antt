@@ -15,7 +15,7 @@ elements-before-requires c κs = search needs
 add-result : tie.Need-add-result
 add-result c =
     let a = c .before .before in
-    omega (arith, c .elements-before .ensures, elements-before-few (a .args .self .header) (a .pre .1) (a .args .u) (a .pre .0))
+    omega (arith, c .elements-before .ensures, elements-before-few (a .args .self .parameters) (a .pre .1) (a .args .u) (a .pre .0))
 
 returns : tie.Need-returns
 unfolding firstSlot

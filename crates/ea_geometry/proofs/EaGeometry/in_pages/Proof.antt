@@ -15,8 +15,8 @@ returns : tie.Need-returns
 unfolding inPages
 returns c =
     let a = c .before .before .args in
-    let less : a .u < directSuperBlocks (a .self .header) = omega (arith, c .before .direct-super-blocks .ensures) in
-    rw (lt-leb (directSuperBlocks (a .self .header)) (a .u) less)
+    let less : a .u < directSuperBlocks (a .self .parameters) = omega (arith, c .before .direct-super-blocks .ensures) in
+    rw (lt-leb (directSuperBlocks (a .self .parameters)) (a .u) less)
 
 over-page-requires : tie.Need-over-page-requires
 over-page-requires c κs = search needs
@@ -25,8 +25,8 @@ returns-2 : tie.Need-returns-2
 unfolding inPages
 returns-2 c =
     let a = c .before .before .before .args in
-    let more : directSuperBlocks (a .self .header) ≤ a .u = omega (arith, c .before .before .direct-super-blocks .ensures) in
-    rw (le-leb (directSuperBlocks (a .self .header)) (a .u) more) (c .over-page .ensures)
+    let more : directSuperBlocks (a .self .parameters) ≤ a .u = omega (arith, c .before .before .direct-super-blocks .ensures) in
+    rw (le-leb (directSuperBlocks (a .self .parameters)) (a .u) more) (c .over-page .ensures)
 
 pub in-pages-spec : {M : Type 1} → statement M
 in-pages-spec =

@@ -16,7 +16,7 @@ direct-pointers-requires : tie.Need-direct-pointers-requires
 direct-pointers-requires c κs = search needs
 
 add-addresses : tie.Need-add-addresses
-add-addresses c = omega (arith, c .direct-pointers .ensures, direct-pointers-few (c .before .args .self .header) (c .before .pre))
+add-addresses c = omega (arith, c .direct-pointers .ensures, direct-pointers-few (c .before .args .self .parameters) (c .before .pre))
 
 super-pointers-requires : tie.Need-super-pointers-requires
 super-pointers-requires c κs = search needs
@@ -25,7 +25,7 @@ add-addresses-2 : tie.Need-add-addresses-2
 unfolding superPointers
 add-addresses-2 c =
     let a = c .before .before in
-    omega (arith, c .before .direct-pointers .ensures, direct-pointers-few (a .args .self .header) (a .pre), c .super-pointers .ensures, supers-few (a .args .self .header) (a .pre))
+    omega (arith, c .before .direct-pointers .ensures, direct-pointers-few (a .args .self .parameters) (a .pre), c .super-pointers .ensures, supers-few (a .args .self .parameters) (a .pre))
 
 saturating-mul-requires : tie.Need-saturating-mul-requires
 saturating-mul-requires c κs = search needs
@@ -49,7 +49,7 @@ returns : tie.Need-returns
 returns c =
     let p = c .before .before .before .before .before in
     let g = p .before .before .before .args .self in
-    let h = g .header in
+    let h = g .parameters in
     let o = g .«offset_size» in
     rw (c .saturating-add2 .ensures, c .before .saturating-add .ensures, c .before .before .saturating-mul2 .ensures, c .before .before .before .element-stride .ensures, p .saturating-mul .ensures, p .before .super-pointers .ensures, p .before .before .direct-pointers .ensures)
     (figure-sum 10 ((1 + directPointers h + superPointers h) * o) (h .«idx_blk_elmts» * elementStride h o) ∙ ap figure (sym (index-extent-is h o)))

@@ -14,7 +14,7 @@ cast-result c = omega (arith, trailing-le 64 (c .least-block-elements .result))
 
 returns : tie.Need-returns
 returns c = let a = c .before in
-    rw (c .least-block-elements .ensures) (trailing-log2 (a .args .self .header .«min_dblk_nelmts») (a .pre .power) (a .pre .least))
+    rw (c .least-block-elements .ensures) (trailing-log2 (a .args .self .parameters .«min_dblk_nelmts») (a .pre .power) (a .pre .least))
 
 pub log2-least-spec : {M : Type 1} → statement M
 log2-least-spec = tie.close (tie.spec least-block-elements-requires cast-result returns)

@@ -14,12 +14,12 @@ paged-head-extent-requires c κs = search needs
 page-extent-requires : tie.Need-page-extent-requires
 page-extent-requires c κs = search needs
 
-bounded : (c : tie.After-page-extent) → c .before .paged-head-extent .result + c .before .before .args .p * c .page-extent .result ≤ 26 + 259 * (c .before .before .args .p * pageElements (c .before .before .args .self .header))
+bounded : (c : tie.After-page-extent) → c .before .paged-head-extent .result + c .before .before .args .p * c .page-extent .result ≤ 26 + 259 * (c .before .before .args .p * pageElements (c .before .before .args .self .parameters))
 unfolding pageAt
 bounded c =
     let a = c .before .before in
     let g = a .args .self in
-    rw (c .before .paged-head-extent .ensures, c .page-extent .ensures) (page-at-le (g .header) (g .«offset_size») (a .pre .1 .width) (omega arith) (a .pre .1 .served) (a .args .p))
+    rw (c .before .paged-head-extent .ensures, c .page-extent .ensures) (page-at-le (g .parameters) (g .«offset_size») (a .pre .1 .width) (omega arith) (a .pre .1 .served) (a .args .p))
 
 mul-result : tie.Need-mul-result
 mul-result c = omega (arith, bounded c)

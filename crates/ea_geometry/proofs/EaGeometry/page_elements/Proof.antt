@@ -14,7 +14,7 @@ shl-result c = search needs
 
 returns : tie.Need-returns
 unfolding pageElements
-returns c = one-shl (c .before .args .self .header .«max_dblk_nelmts_bits») (omega arith)
+returns c = one-shl (c .before .args .self .parameters .«max_dblk_nelmts_bits») (omega arith)
 
 pub page-elements-spec : {M : Type 1} → statement M
 page-elements-spec = tie.close (tie.spec cast-result shl-result returns)

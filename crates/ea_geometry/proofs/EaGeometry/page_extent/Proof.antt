@@ -12,14 +12,14 @@ page-elements-requires : tie.Need-page-elements-requires
 page-elements-requires c κs = search needs
 
 element-at-requires : tie.Need-element-at-requires
-element-at-requires c κs = (omega arith, omega (arith, c .page-elements .ensures, page-elements-few (c .before .args .self .header) (c .before .pre .served)), c .before .pre)
+element-at-requires c κs = (omega arith, omega (arith, c .page-elements .ensures, page-elements-few (c .before .args .self .parameters) (c .before .pre .served)), c .before .pre)
 
 add-result : tie.Need-add-result
 add-result c =
     let a = c .before .before in
     let g = a .args .self in
     rw (c .element-at .ensures, c .before .page-elements .ensures)
-    (omega (arith, element-at-le (g .header) (g .«offset_size») (a .pre .width) (omega arith) 0 (pageElements (g .header)), page-elements-few (g .header) (a .pre .served)))
+    (omega (arith, element-at-le (g .parameters) (g .«offset_size») (a .pre .width) (omega arith) 0 (pageElements (g .parameters)), page-elements-few (g .parameters) (a .pre .served)))
 
 returns : tie.Need-returns
 unfolding pageExtent

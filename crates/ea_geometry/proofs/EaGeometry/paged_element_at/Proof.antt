@@ -16,10 +16,10 @@ page-elements-requires c κs = search needs
 
 some : (c : tie.After-page-elements) → 0 < c .page-elements .result
 unfolding pageElements
-some c = rw (c .page-elements .ensures) (pow-pos (c .before .args .self .header .«max_dblk_nelmts_bits»))
+some c = rw (c .page-elements .ensures) (pow-pos (c .before .args .self .parameters .«max_dblk_nelmts_bits»))
 
-inside : (c : tie.After-page-elements) → c .before .args .i / c .page-elements .result * pageElements (c .before .args .self .header) ≤ 2 ^ 35
-inside c = rw (c .page-elements .ensures) (omega (arith, div-mul-le-self (c .before .args .i) (pageElements (c .before .args .self .header))))
+inside : (c : tie.After-page-elements) → c .before .args .i / c .page-elements .result * pageElements (c .before .args .self .parameters) ≤ 2 ^ 35
+inside c = rw (c .page-elements .ensures) (omega (arith, div-mul-le-self (c .before .args .i) (pageElements (c .before .args .self .parameters))))
 
 div-page-at : tie.Need-div-page-at
 div-page-at c = some c
@@ -35,8 +35,8 @@ element-at-requires c κs =
     let a = c .before .before in
     let g = a .args .self in
     let b = a .pre .1 in (
-      omega (arith, c .page-at .ensures, inside (c .before), page-at-le (g .header) (g .«offset_size») (b .width) (omega arith) (b .served) (a .args .i / c .before .page-elements .result)),
-      omega (arith, mod-lt (a .args .i) (some (c .before)), c .before .page-elements .ensures, page-elements-few (g .header) (b .served)),
+      omega (arith, c .page-at .ensures, inside (c .before), page-at-le (g .parameters) (g .«offset_size») (b .width) (omega arith) (b .served) (a .args .i / c .before .page-elements .result)),
+      omega (arith, mod-lt (a .args .i) (some (c .before)), c .before .page-elements .ensures, page-elements-few (g .parameters) (b .served)),
       b,
     )
 

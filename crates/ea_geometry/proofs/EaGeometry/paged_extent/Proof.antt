@@ -11,7 +11,7 @@ pages-requires c κs = search needs
 page-at-requires : tie.Need-page-at-requires
 page-at-requires c κs =
     let a = c .before in
-    rw (c .pages .ensures) (pages-fit (a .args .self .header) (a .pre .1 .served) (a .args .u) (a .pre .0), a .pre .1)
+    rw (c .pages .ensures) (pages-fit (a .args .self .parameters) (a .pre .1 .served) (a .args .u) (a .pre .0), a .pre .1)
 
 returns : tie.Need-returns
 unfolding pagedExtent

@@ -12,7 +12,7 @@ block-prefix-requires c κs = search needs
 add-result : tie.Need-add-result
 add-result c =
     let g = c .before .args .self in
-    omega (arith, c .block-prefix .ensures, block-prefix-few (g .header) (g .«offset_size») (c .before .pre .width) (c .before .pre .served))
+    omega (arith, c .block-prefix .ensures, block-prefix-few (g .parameters) (g .«offset_size») (c .before .pre .width) (c .before .pre .served))
 
 returns : tie.Need-returns
 unfolding pagedHeadExtent

@@ -16,13 +16,13 @@ page-elements-requires c κs = search needs
 
 div-page : tie.Need-div-page
 unfolding pageElements
-div-page c = rw (c .page-elements .ensures) (pow-pos (c .before .before .before .args .self .header .«max_dblk_nelmts_bits»))
+div-page c = rw (c .page-elements .ensures) (pow-pos (c .before .before .before .args .self .parameters .«max_dblk_nelmts_bits»))
 
 bit-number-requires : tie.Need-bit-number-requires
 bit-number-requires c κs =
     let a = c .before .before .before in
     rw (c .page-elements .ensures)
-    (a .pre .0, a .pre .1, page-below (a .args .self .header) (a .pre .3) (a .args .u) (a .args .i) (a .pre .0) (sym (c .before .before .in-pages .ensures) ∙ c .before .if1 .taken) (a .pre .2), a .pre .3)
+    (a .pre .0, a .pre .1, page-below (a .args .self .parameters) (a .pre .3) (a .args .u) (a .args .i) (a .pre .0) (sym (c .before .before .in-pages .ensures) ∙ c .before .if1 .taken) (a .pre .2), a .pre .3)
 
 returns : tie.Need-returns
 unfolding placeIn

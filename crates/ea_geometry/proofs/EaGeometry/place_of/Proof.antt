@@ -14,7 +14,7 @@ cast-inline : tie.Need-cast-inline
 cast-inline c = search needs
 
 returns : tie.Need-returns
-returns c = sym (place-inline (c .before .before .args .self .header) (c .before .before .pre) (c .before .before .args .slot) (c .if1 .taken))
+returns c = sym (place-inline (c .before .before .args .self .parameters) (c .before .before .pre) (c .before .before .args .slot) (c .if1 .taken))
 
 capacity-requires : tie.Need-capacity-requires
 capacity-requires c κs = search needs
@@ -22,30 +22,30 @@ capacity-requires c κs = search needs
 returns-2 : tie.Need-returns-2
 returns-2 c =
     let a = c .before .before .before .before in
-    sym (place-past (a .args .self .header) (a .pre) (a .args .slot) (omega (arith, c .before .capacity .ensures)))
+    sym (place-past (a .args .self .parameters) (a .pre) (a .args .slot) (omega (arith, c .before .capacity .ensures)))
 
 super-block-of-requires : tie.Need-super-block-of-requires
 super-block-of-requires c κs = search needs
 
 -- the super block of the slot is one of the array's
-below : (c : tie.After-super-block-of) → c .super-block-of .result < superBlocks (c .before .before .before .before .before .args .self .header)
+below : (c : tie.After-super-block-of) → c .super-block-of .result < superBlocks (c .before .before .before .before .before .args .self .parameters)
 unfolding capacity firstSlot
 below c =
     let a = c .before .before .before .before .before in
-    let h = a .args .self .header in
+    let h = a .args .self .parameters in
     rw (c .super-block-of .ensures)
     (super-below h (a .pre) (a .args .slot - h .«idx_blk_elmts») (superBlocks h) (omega (arith, c .before .before .capacity .ensures)))
 
 -- and the slot is the one of this element of this data block
 found : (c : tie.After-super-block-of)
-    → let h = c .before .before .before .before .before .args .self .header in
+    → let h = c .before .before .before .before .before .args .self .parameters in
     let s = c .before .before .before .before .before .args .slot in
     let u = c .super-block-of .result in
     let x = s - h .«idx_blk_elmts» - elementsBefore h u in
     (elementsBefore h u ≤ s - h .«idx_blk_elmts») × InBlock h s u (x / blockElements h u) (x % blockElements h u)
 found c =
     let a = c .before .before .before .before .before in
-    slot-in-block (a .args .self .header) (a .pre) (a .args .slot) (c .super-block-of .result) (c .super-block-of .ensures) (omega arith) (below c)
+    slot-in-block (a .args .self .parameters) (a .pre) (a .args .slot) (c .super-block-of .result) (c .super-block-of .ensures) (omega arith) (below c)
 
 elements-before-requires : tie.Need-elements-before-requires
 elements-before-requires c κs = (omega (arith, below c), c .before .before .before .before .before .pre)
@@ -59,7 +59,7 @@ block-elements-requires c κs = (below (c .before), c .before .before .before .b
 some : (c : tie.After-block-elements) → 0 < c .block-elements .result
 some c =
     let a = c .before .before .before .before .before .before .before in
-    rw (c .block-elements .ensures) (elements-pos (a .args .self .header) (a .pre) (c .before .before .super-block-of .result))
+    rw (c .block-elements .ensures) (elements-pos (a .args .self .parameters) (a .pre) (c .before .before .super-block-of .result))
 
 div-place-in : tie.Need-div-place-in
 div-place-in c = some c
@@ -75,7 +75,7 @@ place-in-requires c κs =
 returns-3 : tie.Need-returns-3
 returns-3 c =
     let a = c .before .before .before .before .before .before .before .before in
-    rw (c .place-in .ensures, c .before .block-elements .ensures, c .before .before .elements-before .ensures) (sym (place-is (a .args .self .header) (a .pre) (a .args .slot) _ _ _ (found (c .before .before .before) .1)))
+    rw (c .place-in .ensures, c .before .block-elements .ensures, c .before .before .elements-before .ensures) (sym (place-is (a .args .self .parameters) (a .pre) (a .args .slot) _ _ _ (found (c .before .before .before) .1)))
 
 pub place-of-spec : {M : Type 1} → statement M
 place-of-spec =

@@ -10,13 +10,13 @@ mul-result : tie.Need-mul-result
 unfolding pointerAt
 mul-result c =
     let a = c .before .args in
-    omega (arith, pointer-at-le (a .self .header) (a .self .«offset_size») (c .before .pre .2 .width) (a .first) (a .j))
+    omega (arith, pointer-at-le (a .self .parameters) (a .self .«offset_size») (c .before .pre .2 .width) (a .first) (a .j))
 
 add-result : tie.Need-add-result
 unfolding pointerAt
 add-result c =
     let a = c .before .args in
-    omega (arith, pointer-at-le (a .self .header) (a .self .«offset_size») (c .before .pre .2 .width) (a .first) (a .j))
+    omega (arith, pointer-at-le (a .self .parameters) (a .self .«offset_size») (c .before .pre .2 .width) (a .first) (a .j))
 
 returns : tie.Need-returns
 unfolding pointerAt

@@ -16,7 +16,7 @@ least-block-elements-requires : tie.Need-least-block-elements-requires
 least-block-elements-requires c κs = search needs
 
 div-result : tie.Need-div-result
-div-result c = rw (c .least-block-elements .ensures) (least-pos (c .before .args .self .header) (c .before .pre .1))
+div-result c = rw (c .least-block-elements .ensures) (least-pos (c .before .args .self .parameters) (c .before .pre .1))
 
 fits : (c : tie.After-least-block-elements) → c .before .args .e / c .least-block-elements .result + 1 < 2 ^ 64
 fits c = omega (arith, div-le-self (c .before .args .e) (c .least-block-elements .result))

@@ -19,7 +19,7 @@ add-result : tie.Need-add-result
 unfolding blockPointerAt pageBitsAt
 add-result c =
     let a = c .before .before in
-    let h = a .args .self .header in
+    let h = a .args .self .parameters in
     let o = a .args .self .«offset_size» in
     let b = a .pre .1 in
     let u = a .args .u in

@@ -21,8 +21,8 @@ pointer-at-requires c κs =
     let a = c .before .before in
     let g = a .args .self in
     let b = a .pre .2 in (
-      omega (arith, c .before .super-pointers-at .ensures, super-pointers-at-few (g .header) (g .«offset_size») (b .width) (omega arith) (omega arith) (b .served)),
-      omega (arith, supers-few (g .header) (b .served)),
+      omega (arith, c .before .super-pointers-at .ensures, super-pointers-at-few (g .parameters) (g .«offset_size») (b .width) (omega arith) (omega arith) (b .served)),
+      omega (arith, supers-few (g .parameters) (b .served)),
       b,
     )
 

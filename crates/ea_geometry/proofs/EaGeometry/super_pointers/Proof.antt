@@ -13,7 +13,7 @@ direct-super-blocks-requires : tie.Need-direct-super-blocks-requires
 direct-super-blocks-requires c κs = search needs
 
 sub-result : tie.Need-sub-result
-sub-result c = omega (arith, direct-le (c .before .before .args .self .header), c .before .super-blocks .ensures, c .direct-super-blocks .ensures)
+sub-result c = omega (arith, direct-le (c .before .before .args .self .parameters), c .before .super-blocks .ensures, c .direct-super-blocks .ensures)
 
 returns : tie.Need-returns
 unfolding superPointers

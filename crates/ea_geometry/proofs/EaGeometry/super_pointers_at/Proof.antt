@@ -17,7 +17,7 @@ pointer-at-requires : tie.Need-pointer-at-requires
 pointer-at-requires c κs =
     let a = c .before .before in
     let g = a .args .self in
-    (omega (arith, c .before .direct-pointers-at .ensures, direct-pointers-at-few (g .header) (g .«offset_size») (a .pre .width) (omega arith) (omega arith)), omega (arith, c .direct-pointers .ensures, direct-pointers-few (g .header) (a .pre .served)), a .pre)
+    (omega (arith, c .before .direct-pointers-at .ensures, direct-pointers-at-few (g .parameters) (g .«offset_size») (a .pre .width) (omega arith) (omega arith)), omega (arith, c .direct-pointers .ensures, direct-pointers-few (g .parameters) (a .pre .served)), a .pre)
 
 returns : tie.Need-returns
 unfolding superPointersAt

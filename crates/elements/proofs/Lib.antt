@@ -1,0 +1,6 @@
+pub mod Elements
+pub mod Sized
+pub mod Runs
+pub mod Turns
+pub mod Pages
+pub mod ChunkBytes

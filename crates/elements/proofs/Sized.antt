@@ -1,0 +1,110 @@
+-- An element by its tests, and its entry. Assumes nothing.
+use Prim.Native.Nat.{ℕ, _+_, _-_, _^_, _<_, _≤_}
+use mathlib.Core.Path.{_≡_, refl, sym, ap, _∙_}
+use mathlib.Core.Bool.{Bool, true, false, cond}
+use mathlib.Core.List.{List}
+use mathlib.Core.Logic.{⊎-elim}
+use native.Mathlib.Omega.{arith}
+use borrow.Author.Tests.{lt-ltb, le-ltb}
+use Rattle.refusal.specs.declared.Refusal.{Refusal}
+use Rattle.refusal.specs.declared.Checked.{Checked}
+use Rattle.refusal.specs.declared.Checked.the-variants.{Passed, Refused}
+use Rattle.refusal.specs.Refusals.{figure, refuse, _then_}
+use Rattle.refusal.proofs.Tests.{lt-or-ge, refuse-true}
+use Rattle.fields.specs.LittleEndian.{leAt}
+use Rattle.fields.specs.Fields.{undefined, addressAt, undefinedAt, sizeTest}
+use Rattle.fields.specs.Values.{narrowed}
+use Rattle.fields.specs.declared.convert.Narrowed.the-variants.{Value, Refused as NarrowedRefused}
+use Rattle.fields.proofs.Numbers.{narrow-is, too-wide-is}
+use Rattle.chunk_grid.specs.Grid.{inExtent}
+use Rattle.chunk_grid.specs.declared.Offsets.{Offsets}
+use Rattle.chunk_grid.specs.declared.Offsets.the-variants.{Inside}
+use Rattle.element_form.specs.Form.{filtered, sizeBytes, elementSizeTest}
+use Rattle.elements.specs.declared.Element.{Element}
+use Rattle.elements.specs.declared.Element.the-variants.{Absent, Chunk, Refused as ElementRefused}
+use Rattle.elements.specs.Elements.{Elements, chunkBytes, undefinedElement, sizeAt, maskAt, entryAt, entryTest, _gives_, insideOnly, element}
+
+-- whether the address a at pos is undefined, as it is tested
+pub tested : (file : List ℕ) (pos o a : ℕ) (b : Bool) → a ≡ addressAt file pos o → b ≡ undefined o a → undefinedAt file pos o ≡ b
+unfolding undefinedAt
+tested file pos o a b e f = rw (← e) (sym f)
+
+-- first the test, then what follows
+pub gives-passed : (t : Checked) (x : Element) → t ≡ Passed → t gives x ≡ x
+unfolding _gives_
+gives-passed t x h = rw h refl
+
+pub gives-refused : (t : Checked) (x : Element) (r : Refusal) → t ≡ Refused r → t gives x ≡ ElementRefused r
+unfolding _gives_
+gives-refused t x r h = rw h refl
+
+-- a number and its figure are refused alike, and where they aren't, they are the same
+over-size : (n : ℕ) → 2 ^ 32 - 1 < n → sizeTest n ≡ Refused (record { number = 30; first = figure n; second = 0 })
+unfolding sizeTest
+over-size n h = sym (refuse-true 30 (figure n) 0 _ (lt-ltb (2 ^ 32 - 1) n h))
+
+pub figure-size : (n : ℕ) (entry : ℕ → Element) → sizeTest (figure n) gives entry (figure n) ≡ sizeTest n gives entry n
+unfolding figure
+figure-size n entry =
+    ⊎-elim
+    (λ (h : 2 ^ 32 - 1 < n).
+    let e : figure (figure n) ≡ figure n = omega arith in
+    gives-refused _ _ _ (over-size (figure n) (omega arith) ∙ ap (λ (x : ℕ). Refused (record { number = 30; first = x; second = 0 })) e)
+    ∙ sym (gives-refused _ _ _ (over-size n h)))
+    (λ (h : n ≤ 2 ^ 32 - 1). let e : figure n ≡ n = omega arith in ap (λ (x : ℕ). sizeTest x gives entry x) e) (lt-or-ge (2 ^ 32 - 1) n)
+
+-- an entry whose size is narrowed to 32 bits
+module _ (address n mask : ℕ) where
+  pub entry-narrow : (v : ℕ) → Value v ≡ narrowed n → Chunk (record { address = address; size = v; mask = mask }) ≡ sizeTest n gives Chunk (record { address = address; size = n; mask = mask })
+  unfolding narrowed
+  entry-narrow v e =
+      let i = narrow-is _ n v e in
+      ap (λ (x : ℕ). Chunk (record { address = address; size = x; mask = mask })) (i .1) ∙ sym (gives-passed _ _ (sym (i .0)))
+
+  pub entry-too-wide : (r : Refusal) → NarrowedRefused r ≡ narrowed n → ElementRefused r ≡ sizeTest n gives Chunk (record { address = address; size = n; mask = mask })
+  unfolding narrowed
+  entry-too-wide r e = sym (gives-refused _ _ _ (sym (too-wide-is _ n r e)))
+
+module _ (es : Elements) (pos : ℕ) where
+  -- the entry at pos, tested
+  abbrev pub entry : Element
+  entry = entryTest es pos gives Chunk (entryAt es pos)
+
+  -- unfiltered, behind the address a
+  pub entry-plain : filtered (es .form) ≡ false → (a n : ℕ) → a ≡ addressAt (es .file) pos (es .form .«offset_size»)
+      → n ≡ figure (chunkBytes (es .grid) (es .elementBytes)) → sizeTest n gives Chunk (record { address = a; size = n; mask = 0 }) ≡ entry
+  unfolding entryTest entryAt sizeAt maskAt refuse _then_
+  entry-plain p a n e f =
+      rw (p, e, f) (figure-size (chunkBytes (es .grid) (es .elementBytes)) (λ (x : ℕ). Chunk (record { address = addressAt (es .file) pos (es .form .«offset_size»); size = x; mask = 0 })))
+
+  -- filtered, the size in w bytes
+  module _ (p : filtered (es .form) ≡ true) (w : ℕ) (width : w ≡ sizeBytes (es .form)) where
+    pub entry-wide : 8 < w → ElementRefused (record { number = 29; first = 0; second = 0 }) ≡ entry
+    unfolding entryTest refuse _then_ _gives_
+    entry-wide l = rw (p, ← width, lt-ltb 8 w l) refl
+
+    pub entry-filtered : w ≤ 8 → (a n m : ℕ) → a ≡ addressAt (es .file) pos (es .form .«offset_size»)
+        → n ≡ leAt (es .file) (pos + es .form .«offset_size») w → m ≡ leAt (es .file) (pos + es .form .«offset_size» + w) 4
+        → sizeTest n gives Chunk (record { address = a; size = n; mask = m }) ≡ entry
+    unfolding entryTest entryAt sizeAt maskAt refuse _then_
+    entry-filtered l a n m d e f = rw (p, ← width, le-ltb 8 w l, d, e, f) refl
+
+  -- the element of slot s at pos, by the test of its size, ..
+  module _ (s : ℕ) where
+    pub element-refused : (x : Refusal) → elementSizeTest (es .form) ≡ Refused x → ElementRefused x ≡ element es pos s
+    unfolding element
+    element-refused x t = sym (gives-refused _ _ x t)
+
+    -- .. by its address, and by its slot's offsets
+    module _ (t : elementSizeTest (es .form) ≡ Passed) where
+      pub element-undefined : undefinedElement es pos ≡ true → Absent ≡ element es pos s
+      unfolding element
+      element-undefined u = sym (gives-passed _ _ t ∙ rw u refl)
+
+      pub element-defined : undefinedElement es pos ≡ false → (k : Offsets) → k ≡ inExtent (es .grid) s → insideOnly k entry ≡ element es pos s
+      unfolding element
+      element-defined u k o = sym (gives-passed _ _ t ∙ rw (u, ← o) refl)
+
+      pub element-inside : inExtent (es .grid) s ≡ Inside → element es pos s ≡ cond (undefinedElement es pos) Absent entry
+      unfolding element insideOnly
+      element-inside i = gives-passed _ _ t ∙ rw i refl
