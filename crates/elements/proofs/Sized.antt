@@ -1,7 +1,8 @@
 -- An element by its tests, and its entry. Assumes nothing.
 use Prim.Native.Nat.{ℕ, _+_, _-_, _^_, _<_, _≤_}
 use mathlib.Core.Path.{_≡_, refl, sym, ap, _∙_}
-use mathlib.Core.Bool.{true, false, cond}
+use mathlib.Core.Bool.{Bool, true, false, cond}
+use mathlib.Core.List.{List}
 use mathlib.Core.Logic.{⊎-elim}
 use native.Mathlib.Omega.{arith}
 use borrow.Author.Tests.{lt-ltb, le-ltb}
@@ -11,7 +12,7 @@ use Rattle.refusal.specs.declared.Checked.the-variants.{Passed, Refused}
 use Rattle.refusal.specs.Refusals.{figure, refuse, _then_}
 use Rattle.refusal.proofs.Tests.{lt-or-ge, refuse-true}
 use Rattle.fields.specs.LittleEndian.{leAt}
-use Rattle.fields.specs.Fields.{addressAt, sizeTest}
+use Rattle.fields.specs.Fields.{undefined, addressAt, undefinedAt, sizeTest}
 use Rattle.fields.specs.Values.{narrowed}
 use Rattle.fields.specs.declared.convert.Narrowed.the-variants.{Value, Refused as NarrowedRefused}
 use Rattle.fields.proofs.Numbers.{narrow-is, too-wide-is}
@@ -22,6 +23,11 @@ use Rattle.element_form.specs.Form.{filtered, sizeBytes, elementSizeTest}
 use Rattle.elements.specs.declared.Element.{Element}
 use Rattle.elements.specs.declared.Element.the-variants.{Absent, Chunk, Refused as ElementRefused}
 use Rattle.elements.specs.Elements.{Elements, chunkBytes, undefinedElement, sizeAt, maskAt, entryAt, entryTest, _gives_, insideOnly, element}
+
+-- whether the address a at pos is undefined, as it is tested
+pub tested : (file : List ℕ) (pos o a : ℕ) (b : Bool) → a ≡ addressAt file pos o → b ≡ undefined o a → undefinedAt file pos o ≡ b
+unfolding undefinedAt
+tested file pos o a b e f = rw (← e) (sym f)
 
 -- first the test, then what follows
 pub gives-passed : (t : Checked) (x : Element) → t ≡ Passed → t gives x ≡ x

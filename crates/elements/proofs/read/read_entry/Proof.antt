@@ -1,0 +1,91 @@
+-- `elements::read::read_entry` meets its contract. Assumes nothing.
+use Prim.Native.Nat.{_+_, _≤_}
+use mathlib.Core.Path.{_≡_, sym, ap, _∙_}
+use mathlib.Core.Bool.{true}
+use native.Mathlib.Omega.{arith}
+use borrow.Author.Needs.{needs}
+use borrow.Author.Tests.{not-true, not-false}
+use lib.ListN.{length}
+use Rattle.element_form.specs.Form.{filtered, sizeBytes}
+use Rattle.element_form.proofs.Forms.{filtered-room}
+use Rattle.elements.specs.declared.Element.the-variants.{Refused}
+use Rattle.elements.proofs.Sized.{entry-plain, entry-wide, entry-filtered}
+use Rattle.elements.proofs.read.read_entry.Statement.{statement}
+use Rattle.elements.proofs.read.read_entry.Tie as tie
+
+is-filtered-requires : tie.Need-is-filtered-requires
+is-filtered-requires c κs = search needs
+
+entry-of-requires : tie.Need-entry-of-requires
+entry-of-requires c κs = search needs
+
+returns : tie.Need-returns
+returns c = λ grid n e.
+    let t = c .before in
+    c .entry-of .ensures ∙ entry-plain _ _ (sym (t .before .is-filtered .ensures) ∙ not-true _ (t .if1 .taken)) _ _ (t .before .before .before .before .pre .2) e
+
+-- a filtered element holds address, size and mask
+abbrev start : tie.Else1 → tie.Start
+start c = c .before .before .before .before
+
+is-filtered : (c : tie.Else1) → filtered (start c .args .reader .form) ≡ true
+is-filtered c = sym (c .before .is-filtered .ensures) ∙ not-false _ (c .if1 .left)
+
+size-bytes-requires : tie.Need-size-bytes-requires
+size-bytes-requires c κs = (start c .pre .0, is-filtered c)
+
+plain-requires : tie.Need-plain-requires
+plain-requires c κs = search needs
+
+returns-2 : tie.Need-returns-2
+returns-2 c = λ grid n e.
+    let s = c .before .before in
+    ap Refused (c .plain .ensures) ∙ entry-wide _ _ (is-filtered (s .before)) _ (s .size-bytes .ensures) (c .before .if2 .taken)
+
+room : (c : tie.Else2)
+    → (start (c .before .before) .args .reader .form .«offset_size» + c .before .size-bytes .result + 4 ≡ start (c .before .before) .args .reader .form .«element_size»)
+    × (start (c .before .before) .args .pos + start (c .before .before) .args .reader .form .«element_size» ≤ length (start (c .before .before) .args .file .now))
+unfolding sizeBytes
+room c =
+    let e = c .before .before in
+    let r = filtered-room _ (start e .pre .0) (is-filtered e) _ _ (start e .pre .1) in
+    (omega (arith, r .0, c .before .size-bytes .ensures), r .1)
+
+add-at : tie.Need-add-at
+add-at c = omega (arith, room c)
+
+read-le-requires : tie.Need-read-le-requires
+read-le-requires c κs = omega (arith, room c)
+
+add-read-u32-le : tie.Need-add-read-u32-le
+add-read-u32-le c = omega (arith, room (c .before))
+
+read-u32-le-requires : tie.Need-read-u32-le-requires
+read-u32-le-requires c κs = omega (arith, room (c .before))
+
+entry-of-requires-2 : tie.Need-entry-of-requires-2
+entry-of-requires-2 c κs = search needs
+
+returns-3 : tie.Need-returns-3
+returns-3 c = λ grid n e.
+    let w = c .before .before .before in
+    let f = w .before .before in
+    c .entry-of2 .ensures
+    ∙ entry-filtered _ _ (is-filtered f) _ (w .before .size-bytes .ensures) (w .if2 .left) _ _ _ (start f .pre .2) (c .before .before .read-le .ensures .0) (c .before .read-u32-le .ensures)
+
+pub read-entry-spec : {M : Type 1} → statement M
+read-entry-spec =
+    tie.close
+    (tie.spec
+    is-filtered-requires
+    entry-of-requires
+    returns
+    size-bytes-requires
+    plain-requires
+    returns-2
+    add-at
+    read-le-requires
+    add-read-u32-le
+    read-u32-le-requires
+    entry-of-requires-2
+    returns-3)

@@ -1,0 +1,43 @@
+-- `elements::read::read_inside_element` meets its contract. Assumes nothing.
+use mathlib.Core.Path.{sym, _∙_}
+use native.Mathlib.Omega.{arith}
+use borrow.Author.Needs.{needs}
+use Rattle.element_form.proofs.Forms.{sized-width, sized-stride}
+use Rattle.elements.specs.Elements.{insideOnly}
+use Rattle.elements.proofs.Sized.{tested, element-undefined, element-defined}
+use Rattle.elements.proofs.read.read_inside_element.Statement.{statement}
+use Rattle.elements.proofs.read.read_inside_element.Tie as tie
+
+read-address-requires : tie.Need-read-address-requires
+read-address-requires c κs =
+    let p = c .before .pre in
+    (omega (arith, p .1, sized-stride _ (p .0)), sized-width _ (p .0))
+
+is-undefined-addr-requires : tie.Need-is-undefined-addr-requires
+is-undefined-addr-requires c κs = search needs
+
+returns : tie.Need-returns
+returns c = λ grid n s e i.
+    let a = c .before .before in
+    element-undefined _ _ s (a .before .before .pre .0) (tested _ _ _ _ _ (a .read-address .ensures) (c .before .is-undefined-addr .ensures) ∙ c .if1 .taken)
+
+read-entry-requires : tie.Need-read-entry-requires
+read-entry-requires c κs = search needs
+
+returns-2 : tie.Need-returns-2
+unfolding insideOnly
+returns-2 c = λ grid n s e i.
+    let u = c .before .before in
+    let a = u .before in
+    c .read-entry .ensures grid n e
+    ∙ element-defined _ _ s (a .before .before .pre .0) (tested _ _ _ _ _ (a .read-address .ensures) (u .is-undefined-addr .ensures) ∙ c .before .if1 .left) _ (sym i)
+
+pub read-inside-element-spec : {M : Type 1} → statement M
+read-inside-element-spec =
+    tie.close
+    (tie.spec
+    read-address-requires
+    is-undefined-addr-requires
+    returns
+    read-entry-requires
+    returns-2)
