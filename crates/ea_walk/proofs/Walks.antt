@@ -17,8 +17,9 @@ use Rattle.refusal.specs.Outcome.{accepted}
 use Rattle.refusal.proofs.Tests.{by-cond, both, then-inv}
 use Rattle.refusal.proofs.Outcomes.{yields-inv}
 use Rattle.fields.specs.Fields.{widthTest}
-use Rattle.chunk_grid.proofs.Grids.{accepted as grid-accepted}
+use Rattle.element_form.specs.Form.{stride}
 use Rattle.index.specs.Index.{Rec, Listing, records}
+use Rattle.chunk_grid.proofs.Grids.{accepted as grid-accepted}
 use Rattle.index.specs.ExactList.{ExactList}
 use Rattle.elements.specs.Elements.{Elements}
 use Rattle.elements.specs.Runs.{elementsFrom}
@@ -34,7 +35,7 @@ use Rattle.ea_geometry.specs.Place.{inPages, placeIn, place}
 use Rattle.ea_geometry.specs.Slots.{firstSlot, capacity, slotIn}
 use Rattle.ea_geometry.specs.declared.Place.the-variants.{Inline}
 use Rattle.ea_geometry.proofs.Counts.{elements-pos, pages-exact}
-use Rattle.ea_geometry.proofs.Places.{place-is, place-inline, place-past, next-slot, first-slot-zero}
+use Rattle.ea_geometry.proofs.Places.{place-is, place-inline, place-past, next-slot, first-slot-zero, first-slot-mono}
 use Rattle.ea_blocks.specs.Array.{Array}
 use Rattle.ea_blocks.specs.Structures.{dataBlock, dataPage, testOf, arrayTest, pagesOf, isDirect, blockAt, dataPageAt, superUndefined, blockUndefined, pageSet}
 use Rattle.ea_blocks.specs.Places.{positionOf}
@@ -64,10 +65,13 @@ module _ (a : Array) (e : Elements) (form : formOf (a .parameters) (a .offsetSiz
   abbrev Miss : ℕ → Type 0
   Miss = LeadsNowhere (located a e)
 
+  own-stride : st ≡ stride (e .form)
+  own-stride = ap stride form
+
   -- j elements from pos on, in the array's own stride
   elements-shown : (j pos s : ℕ) (rest : Listing) (l : List Rec) → ((i : ℕ) → i < j → Lead (s + i) (pos + i * st))
       → ((m : List Rec) → rest ≡ accepted m → Shown (s + j) m) → elementsFrom e pos j s rest ≡ accepted l → Shown s l
-  elements-shown j pos s rest l p after k = elements-right (located a e) j pos s rest l (rw (← form) p) after k
+  elements-shown j pos s rest l p after k = elements-right (located a e) j pos s rest l (λ i lt. subst (λ (n : ℕ). Lead (s + i) (pos + i * n)) own-stride (p i lt)) after k
 
   -- the slots of data block k of super block u begin at s
   module _ (v : Served (a .parameters)) (wide : widthTest 1 (a .offsetSize) ≡ Passed) (u : ℕ) (hu : u < superBlocks (a .parameters)) where
@@ -116,7 +120,10 @@ module _ (a : Array) (e : Elements) (form : formOf (a .parameters) (a .offsetSiz
               at y = omega arith
 
           paged-at : PagesAt (located a e) (pagesOf a u k) (pages h u) s
-          paged-at = record { clear = clear; set = rw (← form) set }
+          paged-at = record {
+            clear = clear;
+            set = λ g i hg hi b d. subst (λ (n : ℕ). Lead (s + (g * pe + i)) (dataPageAt a u k g + i * n)) own-stride (set g i hg hi b d);
+          }
 
       -- a data block
       block-right : (t : blockUndefined a u k ≡ false) → (l : List Rec) → block a e u k s rest ≡ accepted l → Shown s l
@@ -224,7 +231,7 @@ module _ (a : Array) (e : Elements) (form : formOf (a .parameters) (a .offsetSiz
       let y = yields-inv _ _ l x in
       right-at (located a e) _ _ l (let z : h .«idx_blk_elmts» ≡ 0 + h .«idx_blk_elmts» = omega arith in z)
       (supers-right v (y .0) (accepted []) (superBlocks h) 0 (h .«idx_blk_elmts») l (omega arith) (sym (first-slot-zero h))
-      (λ q w. past-right _ q v (omega arith) w) (y .1)))
+      (λ q w. past-right _ q v (let z : 0 + superBlocks h ≡ superBlocks h = omega arith in rw z (omega arith)) w) (y .1)))
 
   pub walk-right : (l : List Rec) → walk a e ≡ accepted l → Shown 0 l
   unfolding walk arrayTest
