@@ -27,7 +27,7 @@ use Rattle.index.proofs.Exact.{records-exact}
 use Rattle.elements.specs.Runs.{elementsFrom, pagesFrom}
 use Rattle.elements.proofs.Answers.{also-element-inv}
 use Rattle.located.specs.Located.{Located, indexOf, path}
-use Rattle.located.proofs.Paths.{LeadsTo, LeadsNowhere, way-to, way-nowhere, unreached, path-record}
+use Rattle.located.proofs.Paths.{LeadsTo, LeadsNowhere, way-to, way-nowhere, path-record}
 
 nil-is : (l : List Rec) → accepted [] ≡ accepted l → l ≡ []
 nil-is l h = cc
