@@ -1,7 +1,7 @@
 -- A slot and its chunk give each other back. Assumes nothing.
 use Prim.Native.Nat.{ℕ, _<_, _≤_}
 use mathlib.Core.Path.{_≡_, refl, subst}
-use mathlib.Core.Bool.{true, not, cond, _||_}
+use mathlib.Core.Bool.{true, false, not, cond, _||_}
 use mathlib.Core.List.{List}
 use mathlib.Core.Option.{Option, some, Option·some-injective}
 use native.Mathlib.Omega.{arith}
@@ -13,18 +13,24 @@ use Rattle.chunk_grid.specs.Grid.{Grid, numbersNothing, offsets, below, 
 use Rattle.chunk_grid.specs.Chunks.{chunkAt}
 use Rattle.chunk_grid.proofs.Grids.{Accepted, chunk-inv, slot-offsets, offsets-chunk, offsets-slot}
 
+-- the chunk of a slot has the slot's offsets, which lie inside
+pub chunk-at-inv : (g : Grid) (s : ℕ) (corner : List ℕ) → chunkAt g s ≡ some corner
+    → (numbersNothing g ≡ false) × (below (offsets g s) (g .present) ≡ true) × (offsets g s ≡ corner)
+unfolding chunkAt
+chunk-at-inv g s corner =
+    by-cond (λ (x : Option (List ℕ)). x ≡ some corner → (numbersNothing g ≡ false) × (below (offsets g s) (g .present) ≡ true) × (offsets g s ≡ corner))
+    (numbersNothing g || not (below (offsets g s) (g .present)))
+    (λ t h. let z : _≡_ {A = ℕ} 0 1 = cc in absurd (omega arith))
+    (λ t h.
+    let z = neither (numbersNothing g) (not (below (offsets g s) (g .present))) t in
+    (z .0, not-false _ (z .1), Option·some-injective _ _ h))
+
 module _ (g : Grid) (b : Accepted g) where
   -- from rank 1 on the chunk of a slot has that slot
   pub chunk-at-slot : (s : ℕ) (corner : List ℕ) → 0 < g .rank → s ≤ largest64 → chunkAt g s ≡ some corner → (isChunk g corner ≡ true) × (slotOf g corner ≡ At s)
-  unfolding chunkAt
-  chunk-at-slot s corner r l =
-      by-cond (λ (x : Option (List ℕ)). x ≡ some corner → (isChunk g corner ≡ true) × (slotOf g corner ≡ At s))
-      (numbersNothing g || not (below (offsets g s) (g .present)))
-      (λ t h. let z : _≡_ {A = ℕ} 0 1 = cc in absurd (omega arith))
-      (λ t h.
-      let z = neither (numbersNothing g) (not (below (offsets g s) (g .present))) t in
-      let e = Option·some-injective _ _ h in
-      subst (λ (x : List ℕ). (isChunk g x ≡ true) × (slotOf g x ≡ At s)) e (offsets-chunk g b s (not-false _ (z .1)), slot-offsets g b s r (z .0) l))
+  chunk-at-slot s corner r l h =
+      let i = chunk-at-inv g s corner h in
+      subst (λ (x : List ℕ). (isChunk g x ≡ true) × (slotOf g x ≡ At s)) (i .2) (offsets-chunk g b s (i .1), slot-offsets g b s r (i .0) l)
 
   -- a chunk that has a slot is the chunk of that slot
   pub slot-chunk-at : (corner : List ℕ) (s : ℕ) → isChunk g corner ≡ true → slotOf g corner ≡ At s → chunkAt g s ≡ some corner

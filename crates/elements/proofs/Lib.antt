@@ -1,4 +1,5 @@
 pub mod Elements
+pub mod Answers
 pub mod Sized
 pub mod Runs
 pub mod Turns

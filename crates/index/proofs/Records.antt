@@ -1,14 +1,18 @@
 -- The records of an index: those of its slots, and those from a slot on to the published count. Assumes nothing.
 use Prim.Native.Nat.{ℕ, zero, suc, _+_, _-_, _<_, _≤_}
 use mathlib.Core.Path.{_≡_, refl, sym, ap, _∙_}
-use mathlib.Core.List.{List, [], List·Memᴰ, List·Memᴰ·head, List·Memᴰ·tail, List·Memᴰ·cases-cons, List·Memᴰ·not-nil}
+use mathlib.Core.List.{List, [], _++_, List·Memᴰ, List·Memᴰ·head, List·Memᴰ·tail, List·Memᴰ·cases-cons, List·Memᴰ·not-nil}
 use mathlib.Core.Option.{Option, none, some, Option·some-injective}
 use mathlib.Core.Logic.{⊎-elim}
 use native.Mathlib.Omega.{arith}
-use native.Mathlib.Nat.{eq-or-lt-of-le}
+use native.Mathlib.Nat.{sub-zero, eq-or-lt-of-le}
+use lib.ListN.{length}
 use Rattle.chunk_grid.specs.Chunks.{chunkAt}
+use Rattle.chunk_grid.proofs.Grids.{Accepted, length-offsets}
+use Rattle.chunk_grid.proofs.Chunks.{chunk-at-inv}
 use Rattle.index.specs.declared.Entry.{Entry}
 use Rattle.index.specs.Index.{Index, Rec, recordOf, recordAt, with, records}
+use Rattle.index.proofs.Steps.{first-slot, other-slots}
 
 pub none-some : {A : Type 0} (a : A) → none ≡ some a → ⊥
 none-some a h = let z : _≡_ {A = ℕ} 0 1 = cc in omega arith
@@ -67,6 +71,37 @@ module _ (i : Index) where
       (λ (q : s < t). there-with (recordAt i s) (records i (s + 1) m) r (whole m (s + 1) t r (omega arith) (omega arith) p))
       (eq-or-lt-of-le h)
 
+with-more : (x : Option Rec) (l m : List Rec) → with x (l ++ m) ≡ with x l ++ m
+unfolding with
+with-more none l m = refl
+with-more (some r) l m = refl
+
+module _ (i : Index) where
+  -- the records of slots in two parts
+  pub records-split : (a b s : ℕ) → records i s (a + b) ≡ records i s a ++ records i (s + a) b
+  unfolding records
+  records-split zero b s =
+      let z : s + 0 ≡ s = omega arith in
+      let y : 0 + b ≡ b = omega arith in
+      rw (y, z) refl
+  records-split (suc a) b s =
+      let z : s + 1 + a ≡ s + suc a = omega arith in
+      let y : suc a + b ≡ suc (a + b) = omega arith in
+      ap (records i s) y
+      ∙ ap (with (recordAt i s)) (records-split a b (s + 1)) ∙ with-more (recordAt i s) (records i (s + 1) a) (records i (s + 1 + a) b)
+      ∙ ap (λ (x : ℕ). with (recordAt i s) (records i (s + 1) a) ++ records i x b) z
+
+  -- slots that have none
+  pub records-none : (n s : ℕ) → ((j : ℕ) → j < n → recordAt i (s + j) ≡ none) → records i s n ≡ []
+  unfolding records with
+  records-none zero s h = refl
+  records-none (suc n) s h =
+      rw (first-slot (λ (t : ℕ). recordAt i t ≡ none) s n h) (records-none n (s + 1) (other-slots (λ (t : ℕ). recordAt i t ≡ none) s n h))
+
+  -- a record's corner is of the grid's rank
+  pub record-rank : Accepted (i .grid) → (s : ℕ) (r : Rec) → recordAt i s ≡ some r → length (r .corner) ≡ i .grid .rank
+  record-rank b s r h = ap length (sym (chunk-at-inv (i .grid) s (r .corner) (record-at i s r h .1) .2)) ∙ length-offsets (i .grid) b s
+
 -- the records of the slots from s on to the published count
 unfoldable pub from : Index → ℕ → List Rec
 from i s = records i s (i .count - s)
@@ -81,3 +116,14 @@ module _ (i : Index) where
   from-more s x h p =
       let z : i .count - s ≡ suc (i .count - (s + 1)) = omega arith in
       rw z (ap (λ (y : Option Rec). with y (records i (s + 1) (i .count - (s + 1)))) p)
+
+  pub from-first : from i 0 ≡ records i 0 (i .count)
+  unfolding from
+  from-first = rw sub-zero refl
+
+  -- the records that are left, in two parts
+  pub from-split : (s m : ℕ) → m ≤ i .count - s → from i s ≡ records i s m ++ from i (s + m)
+  unfolding from
+  from-split s m le =
+      let z : i .count - s ≡ m + (i .count - (s + m)) = omega arith in
+      ap (records i s) z ∙ records-split i m (i .count - (s + m)) s
