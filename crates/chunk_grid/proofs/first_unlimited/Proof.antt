@@ -17,27 +17,12 @@ abbrev μ-loop : tie.MeasureT-loop
 μ-loop counts i₀ i =
     length counts - i
 
-loop-holds : tie.Need-loop-holds Inv-loop μ-loop
-loop-holds c = search needs
-
-mul-if1 : tie.Need-mul-if1 Inv-loop μ-loop
-mul-if1 c = search needs
-
-shared-slice-read-if1 : tie.Need-shared-slice-read-if1 Inv-loop μ-loop
-shared-slice-read-if1 c = search needs
-
 returns : tie.Need-returns Inv-loop μ-loop
 returns c =
     let l = c .before .before .before .loop in
     let s = c .before .before .before .before .args .counts .now in
     let e : firstUnlimited (drop (l .i) s) ≡ 0 = first-stop s (l .i) (c .before .before .loop-test .taken) (c .if1 .taken) in
     omega arith
-
-add-i : tie.Need-add-i Inv-loop μ-loop
-add-i c = search needs
-
-loop-less : tie.Need-loop-less Inv-loop μ-loop
-loop-less c = search needs
 
 loop-again : tie.Need-loop-again Inv-loop μ-loop
 loop-again c =
@@ -56,14 +41,5 @@ returns-2 c =
 pub first-unlimited-spec : {M : Type 1} → statement M
 first-unlimited-spec =
     tie.close
-    (tie.spec
-    Inv-loop
-    μ-loop
-    loop-holds
-    mul-if1
-    shared-slice-read-if1
-    returns
-    add-i
-    loop-less
-    loop-again
-    returns-2)
+    (tie.spec Inv-loop μ-loop (search needs) (search needs) (search needs) returns (search needs) (search needs)
+    loop-again returns-2)

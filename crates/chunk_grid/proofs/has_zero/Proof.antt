@@ -19,24 +19,9 @@ abbrev μ-loop : tie.MeasureT-loop
 μ-loop s i₀ i =
     length s - i
 
-loop-holds : tie.Need-loop-holds Inv-loop μ-loop
-loop-holds c = search needs
-
-mul-if1 : tie.Need-mul-if1 Inv-loop μ-loop
-mul-if1 c = search needs
-
-shared-slice-read-if1 : tie.Need-shared-slice-read-if1 Inv-loop μ-loop
-shared-slice-read-if1 c = search needs
-
 returns : tie.Need-returns Inv-loop μ-loop
 unfolding hasZero
 returns c = sym (any-stop (λ (n : ℕ). eqb n 0) _ _ (c .before .before .loop-test .taken) (eq-eqb _ 0 (c .if1 .taken))) ∙ c .before .before .before .loop .inv .1
-
-add-i : tie.Need-add-i Inv-loop μ-loop
-add-i c = search needs
-
-loop-less : tie.Need-loop-less Inv-loop μ-loop
-loop-less c = search needs
 
 loop-again : tie.Need-loop-again Inv-loop μ-loop
 unfolding hasZero
@@ -49,14 +34,5 @@ returns-2 c = sym (any-end (λ (n : ℕ). eqb n 0) _ _ (c .loop-test .left)) ∙
 pub has-zero-spec : {M : Type 1} → statement M
 has-zero-spec =
     tie.close
-    (tie.spec
-    Inv-loop
-    μ-loop
-    loop-holds
-    mul-if1
-    shared-slice-read-if1
-    returns
-    add-i
-    loop-less
-    loop-again
-    returns-2)
+    (tie.spec Inv-loop μ-loop (search needs) (search needs) (search needs) returns (search needs) (search needs)
+    loop-again returns-2)

@@ -33,9 +33,6 @@ returns c = λ g chunk n x. unasked g _ _ chunk _ n _ _ x _ (not-true _ (c .if1 
 loop-holds : tie.Need-loop-holds Inv-loop μ-loop
 loop-holds c = asking-first _ _ _ _ _
 
-dim-at-requires : tie.Need-dim-at-requires Inv-loop μ-loop
-dim-at-requires c κs = search needs
-
 mul-multiplier : tie.Need-mul-multiplier Inv-loop μ-loop
 mul-multiplier c = omega (arith, small _ _ _ _ _ (c .before .before .before .before .pre .2))
 
@@ -59,12 +56,6 @@ returns-2 c = λ g chunk n x.
     (rw (c .before .ceil-div .ensures, d .dim-at .ensures) at f)
     ∙ asked g _ _ chunk _ n _ _ x _ (not-false _ (d .before .before .before .if1 .left))
 
-add-i : tie.Need-add-i Inv-loop μ-loop
-add-i c = search needs
-
-loop-less : tie.Need-loop-less Inv-loop μ-loop
-loop-less c = search needs
-
 loop-again : tie.Need-loop-again Inv-loop μ-loop
 loop-again c =
     let d = c .before .before .before .before in
@@ -80,19 +71,5 @@ returns-3 c = λ g chunk n x.
 pub all-inside-spec : {M : Type 1} → statement M
 all-inside-spec =
     tie.close
-    (tie.spec
-    Inv-loop
-    μ-loop
-    returns
-    loop-holds
-    dim-at-requires
-    mul-multiplier
-    element-copy-out-multiplier
-    mul-if2
-    element-copy-out-if2
-    ceil-div-requires
-    returns-2
-    add-i
-    loop-less
-    loop-again
-    returns-3)
+    (tie.spec Inv-loop μ-loop returns loop-holds (search needs) mul-multiplier element-copy-out-multiplier
+    mul-if2 element-copy-out-if2 ceil-div-requires returns-2 (search needs) (search needs) loop-again returns-3)

@@ -25,9 +25,6 @@ mul-multiplier c = omega (arith, small _ _ _ _ _ (c .before .before .pre .3))
 element-copy-out-multiplier : tie.Need-element-copy-out-multiplier Inv-loop μ-loop
 element-copy-out-multiplier c = omega (arith, small _ _ _ _ _ (c .before .before .pre .3))
 
-dim-at-requires : tie.Need-dim-at-requires Inv-loop μ-loop
-dim-at-requires c κs = search needs
-
 -- the dimension of a place is one of the grid's
 dim-small : (c : tie.After-dim-at Inv-loop μ-loop) → c .dim-at .result < 32
 dim-small c =
@@ -48,9 +45,6 @@ sub-left c =
     let p = l .before .pre in
     rw (c .before .dim-at .ensures) (omega (arith, line-below _ _ _ _ _ (p .3) _ _ (p .4) _ (p .5) (l .loop .inv) (c .before .before .before .before .loop-test .taken) (c .before .before .if1 .taken)))
 
-lesser-requires : tie.Need-lesser-requires Inv-loop μ-loop
-lesser-requires c κs = search needs
-
 returns : tie.Need-returns Inv-loop μ-loop
 returns c = λ g chunk numbers n x h.
     let l = c .before .before .before .before .before .before in
@@ -62,15 +56,6 @@ rem-rest c = down-pos _ _ _ _ _ (c .before .before .before .before .pre .3) _ (c
 
 sub-lesser : tie.Need-sub-lesser Inv-loop μ-loop
 sub-lesser c = omega (arith, mod-lt (c .before .before .before .loop .rest) (rem-rest c))
-
-lesser-requires-2 : tie.Need-lesser-requires-2 Inv-loop μ-loop
-lesser-requires-2 c κs = search needs
-
-add-i : tie.Need-add-i Inv-loop μ-loop
-add-i c = search needs
-
-loop-less : tie.Need-loop-less Inv-loop μ-loop
-loop-less c = search needs
 
 loop-again : tie.Need-loop-again Inv-loop μ-loop
 loop-again c =
@@ -85,22 +70,6 @@ returns-2 c = λ g chunk numbers n x h. line-none g _ _ chunk _ n numbers _ x _ 
 pub line-from-spec : {M : Type 1} → statement M
 line-from-spec =
     tie.close
-    (tie.spec
-    Inv-loop
-    μ-loop
-    loop-holds
-    mul-multiplier
-    element-copy-out-multiplier
-    dim-at-requires
-    mul-left
-    element-copy-out-left
-    sub-left
-    lesser-requires
-    returns
-    rem-rest
-    sub-lesser
-    lesser-requires-2
-    add-i
-    loop-less
-    loop-again
-    returns-2)
+    (tie.spec Inv-loop μ-loop loop-holds mul-multiplier element-copy-out-multiplier (search needs) mul-left
+    element-copy-out-left sub-left (search needs) returns rem-rest sub-lesser (search needs) (search needs)
+    (search needs) loop-again returns-2)

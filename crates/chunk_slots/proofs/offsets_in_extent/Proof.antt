@@ -43,9 +43,6 @@ returns c = λ g n x. unnumbered g _ _ _ _ n _ _ x _ (not-true _ (c .if1 .taken)
 loop-holds : tie.Need-loop-holds Inv-loop μ-loop
 loop-holds c = turn-first _ _ _ _ _ _ _
 
-dim-at-requires : tie.Need-dim-at-requires Inv-loop μ-loop
-dim-at-requires c κs = search needs
-
 mul-multiplier : tie.Need-mul-multiplier Inv-loop μ-loop
 mul-multiplier c = omega (arith, small _ _ _ _ _ (c .before .before .before .before .pre .1))
 
@@ -86,12 +83,6 @@ offset-overflows-requires c κs =
     let p = c .before .before .before .before .before .before .before .before .before .before .pre in
     (chunk-pos _ _ _ _ _ (p .1) _ (dim (c .before .before .before .before .before .before)), offset-below-requires (c .before) κs)
 
-add-i : tie.Need-add-i Inv-loop μ-loop
-add-i c = search needs
-
-loop-less : tie.Need-loop-less Inv-loop μ-loop
-loop-less c = search needs
-
 loop-again : tie.Need-loop-again Inv-loop μ-loop
 loop-again c =
     let d = c .before .before .before .before .before .before .before in
@@ -113,27 +104,7 @@ returns-4 c = λ g n x. rw (c .before .if2 .left, c .if3 .left) at (ended (c .be
 pub offsets-in-extent-spec : {M : Type 1} → statement M
 offsets-in-extent-spec =
     tie.close
-    (tie.spec
-    Inv-loop
-    μ-loop
-    returns
-    loop-holds
-    dim-at-requires
-    mul-multiplier
-    element-copy-out-multiplier
-    mul-length
-    element-copy-out-length
-    mul-most
-    element-copy-out-most
-    quotient-requires
-    remainder-requires
-    offset-below-requires
-    mul-offsets
-    element-write-offsets
-    offset-overflows-requires
-    add-i
-    loop-less
-    loop-again
-    returns-2
-    returns-3
-    returns-4)
+    (tie.spec Inv-loop μ-loop returns loop-holds (search needs) mul-multiplier element-copy-out-multiplier
+    mul-length element-copy-out-length mul-most element-copy-out-most quotient-requires remainder-requires
+    offset-below-requires mul-offsets element-write-offsets offset-overflows-requires (search needs)
+    (search needs) loop-again returns-2 returns-3 returns-4)

@@ -29,12 +29,6 @@ dim c = rw (c .dim-at .ensures) (dim-lt _ _ _ (omega (arith, leads _ _ _ _ _ (c 
 dim-small : (c : tie.After-dim-at Inv-loop μ-loop) → c .dim-at .result < 32
 dim-small c = omega (arith, dim c, small _ _ _ _ _ (c .before .before .before .before .pre .1))
 
-loop-holds : tie.Need-loop-holds Inv-loop μ-loop
-loop-holds c = search needs
-
-dim-at-requires : tie.Need-dim-at-requires Inv-loop μ-loop
-dim-at-requires c κs = search needs
-
 mul-q : tie.Need-mul-q Inv-loop μ-loop
 mul-q c = omega (arith, dim-small c)
 
@@ -65,20 +59,8 @@ returns c =
     λ g n k.
     past-count g (a .corner .now) (a .rotated) (a .chunk .now) (a .counts .now) (a .down .now) n k (l .i) (l .slot) (d .before .loop-test .taken) (ltb-true 0 (l .i) (t .0)) (rw (← d .dim-at .ensures) (leb-true _ _ (t .1))) ∙ l .inv .2 ∙ slot-is g (a .corner .now) (a .rotated) (a .chunk .now) (a .counts .now) (a .down .now) n k
 
-mul-checked-mul : tie.Need-mul-checked-mul Inv-loop μ-loop
-mul-checked-mul c = search needs
-
 element-copy-out-checked-mul : tie.Need-element-copy-out-checked-mul Inv-loop μ-loop
 element-copy-out-checked-mul c = omega (arith, small _ _ _ _ _ (c .before .before .before .before .before .before .before .before .pre .1))
-
-checked-mul-requires : tie.Need-checked-mul-requires Inv-loop μ-loop
-checked-mul-requires c κs = search needs
-
-enum-known-part : tie.Need-enum-known-part Inv-loop μ-loop
-enum-known-part c = search needs
-
-enum-told : tie.Need-enum-told Inv-loop μ-loop
-enum-told c = search needs
 
 returns-2 : tie.Need-returns-2 Inv-loop μ-loop
 returns-2 c =
@@ -88,15 +70,6 @@ returns-2 c =
     let o = overflows-is _ (sym (c .enum-told .given .1) ∙ c .before .before .checked-mul .ensures) in
     λ g n k. past-64 g (a .corner .now) (a .rotated) (a .chunk .now) (a .counts .now) (a .down .now) n k (l .i) (l .slot) (d .before .loop-test .taken) (rw (← d .dim-at .ensures) (omega arith)) ∙ l .inv .2 ∙ slot-is g (a .corner .now) (a .rotated) (a .chunk .now) (a .counts .now) (a .down .now) n k
 
-checked-add-requires : tie.Need-checked-add-requires Inv-loop μ-loop
-checked-add-requires c κs = search needs
-
-enum-known-sum : tie.Need-enum-known-sum Inv-loop μ-loop
-enum-known-sum c = search needs
-
-enum-told-2 : tie.Need-enum-told-2 Inv-loop μ-loop
-enum-told-2 c = search needs
-
 returns-3 : tie.Need-returns-3 Inv-loop μ-loop
 returns-3 c =
     let d = c .before .before .before .before .before .before .before .before .before .before .before .before in
@@ -105,12 +78,6 @@ returns-3 c =
     let f = fits-is _ _ (sym (c .before .before .before .before .part .given .1) ∙ c .before .before .before .before .before .before .checked-mul .ensures) in
     let o = overflows-is _ (sym (c .enum-told2 .given .1) ∙ c .before .before .checked-add .ensures) in
     λ g n k. past-64 g (a .corner .now) (a .rotated) (a .chunk .now) (a .counts .now) (a .down .now) n k (l .i) (l .slot) (d .before .loop-test .taken) (rw (← d .dim-at .ensures, ← f .0) o) ∙ l .inv .2 ∙ slot-is g (a .corner .now) (a .rotated) (a .chunk .now) (a .counts .now) (a .down .now) n k
-
-add-i : tie.Need-add-i Inv-loop μ-loop
-add-i c = search needs
-
-loop-less : tie.Need-loop-less Inv-loop μ-loop
-loop-less c = search needs
 
 loop-again : tie.Need-loop-again Inv-loop μ-loop
 loop-again c =
@@ -133,30 +100,7 @@ returns-4 c =
 pub slot-of-spec : {M : Type 1} → statement M
 slot-of-spec =
     tie.close
-    (tie.spec
-    Inv-loop
-    μ-loop
-    loop-holds
-    dim-at-requires
-    mul-q
-    shared-slice-read-q
-    mul-q-2
-    element-copy-out-q
-    div-q
-    mul-if1
-    element-copy-out-if1
-    returns
-    mul-checked-mul
-    element-copy-out-checked-mul
-    checked-mul-requires
-    enum-known-part
-    enum-told
-    returns-2
-    checked-add-requires
-    enum-known-sum
-    enum-told-2
-    returns-3
-    add-i
-    loop-less
-    loop-again
-    returns-4)
+    (tie.spec Inv-loop μ-loop (search needs) (search needs) mul-q shared-slice-read-q mul-q-2 element-copy-out-q
+    div-q mul-if1 element-copy-out-if1 returns (search needs) element-copy-out-checked-mul (search needs)
+    (search needs) (search needs) returns-2 (search needs) (search needs) (search needs) returns-3
+    (search needs) (search needs) loop-again returns-4)

@@ -28,32 +28,11 @@ shape2 : (c : tie.After-read-shape3)
     × (c .read-shape3 .result ≡ length (take (c .read-shape3 .result) (c .read-shape3 .last .0)))
 shape2 c = stored-shape (c .before .before .before .before .before .before .before .before .before .before .before .before .args .rank) (c .before .before .before .before .before .before .before .before .before .before .before .before .args .maximum .now) _ _ _ (c .before .before .before .before .before .before .before .before .if1 .left) (lit≤ tt) (c .read-shape3 .ensures .0) (c .read-shape3 .ensures .1)
 
-refused-grid-requires : tie.Need-refused-grid-requires
-refused-grid-requires c κs = search needs
-
 returns : tie.Need-returns
 unfolding givenBytes whereTested
 returns c =
     let e = c .refused-grid .ensures in
     (e .0 ∙ refused-shapes _ _ (rank-over _ _ _ _ _ _ (c .before .if1 .taken)), rw (e .0) (e .1))
-
-slice-aggregate-read-shape : tie.Need-slice-aggregate-read-shape
-slice-aggregate-read-shape c = search needs
-
-read-shape-requires : tie.Need-read-shape-requires
-read-shape-requires c κs = search needs
-
-slice-aggregate-read-shape-2 : tie.Need-slice-aggregate-read-shape-2
-slice-aggregate-read-shape-2 c = search needs
-
-read-shape-requires-2 : tie.Need-read-shape-requires-2
-read-shape-requires-2 c κs = search needs
-
-slice-aggregate-read-shape-3 : tie.Need-slice-aggregate-read-shape-3
-slice-aggregate-read-shape-3 c = search needs
-
-read-shape-requires-3 : tie.Need-read-shape-requires-3
-read-shape-requires-3 c κs = search needs
 
 array-share-prefix-lengths : tie.Need-array-share-prefix-lengths
 array-share-prefix-lengths c = shape0 (c .before .before .before .before .before .before .before) .0
@@ -73,9 +52,6 @@ array-share-prefix-limits c = shape2 (c .before .before .before) .0
 slice-aggregate-new-3 : tie.Need-slice-aggregate-new-3
 slice-aggregate-new-3 c = shape2 (c .before .before .before .before) .2
 
-new-requires : tie.Need-new-requires
-new-requires c κs = search needs
-
 returns-2 : tie.Need-returns-2
 unfolding givenBytes
 returns-2 c = rw (shape0 (c .before .before .before .before .before .before .before .before .before .before .before) .1, shape1 (c .before .before .before .before .before .before .before .before) .1, shape2 (c .before .before .before .before .before) .1) at (c .new .ensures)
@@ -83,20 +59,6 @@ returns-2 c = rw (shape0 (c .before .before .before .before .before .before .bef
 pub from-bytes-spec : {M : Type 1} → statement M
 from-bytes-spec =
     tie.close
-    (tie.spec
-    refused-grid-requires
-    returns
-    slice-aggregate-read-shape
-    read-shape-requires
-    slice-aggregate-read-shape-2
-    read-shape-requires-2
-    slice-aggregate-read-shape-3
-    read-shape-requires-3
-    array-share-prefix-lengths
-    slice-aggregate-new
-    array-share-prefix-extents
-    slice-aggregate-new-2
-    array-share-prefix-limits
-    slice-aggregate-new-3
-    new-requires
-    returns-2)
+    (tie.spec (search needs) returns (search needs) (search needs) (search needs) (search needs) (search needs)
+    (search needs) array-share-prefix-lengths slice-aggregate-new array-share-prefix-extents
+    slice-aggregate-new-2 array-share-prefix-limits slice-aggregate-new-3 (search needs) returns-2)

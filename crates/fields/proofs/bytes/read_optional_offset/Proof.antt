@@ -8,20 +8,8 @@ use Rattle.fields.proofs.Fields.{undefined-after, at-after, optional-re
 use Rattle.fields.proofs.bytes.read_optional_offset.Statement.{statement}
 use Rattle.fields.proofs.bytes.read_optional_offset.Tie as tie
 
-ensure-field-requires : tie.Need-ensure-field-requires
-ensure-field-requires c κs = search needs
-
-enum-told : tie.Need-enum-told
-enum-told c = search needs
-
 read-address-requires : tie.Need-read-address-requires
 read-address-requires c κs = field-is _ _ _ _ (sym (c .enum-told .given .1) ∙ c .before .before .ensure-field .ensures)
-
-is-undefined-addr-requires : tie.Need-is-undefined-addr-requires
-is-undefined-addr-requires c κs = search needs
-
-enum-known-r : tie.Need-enum-known-r
-enum-known-r c = search needs
 
 -- where the address is read, its test has passed
 passed : (c : tie.After-read-address) → Passed ≡ fieldTest 1 (c .before .before .before .before .before .args .s .now) (c .before .before .before .before .before .args .pos) (c .before .before .before .before .before .args .width)
@@ -47,12 +35,5 @@ returns-3 c = optional-refused _ _ _ (sym (c .before .r .given .1) ∙ c .before
 pub read-optional-offset-spec : {M : Type 1} → statement M
 read-optional-offset-spec =
     tie.close
-    (tie.spec
-    ensure-field-requires
-    enum-told
-    read-address-requires
-    is-undefined-addr-requires
-    enum-known-r
-    returns
-    returns-2
-    returns-3)
+    (tie.spec (search needs) (search needs) read-address-requires (search needs) (search needs) returns
+    returns-2 returns-3)

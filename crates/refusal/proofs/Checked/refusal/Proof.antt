@@ -5,12 +5,6 @@ use borrow.Author.Needs.{needs}
 use Rattle.refusal.proofs.Checked.refusal.Statement.{statement}
 use Rattle.refusal.proofs.Checked.refusal.Tie as tie
 
-enum-told : tie.Need-enum-told
-enum-told c = search needs
-
-enum-known-self : tie.Need-enum-known-self
-enum-known-self c = search needs
-
 returns : tie.Need-returns
 unfolding refusalOf
 returns c = sym (ap refusalOf (c .enum-told .given .1))
@@ -20,4 +14,4 @@ unfolding refusalOf
 returns-2 c = search needs
 
 pub refusal-spec : {M : Type 1} → statement M
-refusal-spec = tie.close (tie.spec enum-told enum-known-self returns returns-2)
+refusal-spec = tie.close (tie.spec (search needs) (search needs) returns returns-2)
