@@ -1,3 +1,4 @@
+-- `checksum::rot` meets its contract. Assumes nothing.
 use mathlib.Core.Path.{refl}
 use Rattle.checksum.specs.Lookup3.{rotated}
 use borrow.Author.Needs.{needs}

@@ -18,4 +18,5 @@ compared-requires-2 c κs = c .before .hashlittle-two .ensures .1 ∙ ap (λ (s 
 pub verify-trailing-two-spec : {M : Type 1} → statement M
 verify-trailing-two-spec =
     tie.close
-    (tie.spec (search needs) (search needs) (search needs) compared-requires compared-requires-2 (λ c. search needs))
+    (tie.spec (search needs) (search needs) (search needs) compared-requires compared-requires-2
+    (λ c. search needs))

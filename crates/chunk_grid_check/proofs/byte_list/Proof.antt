@@ -16,5 +16,5 @@ pub byte-list-spec : {M : Type 1} → statement M
 byte-list-spec =
     tie.close
     (tie.spec Inv-loop μ-loop (search needs) (search needs) (search needs) (search needs) (search needs)
-    (search needs) (search needs) (search needs) (search needs) (λ c. search needs) (search needs) (search needs)
-    (search needs) (search needs))
+    (search needs) (search needs) (search needs) (search needs) (λ c. search needs) (search needs)
+    (search needs) (search needs) (search needs))

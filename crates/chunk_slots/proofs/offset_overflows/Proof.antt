@@ -1,4 +1,4 @@
--- `chunk_grid::offset_overflows` meets its contract. Assumes nothing.
+-- `chunk_slots::offset_overflows` meets its contract. Assumes nothing.
 use Prim.Native.Nat.{_*_, _/_, _<_, _≤_}
 use mathlib.Core.Path.{sym, _∙_}
 use mathlib.Core.Logic.{⊎-elim}

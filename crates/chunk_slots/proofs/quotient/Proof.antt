@@ -1,4 +1,4 @@
--- `chunk_grid::quotient` meets its contract. Assumes nothing.
+-- `chunk_slots::quotient` meets its contract. Assumes nothing.
 use native.Mathlib.Omega.{arith}
 use borrow.Author.Needs.{needs}
 use Rattle.chunk_slots.proofs.quotient.Statement.{statement}

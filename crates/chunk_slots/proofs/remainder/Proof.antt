@@ -1,4 +1,4 @@
--- `chunk_grid::remainder` meets its contract. Assumes nothing.
+-- `chunk_slots::remainder` meets its contract. Assumes nothing.
 use native.Mathlib.Omega.{arith}
 use borrow.Author.Needs.{needs}
 use Rattle.chunk_slots.proofs.remainder.Statement.{statement}

@@ -9,7 +9,7 @@ use Rattle.fields.proofs.bytes.read_variable_length.Tie as tie
 
 returns : tie.Need-returns
 unfolding sizeField
-returns c = refused-after _ _ (over-eight _ _ _ (omega arith))
+returns c = rw (c .plain .ensures) (refused-after _ _ (over-eight _ _ _ (omega arith)))
 
 read-le-requires : tie.Need-read-le-requires
 read-le-requires c κs = (inside _ _ _ (sym (c .enum-told .given .1) ∙ c .before .before .ensure-len .ensures), omega arith)
@@ -25,4 +25,5 @@ returns-3 c = refused-after _ _ (sym (c .before .r .given .1) ∙ c .before .bef
 pub read-variable-length-spec : {M : Type 1} → statement M
 read-variable-length-spec =
     tie.close
-    (tie.spec returns (search needs) (search needs) read-le-requires (search needs) returns-2 returns-3)
+    (tie.spec (search needs) returns (search needs) (search needs) read-le-requires (search needs) returns-2
+    returns-3)

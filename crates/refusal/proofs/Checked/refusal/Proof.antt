@@ -1,5 +1,5 @@
 -- `refusal::Checked::refusal` meets its contract. Assumes nothing.
-use mathlib.Core.Path.{ap, sym}
+use mathlib.Core.Path.{ap, sym, _∙_}
 use Rattle.refusal.specs.Refusals.{refusalOf}
 use borrow.Author.Needs.{needs}
 use Rattle.refusal.proofs.Checked.refusal.Statement.{statement}
@@ -7,11 +7,8 @@ use Rattle.refusal.proofs.Checked.refusal.Tie as tie
 
 returns : tie.Need-returns
 unfolding refusalOf
-returns c = sym (ap refusalOf (c .enum-told .given .1))
-
-returns-2 : tie.Need-returns-2
-unfolding refusalOf
-returns-2 c = search needs
+returns c = c .plain .ensures ∙ sym (ap refusalOf (c .before .enum-told .given .1))
 
 pub refusal-spec : {M : Type 1} → statement M
-refusal-spec = tie.close (tie.spec (search needs) (search needs) returns returns-2)
+unfolding refusalOf
+refusal-spec = tie.close (tie.spec (search needs) (search needs) (search needs) returns (λ c. search needs))
