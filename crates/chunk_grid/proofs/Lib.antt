@@ -6,5 +6,5 @@ pub mod Building
 pub mod Numbered
 pub mod Shapes
 pub mod Slots
-pub mod Tried
+pub mod Worked
 pub mod Chunks
