@@ -1,3 +1,4 @@
 pub mod Turns
 pub mod Paths
 pub mod Walks
+pub mod Given

@@ -14,7 +14,7 @@ use lib.ListN.{length}
 use Rattle.refusal.specs.declared.Checked.the-variants.{Passed}
 use Rattle.refusal.specs.Refusals.{largest64}
 use Rattle.refusal.specs.Outcome.{accepted}
-use Rattle.refusal.proofs.Tests.{by-cond, both, then-inv}
+use Rattle.refusal.proofs.Tests.{by-cond, both}
 use Rattle.refusal.proofs.Outcomes.{yields-inv}
 use Rattle.fields.specs.Fields.{widthTest}
 use Rattle.element_form.specs.Form.{stride}
@@ -28,7 +28,6 @@ use Rattle.located.proofs.Paths.{LeadsTo, LeadsNowhere}
 use Rattle.located.proofs.Walks.{Right, right-at, right-past, right-end, right-empty, elements-right, PagesAt, pages-right, right-records, right-exact}
 use Rattle.ea_header.specs.declared.Parameters.{Parameters}
 use Rattle.ea_header.specs.Values.{Served}
-use Rattle.ea_header.proofs.Served.{tested-serves}
 use Rattle.ea_geometry.specs.Sizes.{superBlocks, blocks, blockElements, pageElements, directSuperBlocks, overPage, pages}
 use Rattle.ea_geometry.specs.Extents.{formOf, elementStride, elementAt, inlineElementAt, blockElementAt, pagedElementAt, pageAt}
 use Rattle.ea_geometry.specs.Place.{inPages, placeIn, place}
@@ -37,8 +36,9 @@ use Rattle.ea_geometry.specs.declared.Place.the-variants.{Inline}
 use Rattle.ea_geometry.proofs.Counts.{elements-pos, pages-exact}
 use Rattle.ea_geometry.proofs.Places.{place-is, place-inline, place-past, next-slot, first-slot-zero, first-slot-mono}
 use Rattle.ea_blocks.specs.Array.{Array}
-use Rattle.ea_blocks.specs.Structures.{dataBlock, dataPage, testOf, arrayTest, pagesOf, isDirect, blockAt, dataPageAt, superUndefined, blockUndefined, pageSet}
+use Rattle.ea_blocks.specs.Structures.{dataBlock, dataPage, testOf, pagesOf, isDirect, blockAt, dataPageAt, superUndefined, blockUndefined, pageSet}
 use Rattle.ea_blocks.specs.Places.{positionOf}
+use Rattle.ea_blocks.proofs.StructureTests.{array-passed}
 use Rattle.ea_walk.specs.Walk.{located, block, blocksFrom, supersFrom, behindInline, walk, list}
 use Rattle.ea_walk.proofs.Paths.{Ready, no-super, no-block, in-block, in-clear, in-page, in-index, no-place}
 
@@ -234,10 +234,10 @@ module _ (a : Array) (e : Elements) (form : formOf (a .parameters) (a .offsetSiz
       (λ q w. past-right _ q v (let z : 0 + superBlocks h ≡ superBlocks h = omega arith in rw z (omega arith)) w) (y .1)))
 
   pub walk-right : (l : List Rec) → walk a e ≡ accepted l → Shown 0 l
-  unfolding walk arrayTest
+  unfolding walk
   walk-right l x =
       let y = yields-inv _ _ l x in
-      let v = tested-serves h (then-inv _ _ (y .0) .0) in
+      let v = array-passed a (y .0) .0 in
       elements-shown (h .«idx_blk_elmts») _ 0 _ l (inline-leads v) (behind-right v) (y .1)
 
   -- An accepted list's records, any rank.
