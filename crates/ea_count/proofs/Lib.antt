@@ -1,3 +1,1 @@
 pub mod WalkStates
-pub mod Heads
-pub mod Starts

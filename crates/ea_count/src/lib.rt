@@ -21,7 +21,6 @@ use elements::ElementReader;
 use refusal::Checked;
 use refusal::Counted;
 
-pub mod walk;
 
 // Walks the super blocks from `begin` up to `end`, with their data blocks and pages; `first` records are counted before.
 pub fn count_blocks(
