@@ -1,1 +1,2 @@
 pub mod WalkStates
+pub mod Invariants

@@ -77,6 +77,11 @@ module _ (f : List ℕ) (array : ExtensibleArray) (r : ElementReader) (first beg
   abbrev pub Done : Checked → ℕ → Type 0
   Done refusal total = (g : Grid) (n : ℕ) → Made g n → answered refusal total ≡ whole g n
 
+  -- another refusal and count that are the same
+  pub ends-at : {x x′ : Checked} {n n′ : ℕ} → x ≡ x′ → n ≡ n′ → Done x′ n′ → Done x n
+  unfolding answered
+  ends-at {x} {x′} {n} {n′} e d k = λ g m w. ap (λ (y : Checked). answered y n) e ∙ ap (answered x′) d ∙ k g m w
+
   -- n elements from pos on, of the slots from s on, are counted, or refused
   abbrev pub Counts : ℕ → ℕ → ℕ → Counted → Type 0
   Counts pos j s x = (g : Grid) (n : ℕ) → Made g n → x ≡ countedOf (elementsFrom (es g n) pos j s (accepted []))
