@@ -1,2 +1,3 @@
 pub mod WalkStates
 pub mod Invariants
+pub mod Heads

@@ -14,20 +14,6 @@ use Prim.Native.Nat.{_-_}
 use Rattle.ea_count.proofs.Invariants.{InSupers, InBlocks, InPages}
 use Rattle.ea_count.proofs.count_blocks.Statement.{statement}
 use Rattle.ea_count.proofs.count_blocks.Tie as tie
-use Rattle.ea_count.proofs.count_blocks.Reads as reads
-use Rattle.ea_count.proofs.count_blocks.Lts as lts
-use Rattle.ea_blocks.proofs.enter.enter_block_in_turn.Reads as enter-block-in-turn-reads
-use Rattle.ea_blocks.proofs.enter.enter_page_in_turn.Reads as enter-page-in-turn-reads
-use Rattle.ea_blocks.proofs.enter.enter_super.Reads as enter-super-reads
-use Rattle.ea_geometry.proofs.EaGeometry.block_element_at.Reads as block-element-at-reads
-use Rattle.ea_geometry.proofs.EaGeometry.block_elements.Reads as block-elements-reads
-use Rattle.ea_geometry.proofs.EaGeometry.blocks.Reads as blocks-reads
-use Rattle.ea_geometry.proofs.EaGeometry.direct_super_blocks.Reads as direct-super-blocks-reads
-use Rattle.ea_geometry.proofs.EaGeometry.first_slot.Reads as first-slot-reads
-use Rattle.ea_geometry.proofs.EaGeometry.in_pages.Reads as in-pages-reads
-use Rattle.ea_geometry.proofs.EaGeometry.page_elements.Reads as page-elements-reads
-use Rattle.ea_geometry.proofs.EaGeometry.pages.Reads as pages-reads
-use Rattle.element_runs.proofs.count.count_elements.Reads as count-elements-reads
 
 abbrev Inv-pages : tie.InvT-pages
 Inv-pages file array reader first begin end chunk bound down geometry count directs page refused₀ total₀ slot u blocks elements super-at block-ahead k at pages from₀ page-ahead₀ p₀ refused total from page-ahead p =
@@ -53,7 +39,6 @@ abbrev μ-supers : tie.MeasureT-supers
 μ-supers file array reader first begin end chunk bound down geometry count directs page refused₀ total₀ slot₀ u₀ refused total slot u =
     end - u
 
--- src/lib.rt:44:9
 direct-super-blocks-requires :
     tie.Need-direct-super-blocks-requires
     Inv-pages
@@ -64,19 +49,16 @@ direct-super-blocks-requires :
     μ-supers
 direct-super-blocks-requires c κs = c .before .before .pre .index .bounded .served
 
--- src/lib.rt:45:9
 page-elements-requires :
     tie.Need-page-elements-requires Inv-pages μ-pages Inv-blocks2 μ-blocks2 Inv-supers μ-supers
 page-elements-requires c κs = c .before .before .before .pre .index .bounded .served
 
--- src/lib.rt:48:9
 first-slot-requires :
     tie.Need-first-slot-requires Inv-pages μ-pages Inv-blocks2 μ-blocks2 Inv-supers μ-supers
 first-slot-requires c κs =
     let start = c .before .before .before .before in
     (omega (arith, start .pre .ordered, start .pre .supers), start .pre .index .bounded .served)
 
--- src/lib.rt:51:5
 supers-holds : tie.Need-supers-holds Inv-pages μ-pages Inv-blocks2 μ-blocks2 Inv-supers μ-supers
 supers-holds c =
     let start = c .before .before .before .before .before in
@@ -91,50 +73,41 @@ supers-holds c =
     })
     (c .first-slot .ensures)
 
--- src/lib.rt:55:13
 blocks-requires :
     tie.Need-blocks-requires Inv-pages μ-pages Inv-blocks2 μ-blocks2 Inv-supers μ-supers
 blocks-requires c κs = super-there (c .before .before .supers .inv) (c .before .supers-test .taken)
 
--- src/lib.rt:56:13
 block-elements-requires :
     tie.Need-block-elements-requires Inv-pages μ-pages Inv-blocks2 μ-blocks2 Inv-supers μ-supers
 block-elements-requires c κs = super-there (c .before .before .before .supers .inv) (c .before .before .supers-test .taken)
 
--- src/lib.rt:57:30
 enter-super-requires :
     tie.Need-enter-super-requires Inv-pages μ-pages Inv-blocks2 μ-blocks2 Inv-supers μ-supers
 enter-super-requires c κs =
     let turn = c .before .before .before in
     (super-there (turn .before .supers .inv) (turn .supers-test .taken) .0, turn .before .supers .inv .fixed .walk .index)
 
--- src/lib.rt:59:25
 enum-told : tie.Need-enum-told Inv-pages μ-pages Inv-blocks2 μ-blocks2 Inv-supers μ-supers
 enum-told c = search needs
 
--- src/lib.rt:59:25
 mul-slot : tie.Need-mul-slot Inv-pages μ-pages Inv-blocks2 μ-blocks2 Inv-supers μ-supers
 mul-slot c =
     let entering = c .before .before in
     let turn = entering .before .before .before .before in
     omega (arith, super-fits (turn .before .supers .inv) (turn .supers-test .taken) _ _ (entering .before .before .blocks3 .ensures) (entering .before .block-elements .ensures) .0)
 
--- src/lib.rt:59:17
 add-slot : tie.Need-add-slot Inv-pages μ-pages Inv-blocks2 μ-blocks2 Inv-supers μ-supers
 add-slot c =
     let entering = c .before .before in
     let turn = entering .before .before .before .before in
     omega (arith, super-fits (turn .before .supers .inv) (turn .supers-test .taken) _ _ (entering .before .before .blocks3 .ensures) (entering .before .block-elements .ensures) .1)
 
--- src/lib.rt:60:17
 add-u : tie.Need-add-u Inv-pages μ-pages Inv-blocks2 μ-blocks2 Inv-supers μ-supers
 add-u c = search needs
 
--- src/lib.rt:51:5
 supers-less : tie.Need-supers-less Inv-pages μ-pages Inv-blocks2 μ-blocks2 Inv-supers μ-supers
 supers-less c = search needs
 
--- src/lib.rt:51:5
 supers-again : tie.Need-supers-again Inv-pages μ-pages Inv-blocks2 μ-blocks2 Inv-supers μ-supers
 supers-again c =
     let entering = c .before .before in
@@ -143,15 +116,12 @@ supers-again c =
     super-absent (turn .before .supers .inv) (turn .supers-test .taken) (opened .if1 .left) (entering .before .before .blocks3 .ensures) (entering .before .block-elements .ensures)
     (subst (EnteredSuper _ _) (c .enum-told .given .1) (entering .enter-super .ensures))
 
--- src/lib.rt:63:25
 enum-known-at : tie.Need-enum-known-at Inv-pages μ-pages Inv-blocks2 μ-blocks2 Inv-supers μ-supers
 enum-known-at c = search needs
 
--- src/lib.rt:64:30
 enum-known-r : tie.Need-enum-known-r Inv-pages μ-pages Inv-blocks2 μ-blocks2 Inv-supers μ-supers
 enum-known-r c = search needs
 
--- src/lib.rt:72:9
 blocks2-holds : tie.Need-blocks2-holds Inv-pages μ-pages Inv-blocks2 μ-blocks2 Inv-supers μ-supers
 blocks2-holds c =
     let entering = c .before .before .before in
@@ -160,7 +130,6 @@ blocks2-holds c =
     blocks-first (turn .before .supers .inv) (turn .supers-test .taken) (opened .if1 .left) (entering .before .before .blocks3 .ensures) (entering .before .block-elements .ensures)
     (subst (EnteredSuper _ _) (c .before .at .given .1) (entering .enter-super .ensures))
 
--- src/lib.rt:78:17
 enter-block-in-turn-requires :
     tie.Need-enter-block-in-turn-requires
     Inv-pages
@@ -171,25 +140,20 @@ enter-block-in-turn-requires :
     μ-supers
 enter-block-in-turn-requires c κs = block-pointed (c .before .before .blocks2 .inv) (c .before .blocks2-test .taken)
 
--- src/lib.rt:83:21
 enum-told-2 : tie.Need-enum-told-2 Inv-pages μ-pages Inv-blocks2 μ-blocks2 Inv-supers μ-supers
 enum-told-2 c = search needs
 
--- src/lib.rt:83:21
 add-slot-2 : tie.Need-add-slot-2 Inv-pages μ-pages Inv-blocks2 μ-blocks2 Inv-supers μ-supers
 add-slot-2 c =
     let turn = c .before .before .before .before in
     omega (arith, block-fits (turn .before .blocks2 .inv) (turn .blocks2-test .taken))
 
--- src/lib.rt:84:21
 add-k : tie.Need-add-k Inv-pages μ-pages Inv-blocks2 μ-blocks2 Inv-supers μ-supers
 add-k c = search needs
 
--- src/lib.rt:72:9
 blocks2-less : tie.Need-blocks2-less Inv-pages μ-pages Inv-blocks2 μ-blocks2 Inv-supers μ-supers
 blocks2-less c = search needs
 
--- src/lib.rt:72:9
 blocks2-again : tie.Need-blocks2-again Inv-pages μ-pages Inv-blocks2 μ-blocks2 Inv-supers μ-supers
 blocks2-again c =
     let entering = c .before .before in
@@ -202,27 +166,22 @@ blocks2-again c =
     (block-absent i (turn .blocks2-test .taken) (⊎-elim (λ w. inl (w .0 .taken, w .1 .left)) (λ w. inr (w .left)) (opened .if2 .came))
     (subst (EnteredBlock _ _ _) (c .enum-told2 .given .1) (e .0))) (e .1)
 
--- src/lib.rt:87:29
 enum-known-found :
     tie.Need-enum-known-found Inv-pages μ-pages Inv-blocks2 μ-blocks2 Inv-supers μ-supers
 enum-known-found c = search needs
 
--- src/lib.rt:88:34
 enum-known-found-2 :
     tie.Need-enum-known-found-2 Inv-pages μ-pages Inv-blocks2 μ-blocks2 Inv-supers μ-supers
 enum-known-found-2 c = search needs
 
--- src/lib.rt:93:16
 in-pages-requires :
     tie.Need-in-pages-requires Inv-pages μ-pages Inv-blocks2 μ-blocks2 Inv-supers μ-supers
 in-pages-requires c κs = let turn = c .before .before .before .before .before in super-here (turn .before .blocks2 .inv)
 
--- src/lib.rt:94:21
 pages-requires :
     tie.Need-pages-requires Inv-pages μ-pages Inv-blocks2 μ-blocks2 Inv-supers μ-supers
 pages-requires c κs = let turn = c .before .before .before .before .before .before .before in super-here (turn .before .blocks2 .inv)
 
--- src/lib.rt:99:17
 pages-holds : tie.Need-pages-holds Inv-pages μ-pages Inv-blocks2 μ-blocks2 Inv-supers μ-supers
 pages-holds c =
     let found = c .before .before .before .before in
@@ -235,7 +194,6 @@ pages-holds c =
     pages-first i (turn .blocks2-test .taken) (⊎-elim (λ w. inl (w .0 .taken, w .1 .left)) (λ w. inr (w .left)) (opened .if2 .came))
     (subst (EnteredBlock _ _ _) (found .found .given .1) (e .0)) (sym (c .before .before .in-pages .ensures) ∙ c .before .if4 .taken) (c .pages2 .ensures)
 
--- src/lib.rt:100:25
 enter-page-in-turn-requires :
     tie.Need-enter-page-in-turn-requires
     Inv-pages
@@ -246,25 +204,20 @@ enter-page-in-turn-requires :
     μ-supers
 enter-page-in-turn-requires c κs = page-pointed (c .before .pages .inv) (c .pages-test .taken)
 
--- src/lib.rt:114:29
 enum-told-3 : tie.Need-enum-told-3 Inv-pages μ-pages Inv-blocks2 μ-blocks2 Inv-supers μ-supers
 enum-told-3 c = search needs
 
--- src/lib.rt:114:29
 add-from : tie.Need-add-from Inv-pages μ-pages Inv-blocks2 μ-blocks2 Inv-supers μ-supers
 add-from c =
     let turn = c .before .before .before in
     omega (arith, page-fits (turn .before .pages .inv) (turn .pages-test .taken))
 
--- src/lib.rt:115:29
 add-p : tie.Need-add-p Inv-pages μ-pages Inv-blocks2 μ-blocks2 Inv-supers μ-supers
 add-p c = search needs
 
--- src/lib.rt:99:17
 pages-less : tie.Need-pages-less Inv-pages μ-pages Inv-blocks2 μ-blocks2 Inv-supers μ-supers
 pages-less c = search needs
 
--- src/lib.rt:99:17
 pages-again : tie.Need-pages-again Inv-pages μ-pages Inv-blocks2 μ-blocks2 Inv-supers μ-supers
 pages-again c =
     let entering = c .before .before in
@@ -274,17 +227,14 @@ pages-again c =
     let e = page-found i (turn .pages-test .taken) (x .result .found) (x .result .ahead) (x .ensures) in
     pages-clear i (turn .pages-test .taken) (subst (EnteredPage _ _ _ _) (c .enum-told3 .given .1) (e .0)) (e .1)
 
--- src/lib.rt:118:37
 enum-known-found-3 :
     tie.Need-enum-known-found-3 Inv-pages μ-pages Inv-blocks2 μ-blocks2 Inv-supers μ-supers
 enum-known-found-3 c = search needs
 
--- src/lib.rt:119:42
 enum-known-found-4 :
     tie.Need-enum-known-found-4 Inv-pages μ-pages Inv-blocks2 μ-blocks2 Inv-supers μ-supers
 enum-known-found-4 c = search needs
 
--- src/lib.rt:124:27
 count-elements-requires :
     tie.Need-count-elements-requires Inv-pages μ-pages Inv-blocks2 μ-blocks2 Inv-supers μ-supers
 count-elements-requires c κs =
@@ -295,11 +245,9 @@ count-elements-requires c κs =
     let e = page-found i (turn .pages-test .taken) (x .result .found) (x .result .ahead) (x .ensures) in
     page-run i (turn .pages-test .taken) (subst (EnteredPage _ _ _ _) (c .before .found3 .given .1) (e .0))
 
--- src/lib.rt:125:40
 enum-known-n : tie.Need-enum-known-n Inv-pages μ-pages Inv-blocks2 μ-blocks2 Inv-supers μ-supers
 enum-known-n c = search needs
 
--- src/lib.rt:125:46
 add-total : tie.Need-add-total Inv-pages μ-pages Inv-blocks2 μ-blocks2 Inv-supers μ-supers
 add-total c =
     let counting = c .before .before .before in
@@ -309,35 +257,32 @@ add-total c =
     let i = turn .before .pages .inv in
     let x = entering .enter-page-in-turn in
     let e = page-found i (turn .pages-test .taken) (x .result .found) (x .result .ahead) (x .ensures) in
-    omega (arith, page-total-fits i (turn .pages-test .taken) (subst (EnteredPage _ _ _ _) (found .found3 .given .1) (e .0))
-    (λ g n q. sym (c .before .n .given .1) ∙ counting .count-elements .ensures g n q))
+    omega (
+      arith,
+      page-total-fits i (turn .pages-test .taken) (subst (EnteredPage _ _ _ _) (found .found3 .given .1) (e .0))
+          (λ g n q. sym (c .before .n .given .1) ∙ counting .count-elements .ensures g n q),
+    )
 
--- src/lib.rt:126:42
 enum-known-r-2 :
     tie.Need-enum-known-r-2 Inv-pages μ-pages Inv-blocks2 μ-blocks2 Inv-supers μ-supers
 enum-known-r-2 c = search needs
 
--- src/lib.rt:131:32
 add-if5 : tie.Need-add-if5 Inv-pages μ-pages Inv-blocks2 μ-blocks2 Inv-supers μ-supers
 add-if5 c =
     let turn = c .before .before .before .before .before .before .before .before in
     omega (arith, page-fits (turn .before .pages .inv) (turn .pages-test .taken))
 
--- src/lib.rt:134:21
 add-from-2 : tie.Need-add-from-2 Inv-pages μ-pages Inv-blocks2 μ-blocks2 Inv-supers μ-supers
 add-from-2 c =
     let turn = c .before .before .before .before .before .before .before .before .before in
     omega (arith, page-fits (turn .before .pages .inv) (turn .pages-test .taken))
 
--- src/lib.rt:135:21
 add-p-2 : tie.Need-add-p-2 Inv-pages μ-pages Inv-blocks2 μ-blocks2 Inv-supers μ-supers
 add-p-2 c = search needs
 
--- src/lib.rt:99:17
 pages-less-2 : tie.Need-pages-less-2 Inv-pages μ-pages Inv-blocks2 μ-blocks2 Inv-supers μ-supers
 pages-less-2 c = search needs
 
--- src/lib.rt:99:17
 pages-again-2 : tie.Need-pages-again-2 Inv-pages μ-pages Inv-blocks2 μ-blocks2 Inv-supers μ-supers
 pages-again-2 c =
     let counted = c .before .before in
@@ -351,14 +296,12 @@ pages-again-2 c =
     pages-on i (turn .pages-test .taken) (subst (EnteredPage _ _ _ _) (found .found3 .given .1) (e .0))
     (λ g n q. sym (counted .n .given .1) ∙ counting .count-elements .ensures g n q) (c .if5 .left) (e .1)
 
--- src/lib.rt:138:32
 block-element-at-requires :
     tie.Need-block-element-at-requires Inv-pages μ-pages Inv-blocks2 μ-blocks2 Inv-supers μ-supers
 block-element-at-requires c κs =
     let turn = c .before .before .before .before .before .before .before in
     (omega arith, turn .before .blocks2 .inv .fixed .walk .index .bounded)
 
--- src/lib.rt:138:27
 add-pos : tie.Need-add-pos Inv-pages μ-pages Inv-blocks2 μ-blocks2 Inv-supers μ-supers
 add-pos c =
     let found = c .before .before .before .before in
@@ -368,10 +311,12 @@ add-pos c =
     let i = turn .before .blocks2 .inv in
     let x = entering .enter-block-in-turn in
     let e = block-found i (turn .blocks2-test .taken) (x .result .found) (x .result .ahead) (x .ensures) in
-    omega (arith, unpaged-begins i (turn .blocks2-test .taken) (⊎-elim (λ w. inl (w .0 .taken, w .1 .left)) (λ w. inr (w .left)) (opened .if2 .came))
-    (subst (EnteredBlock _ _ _) (found .found .given .1) (e .0)) (sym (c .before .before .in-pages .ensures) ∙ c .before .if4 .left) (c .block-element-at .ensures))
+    omega (
+      arith,
+      unpaged-begins i (turn .blocks2-test .taken) (⊎-elim (λ w. inl (w .0 .taken, w .1 .left)) (λ w. inr (w .left)) (opened .if2 .came))
+          (subst (EnteredBlock _ _ _) (found .found .given .1) (e .0)) (sym (c .before .before .in-pages .ensures) ∙ c .before .if4 .left) (c .block-element-at .ensures),
+    )
 
--- src/lib.rt:139:23
 count-elements-requires-2 :
     tie.Need-count-elements-requires-2 Inv-pages μ-pages Inv-blocks2 μ-blocks2 Inv-supers μ-supers
 count-elements-requires-2 c κs =
@@ -385,12 +330,10 @@ count-elements-requires-2 c κs =
     unpaged-run i (turn .blocks2-test .taken) (⊎-elim (λ w. inl (w .0 .taken, w .1 .left)) (λ w. inr (w .left)) (opened .if2 .came))
     (subst (EnteredBlock _ _ _) (found .found .given .1) (e .0)) (sym (c .before .before .in-pages .ensures) ∙ c .before .if4 .left) (c .block-element-at .ensures)
 
--- src/lib.rt:140:36
 enum-known-n-2 :
     tie.Need-enum-known-n-2 Inv-pages μ-pages Inv-blocks2 μ-blocks2 Inv-supers μ-supers
 enum-known-n-2 c = search needs
 
--- src/lib.rt:140:42
 add-total-2 : tie.Need-add-total-2 Inv-pages μ-pages Inv-blocks2 μ-blocks2 Inv-supers μ-supers
 add-total-2 c =
     let counting = c .before .before .before in
@@ -402,31 +345,29 @@ add-total-2 c =
     let i = turn .before .blocks2 .inv in
     let x = entering .enter-block-in-turn in
     let e = block-found i (turn .blocks2-test .taken) (x .result .found) (x .result .ahead) (x .ensures) in
-    omega (arith, unpaged-fits i (turn .blocks2-test .taken) (⊎-elim (λ w. inl (w .0 .taken, w .1 .left)) (λ w. inr (w .left)) (opened .if2 .came))
-    (subst (EnteredBlock _ _ _) (found .found .given .1) (e .0)) (sym (placed .before .before .in-pages .ensures) ∙ placed .before .if4 .left) (placed .block-element-at .ensures)
-    (λ g n q. sym (c .before .n2 .given .1) ∙ counting .count-elements2 .ensures g n q))
+    omega (
+      arith,
+      unpaged-fits i (turn .blocks2-test .taken) (⊎-elim (λ w. inl (w .0 .taken, w .1 .left)) (λ w. inr (w .left)) (opened .if2 .came))
+          (subst (EnteredBlock _ _ _) (found .found .given .1) (e .0)) (sym (placed .before .before .in-pages .ensures) ∙ placed .before .if4 .left) (placed .block-element-at .ensures)
+          (λ g n q. sym (c .before .n2 .given .1) ∙ counting .count-elements2 .ensures g n q),
+    )
 
--- src/lib.rt:141:38
 enum-known-r-3 :
     tie.Need-enum-known-r-3 Inv-pages μ-pages Inv-blocks2 μ-blocks2 Inv-supers μ-supers
 enum-known-r-3 c = search needs
 
--- src/lib.rt:147:13
 add-slot-3 : tie.Need-add-slot-3 Inv-pages μ-pages Inv-blocks2 μ-blocks2 Inv-supers μ-supers
 add-slot-3 c =
     let turn = c .before .before .before .before .before .before .before in
     omega (arith, block-fits (turn .before .blocks2 .inv) (turn .blocks2-test .taken))
 
--- src/lib.rt:148:13
 add-k-2 : tie.Need-add-k-2 Inv-pages μ-pages Inv-blocks2 μ-blocks2 Inv-supers μ-supers
 add-k-2 c = search needs
 
--- src/lib.rt:72:9
 blocks2-less-2 :
     tie.Need-blocks2-less-2 Inv-pages μ-pages Inv-blocks2 μ-blocks2 Inv-supers μ-supers
 blocks2-less-2 c = search needs
 
--- src/lib.rt:72:9
 blocks2-again-2 :
     tie.Need-blocks2-again-2 Inv-pages μ-pages Inv-blocks2 μ-blocks2 Inv-supers μ-supers
 blocks2-again-2 c =
@@ -451,15 +392,12 @@ blocks2-again-2 c =
     (sym (paging .in-pages .ensures) ∙ w .0 .left) (w .1 .ensures) (λ g n q. sym (w .4 .given .1) ∙ w .2 .ensures g n q)) (e .1)) v)
     (c .if4 .came)
 
--- src/lib.rt:150:9
 add-u-2 : tie.Need-add-u-2 Inv-pages μ-pages Inv-blocks2 μ-blocks2 Inv-supers μ-supers
 add-u-2 c = search needs
 
--- src/lib.rt:51:5
 supers-less-2 : tie.Need-supers-less-2 Inv-pages μ-pages Inv-blocks2 μ-blocks2 Inv-supers μ-supers
 supers-less-2 c = search needs
 
--- src/lib.rt:51:5
 supers-again-2 :
     tie.Need-supers-again-2 Inv-pages μ-pages Inv-blocks2 μ-blocks2 Inv-supers μ-supers
 supers-again-2 c = supers-next (c .before .blocks2 .inv) (c .blocks2-test .left)
@@ -496,21 +434,17 @@ exit c =
     v) v) v) v) v) v)
     (c .supers-test .came)
 
--- src/lib.rt:153:28
 enum-told-4 : tie.Need-enum-told-4 Inv-pages μ-pages Inv-blocks2 μ-blocks2 Inv-supers μ-supers
 enum-told-4 c = search needs
 
--- src/lib.rt:154:26
 enum-known-refused :
     tie.Need-enum-known-refused Inv-pages μ-pages Inv-blocks2 μ-blocks2 Inv-supers μ-supers
 enum-known-refused c = search needs
 
--- src/lib.rt:26:1
 returns : tie.Need-returns Inv-pages μ-pages Inv-blocks2 μ-blocks2 Inv-supers μ-supers
 unfolding answered
 returns c = λ g n q. sym (ap (λ (z : Checked). answered z (c .before .before .supers-test .total)) (c .enum-told4 .given .1)) ∙ exit (c .before .before) g n q
 
--- src/lib.rt:26:1
 returns-2 : tie.Need-returns-2 Inv-pages μ-pages Inv-blocks2 μ-blocks2 Inv-supers μ-supers
 unfolding answered
 returns-2 c = λ g n q. sym (ap (λ (z : Checked). answered z (c .before .before .before .supers-test .total)) (c .before .refused .given .1)) ∙ exit (c .before .before .before) g n q
