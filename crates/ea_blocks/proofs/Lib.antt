@@ -1,3 +1,3 @@
 pub mod StructureTests
-pub mod Pointers
+pub mod PointerValues
 pub mod Entering

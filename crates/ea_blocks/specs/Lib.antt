@@ -1,4 +1,5 @@
-pub mod Call
+pub mod Array
 pub mod Structures
+pub mod Places
 pub mod Entered
 pub mod Values

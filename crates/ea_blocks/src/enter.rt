@@ -4,22 +4,22 @@ ghost use mathlib.Core.Bool.{false};
 ghost use Prim.Native.Nat.{_<_, _≤_};
 ghost use lib.ListN.{length};
 ghost use Rattle.ea_geometry.specs.Sizes.{superBlocks};
-ghost use Rattle.ea_blocks.specs.Call.{Call};
+ghost use Rattle.ea_blocks.specs.Array.{arrayOf};
 ghost use Rattle.ea_blocks.specs.Structures.{dataBlock, dataPage, testOf, isDirect, superAt, blockAt};
-ghost use Rattle.ea_blocks.specs.Values.{Sees, IndexInFile, PointerInFile, PageBitInFile};
+ghost use Rattle.ea_blocks.specs.Values.{IndexInFile, PointerInFile, PageBitInFile};
 ghost use Rattle.ea_blocks.specs.declared.enter.Ahead.the-variants.{Known};
 ghost use Rattle.ea_blocks.specs.Entered.{enteredOf, EnteredSuper, EnteredBlock, EnteredPage, TestedAhead};
-use crate::structures::Pointer;
-use crate::structures::block_pointer;
-use crate::structures::page_set;
-use crate::structures::super_pointer;
-use crate::structures::test_data_block;
-use crate::structures::test_page;
-use crate::structures::test_super_block;
-use crate::structures::test_two_blocks;
-use crate::structures::test_two_pages;
+use crate::ExtensibleArray;
+use crate::pointers::Pointer;
+use crate::pointers::block_pointer;
+use crate::pointers::page_set;
+use crate::pointers::super_pointer;
+use crate::tests::test_data_block;
+use crate::tests::test_page;
+use crate::tests::test_super_block;
+use crate::tests::test_two_blocks;
+use crate::tests::test_two_pages;
 use checksum::TwoChecked;
-use ea_geometry::EaGeometry;
 use refusal::Checked;
 use refusal::Refusal;
 
@@ -30,113 +30,113 @@ pub enum Entered {
     Refused(Refusal),
 }
 
-// The verdict of a structure whose turn hasn't come: page or data block number `index`.
+// The result of a test whose turn hasn't come: that of page or data block number `index`.
 pub enum Ahead {
     Unknown,
     Known { index: u64, checked: Checked },
 }
 
-// The verdict of a structure, and of the next one where both were tested.
-struct Verdict {
+// The result of a structure's test, and of the next one's where both were tested.
+struct Tested {
     checked: Checked,
     ahead: Ahead,
 }
 
-// What the walk finds where it steps into a structure, and the verdict of the next one where both were tested.
+// What the walk finds where it steps into a structure, and the result of the next one's test where both were tested.
 pub struct Turn {
     pub found: Entered,
     pub ahead: Ahead,
 }
 
 // Steps into super block u. Where the index block names its data blocks there is none, and the position is 0.
-pub fn enter_super(file: &[u8], geometry: EaGeometry, u: u64) -> Entered
-    requires { ⌜ (u < superBlocks (geometry .header)) × IndexInFile (now file) geometry ⌝ }
-    ensures { λ r. ⌜ ((c : Call) → Sees c (now (file .entry)) geometry → EnteredSuper c u r) ⌝ }
+pub fn enter_super(file: &[u8], array: ExtensibleArray, u: u64) -> Entered
+    requires { ⌜ (u < superBlocks (array .geometry .parameters)) × IndexInFile (now file) array ⌝ }
+    ensures { λ r. ⌜ (let a = arrayOf (now (file .entry)) array in EnteredSuper a u r) ⌝ }
 {
-    if u < geometry.direct_super_blocks() {
+    if u < array.geometry.direct_super_blocks() {
         return Entered::At(0);
     }
-    match super_pointer(file, geometry, u) {
+    match super_pointer(file, array, u) {
         Pointer::Undefined => Entered::Absent,
-        Pointer::At(at) => enter_by_verdict(test_super_block(file, geometry, u, at), at),
+        Pointer::At(at) => enter_by_result(test_super_block(file, array, u, at), at),
     }
 }
 
 // Steps into data block k of super block u, which lies at super_at where the index block doesn't name its data blocks.
-pub fn enter_block(file: &[u8], geometry: EaGeometry, u: u64, k: u64, super_at: u64) -> Entered
-    requires { ⌜ PointerInFile (now file) geometry u k «super_at» ⌝ }
-    ensures { λ r. ⌜ ((c : Call) → Sees c (now (file .entry)) geometry → (isDirect c u ≡ false → «super_at» ≡ superAt c u)
-        → EnteredBlock c u k r) ⌝ }
+pub fn enter_block(file: &[u8], array: ExtensibleArray, u: u64, k: u64, super_at: u64) -> Entered
+    requires { ⌜ PointerInFile (now file) array u k «super_at» ⌝ }
+    ensures { λ r. ⌜ (let a = arrayOf (now (file .entry)) array in (isDirect a u ≡ false → «super_at» ≡ superAt a u)
+        → EnteredBlock a u k r) ⌝ }
 {
-    match block_pointer(file, geometry, u, k, super_at) {
+    match block_pointer(file, array, u, k, super_at) {
         Pointer::Undefined => Entered::Absent,
-        Pointer::At(at) => enter_by_verdict(test_data_block(file, geometry, u, at), at),
+        Pointer::At(at) => enter_by_result(test_data_block(file, array, u, at), at),
     }
 }
 
-// The same in the turn of a walk from data block to data block, by a verdict that an earlier turn has left.
+// The same in the turn of a walk from data block to data block, by a result that an earlier turn has left.
 pub fn enter_block_in_turn(
     file: &[u8],
-    geometry: EaGeometry,
+    array: ExtensibleArray,
     u: u64,
     k: u64,
     super_at: u64,
     ahead: Ahead,
 ) -> Turn
-    requires { ⌜ PointerInFile (now file) geometry u k «super_at» ⌝ }
-    ensures { λ r. ⌜ ((c : Call) → Sees c (now (file .entry)) geometry → (isDirect c u ≡ false → «super_at» ≡ superAt c u)
-        → TestedAhead c (dataBlock u) ahead → EnteredBlock c u k (r .found) × TestedAhead c (dataBlock u) (r .ahead)) ⌝ }
+    requires { ⌜ PointerInFile (now file) array u k «super_at» ⌝ }
+    ensures { λ r. ⌜ (let a = arrayOf (now (file .entry)) array in (isDirect a u ≡ false → «super_at» ≡ superAt a u)
+        → TestedAhead a (dataBlock u) ahead → EnteredBlock a u k (r .found) × TestedAhead a (dataBlock u) (r .ahead)) ⌝ }
 {
-    match block_pointer(file, geometry, u, k, super_at) {
+    match block_pointer(file, array, u, k, super_at) {
         Pointer::Undefined => Turn {
             found: Entered::Absent,
             ahead,
         },
         Pointer::At(at) => {
-            let verdict = block_verdict(file, geometry, u, k, super_at, at, ahead);
-            let checked = verdict.checked;
-            let ahead = verdict.ahead;
+            let tested = block_result(file, array, u, k, super_at, at, ahead);
+            let checked = tested.checked;
+            let ahead = tested.ahead;
             Turn {
-                found: enter_by_verdict(checked, at),
+                found: enter_by_result(checked, at),
                 ahead,
             }
         }
     }
 }
 
-// The verdict of data block k, which lies at `at`: the one that is known; tested with the next block, where that is defined and
+// The result of the test of data block k, which lies at `at`: the one that is known; tested with the next block, where that is defined and
 // they aren't read by pages; or tested alone.
-fn block_verdict(
+fn block_result(
     file: &[u8],
-    geometry: EaGeometry,
+    array: ExtensibleArray,
     u: u64,
     k: u64,
     super_at: u64,
     at: u64,
     ahead: Ahead,
-) -> Verdict
-    requires { ⌜ PointerInFile (now file) geometry u k «super_at» ⌝ }
-    ensures { λ r. ⌜ ((c : Call) → Sees c (now (file .entry)) geometry → (isDirect c u ≡ false → «super_at» ≡ superAt c u) → at ≡ blockAt c u k
-        → TestedAhead c (dataBlock u) ahead → (r .checked ≡ testOf c (dataBlock u k)) × TestedAhead c (dataBlock u) (r .ahead)) ⌝ }
+) -> Tested
+    requires { ⌜ PointerInFile (now file) array u k «super_at» ⌝ }
+    ensures { λ r. ⌜ (let a = arrayOf (now (file .entry)) array in (isDirect a u ≡ false → «super_at» ≡ superAt a u) → at ≡ blockAt a u k
+        → TestedAhead a (dataBlock u) ahead → (r .checked ≡ testOf a (dataBlock u k)) × TestedAhead a (dataBlock u) (r .ahead)) ⌝ }
 {
     if let Ahead::Known { index, checked } = ahead {
         if index == k {
-            return Verdict {
+            return Tested {
                 checked,
                 ahead: Ahead::Unknown,
             };
         }
     }
-    let blocks = geometry.blocks(u);
+    let blocks = array.geometry.blocks(u);
     if k + 1 < blocks {
-        if !geometry.in_pages(u) {
-            if let Pointer::At(next) = block_pointer(file, geometry, u, k + 1, super_at) {
-                return keep_second(test_two_blocks(file, geometry, u, at, next), k + 1);
+        if !array.geometry.in_pages(u) {
+            if let Pointer::At(next) = block_pointer(file, array, u, k + 1, super_at) {
+                return keep_second(test_two_blocks(file, array, u, at, next), k + 1);
             }
         }
     }
-    Verdict {
-        checked: test_data_block(file, geometry, u, at),
+    Tested {
+        checked: test_data_block(file, array, u, at),
         ahead: Ahead::Unknown,
     }
 }
@@ -144,28 +144,28 @@ fn block_verdict(
 // Steps into page p of data block k of super block u; the data block lies at `at`, the super block at super_at.
 pub fn enter_page(
     file: &[u8],
-    geometry: EaGeometry,
+    array: ExtensibleArray,
     super_at: u64,
     at: u64,
     u: u64,
     k: u64,
     p: u64,
 ) -> Entered
-    requires { ⌜ PageBitInFile (now file) geometry «super_at» u k p × (at ≤ length (now file)) ⌝ }
-    ensures { λ r. ⌜ ((c : Call) → Sees c (now (file .entry)) geometry → «super_at» ≡ superAt c u → at ≡ blockAt c u k
-        → EnteredPage c u k p r) ⌝ }
+    requires { ⌜ PageBitInFile (now file) array «super_at» u k p × (at ≤ length (now file)) ⌝ }
+    ensures { λ r. ⌜ (let a = arrayOf (now (file .entry)) array in «super_at» ≡ superAt a u → at ≡ blockAt a u k
+        → EnteredPage a u k p r) ⌝ }
 {
-    if !page_set(file, geometry, super_at, u, k, p) {
+    if !page_set(file, array, super_at, u, k, p) {
         return Entered::Absent;
     }
-    let pos = at + geometry.page_at(p);
-    enter_by_verdict(test_page(file, geometry, at, p), pos)
+    let pos = at + array.geometry.page_at(p);
+    enter_by_result(test_page(file, array, at, p), pos)
 }
 
-// The same in the turn of a walk from page to page, by a verdict that an earlier turn has left.
+// The same in the turn of a walk from page to page, by a result that an earlier turn has left.
 pub fn enter_page_in_turn(
     file: &[u8],
-    geometry: EaGeometry,
+    array: ExtensibleArray,
     super_at: u64,
     at: u64,
     u: u64,
@@ -173,68 +173,68 @@ pub fn enter_page_in_turn(
     p: u64,
     ahead: Ahead,
 ) -> Turn
-    requires { ⌜ PageBitInFile (now file) geometry «super_at» u k p × (at ≤ length (now file)) ⌝ }
-    ensures { λ r. ⌜ ((c : Call) → Sees c (now (file .entry)) geometry → «super_at» ≡ superAt c u → at ≡ blockAt c u k
-        → TestedAhead c (dataPage u k) ahead → EnteredPage c u k p (r .found) × TestedAhead c (dataPage u k) (r .ahead)) ⌝ }
+    requires { ⌜ PageBitInFile (now file) array «super_at» u k p × (at ≤ length (now file)) ⌝ }
+    ensures { λ r. ⌜ (let a = arrayOf (now (file .entry)) array in «super_at» ≡ superAt a u → at ≡ blockAt a u k
+        → TestedAhead a (dataPage u k) ahead → EnteredPage a u k p (r .found) × TestedAhead a (dataPage u k) (r .ahead)) ⌝ }
 {
-    if !page_set(file, geometry, super_at, u, k, p) {
+    if !page_set(file, array, super_at, u, k, p) {
         return Turn {
             found: Entered::Absent,
             ahead,
         };
     }
-    let pos = at + geometry.page_at(p);
-    let verdict = page_verdict(file, geometry, super_at, at, u, k, p, ahead);
-    let checked = verdict.checked;
-    let ahead = verdict.ahead;
+    let pos = at + array.geometry.page_at(p);
+    let tested = page_result(file, array, super_at, at, u, k, p, ahead);
+    let checked = tested.checked;
+    let ahead = tested.ahead;
     Turn {
-        found: enter_by_verdict(checked, pos),
+        found: enter_by_result(checked, pos),
         ahead,
     }
 }
 
-// The verdict of page p: the one that is known; tested with the next page, where that is set; or tested alone.
-fn page_verdict(
+// The result of the test of page p: the one that is known; tested with the next page, where that is set; or tested alone.
+fn page_result(
     file: &[u8],
-    geometry: EaGeometry,
+    array: ExtensibleArray,
     super_at: u64,
     at: u64,
     u: u64,
     k: u64,
     p: u64,
     ahead: Ahead,
-) -> Verdict
-    requires { ⌜ PageBitInFile (now file) geometry «super_at» u k p × (at ≤ length (now file)) ⌝ }
-    ensures { λ r. ⌜ ((c : Call) → Sees c (now (file .entry)) geometry → at ≡ blockAt c u k
-        → TestedAhead c (dataPage u k) ahead → (r .checked ≡ testOf c (dataPage u k p)) × TestedAhead c (dataPage u k) (r .ahead)) ⌝ }
+) -> Tested
+    requires { ⌜ PageBitInFile (now file) array «super_at» u k p × (at ≤ length (now file)) ⌝ }
+    ensures { λ r. ⌜ (let a = arrayOf (now (file .entry)) array in at ≡ blockAt a u k
+        → TestedAhead a (dataPage u k) ahead → (r .checked ≡ testOf a (dataPage u k p)) × TestedAhead a (dataPage u k) (r .ahead)) ⌝ }
 {
     if let Ahead::Known { index, checked } = ahead {
         if index == p {
-            return Verdict {
+            return Tested {
                 checked,
                 ahead: Ahead::Unknown,
             };
         }
     }
-    let pages = geometry.pages(u);
+    let pages = array.geometry.pages(u);
     if p + 1 < pages {
-        if page_set(file, geometry, super_at, u, k, p + 1) {
-            return keep_second(test_two_pages(file, geometry, at, p), p + 1);
+        if page_set(file, array, super_at, u, k, p + 1) {
+            return keep_second(test_two_pages(file, array, at, p), p + 1);
         }
     }
-    Verdict {
-        checked: test_page(file, geometry, at, p),
+    Tested {
+        checked: test_page(file, array, at, p),
         ahead: Ahead::Unknown,
     }
 }
 
-// The first of two verdicts, the second kept for structure number `index`.
-fn keep_second(two: TwoChecked, index: u64) -> Verdict
+// The first of two results, the second kept for structure number `index`.
+fn keep_second(two: TwoChecked, index: u64) -> Tested
     ensures { λ r. ⌜ (r .checked ≡ two .first) × (r .ahead ≡ Known index (two .second)) ⌝ }
 {
     let first = two.first;
     let second = two.second;
-    Verdict {
+    Tested {
         checked: first,
         ahead: Ahead::Known {
             index,
@@ -243,8 +243,8 @@ fn keep_second(two: TwoChecked, index: u64) -> Verdict
     }
 }
 
-// What stepping into a structure at `at` finds by its verdict.
-fn enter_by_verdict(checked: Checked, at: u64) -> Entered
+// What stepping into a structure at `at` finds by its tested.
+fn enter_by_result(checked: Checked, at: u64) -> Entered
     ensures { λ r. ⌜ r ≡ enteredOf checked at ⌝ }
 {
     match checked {

@@ -31,6 +31,10 @@ pub next-slot : (h : Parameters) (u : ℕ) → firstSlot h u + blocks u * blockE
 unfolding firstSlot
 next-slot h u = omega (arith, next-elements h u)
 
+pub first-slot-mono : (h : Parameters) (u n : ℕ) → u ≤ n → firstSlot h u ≤ firstSlot h n
+unfolding firstSlot
+first-slot-mono h u n le = omega (arith, elements-before-mono h u n le)
+
 module _ (h : Parameters) (v : Served h) where
   -- element e behind the inline ones lies in super block u if it lies between what stands before u and what stands before u + 1 ..
   pub super-is : (e u : ℕ) → u < 63 → elementsBefore h u ≤ e → e < elementsBefore h (u + 1) → superOf h e ≡ u

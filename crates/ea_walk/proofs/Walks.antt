@@ -1,344 +1,253 @@
 -- An accepted walk lists the records of all slots below the count whose place holds an address and that have a chunk, in slot order; and
 -- the path to each of these slots is accepted with the slot's record. Assumes nothing.
-use Prim.Native.Nat.{ℕ, zero, suc, _+_, _-_, _*_, _/_, _%_, _<_, _≤_}
+use Prim.Native.Nat.{ℕ, zero, suc, _+_, _*_, _/_, _%_, _<_, _≤_}
 use mathlib.Core.Path.{_≡_, refl, sym, ap, subst, _∙_}
-use mathlib.Core.Bool.{true, false, not, _&&_}
+use mathlib.Core.Bool.{true, false, _&&_}
 use mathlib.Core.List.{List, []}
-use mathlib.Core.Logic.{inl, inr, ⊎-elim}
-use mathlib.Core.Option.{Option, none, some}
+use mathlib.Core.Logic.{inl, inr}
 use native.Mathlib.Omega.{arith}
-use native.Mathlib.Nat.{sub-zero, eq-or-lt-of-le, mul-le-mul-right, div-lt-iff-lt-mul, mod-lt, div-add-mod'}
-use borrow.Author.Tests.{leb-true, leb-false, ltb-true, not-true, not-false}
+use native.Mathlib.Nat.{div-lt-iff-lt-mul, mod-lt, mul-le-mul-right, div-add-mod'}
+use borrow.Author.Tests.{leb-true}
 use lib.Arith.{digits-lt, digits-div, digits-mod}
-use lib.Dec.{leb, ltb}
+use lib.Dec.{leb}
+use lib.ListN.{length}
 use Rattle.refusal.specs.declared.Checked.the-variants.{Passed}
+use Rattle.refusal.specs.Refusals.{largest64}
 use Rattle.refusal.specs.Outcome.{accepted}
-use Rattle.refusal.proofs.Tests.{by-cond, lt-or-ge, both}
-use Rattle.refusal.proofs.Outcomes.{never, yields-inv, also-inv}
+use Rattle.refusal.proofs.Tests.{by-cond, both, then-inv}
+use Rattle.refusal.proofs.Outcomes.{yields-inv}
 use Rattle.fields.specs.Fields.{widthTest}
-use Rattle.ea_header.specs.declared.ExtensibleArrayHeader.{ExtensibleArrayHeader}
+use Rattle.element_form.specs.Form.{stride}
+use Rattle.index.specs.Index.{Rec, Listing, records}
+use Rattle.chunk_grid.proofs.Grids.{accepted as grid-accepted}
+use Rattle.index.specs.ExactList.{ExactList}
+use Rattle.elements.specs.Elements.{Elements}
+use Rattle.elements.specs.Runs.{elementsFrom}
+use Rattle.located.specs.Located.{indexOf}
+use Rattle.located.proofs.Paths.{LeadsTo, LeadsNowhere}
+use Rattle.located.proofs.Walks.{Right, right-at, right-past, right-end, right-empty, elements-right, PagesAt, pages-right, right-records, right-exact}
+use Rattle.ea_header.specs.declared.Parameters.{Parameters}
 use Rattle.ea_header.specs.Values.{Served}
 use Rattle.ea_header.proofs.Served.{tested-serves}
 use Rattle.ea_geometry.specs.Sizes.{superBlocks, blocks, blockElements, pageElements, directSuperBlocks, overPage, pages}
-use Rattle.ea_geometry.specs.Extents.{elementStride, elementAt, inlineElementAt, blockElementAt, pagedElementAt, pageAt}
+use Rattle.ea_geometry.specs.Extents.{formOf, elementStride, elementAt, inlineElementAt, blockElementAt, pagedElementAt, pageAt}
 use Rattle.ea_geometry.specs.Place.{inPages, placeIn, place}
 use Rattle.ea_geometry.specs.Slots.{firstSlot, capacity, slotIn}
 use Rattle.ea_geometry.specs.declared.Place.the-variants.{Inline}
 use Rattle.ea_geometry.proofs.Counts.{elements-pos, pages-exact}
-use Rattle.ea_geometry.proofs.Places.{place-is, place-inline, place-past, next-slot, first-slot-zero}
-use Rattle.ea_elements.specs.declared.Element.{Element}
-use Rattle.ea_elements.specs.declared.Element.the-variants.{Absent, Chunk, Refused as ElementRefused}
-use Rattle.ea_blocks.specs.Call.{Call}
-use Rattle.ea_elements.specs.Elements.{Rec, element}
-use Rattle.ea_blocks.specs.Structures.{dataBlock, dataPage, testOf, indexAt, isDirect, blockAt, dataPageAt, superUndefined, blockUndefined, pageSet}
-use Rattle.ea_elements.specs.Places.{positionOf, answerOf, path}
-use Rattle.ea_elements.specs.SlotRecords.{recordAt, with, records}
-use Rattle.ea_elements.proofs.Paths.{Leads, Misses, Ready, missed, led, no-super, no-block, in-block, in-clear, in-page, in-index, no-place}
-use Rattle.ea_elements.specs.Runs.{Listing, alsoElement, elements}
-use Rattle.ea_walk.specs.Walk.{pagesFrom, block, blocksFrom, supers, behindInline, walk}
-
-nil-is : (l : List Rec) → accepted [] ≡ accepted l → l ≡ []
-nil-is l h = cc
-
--- an accepted walk over an element: the element's answer in front of what is left
-element-inv : (e : Element) (k : List ℕ) (a : Listing) (l : List Rec) → alsoElement e k a ≡ accepted l
-    → (x : Option Rec) × (m : List Rec) × (answerOf e k ≡ accepted x) × (a ≡ accepted m) × (l ≡ with x m)
-unfolding alsoElement answerOf with
-element-inv Absent k a l h = (none, l, refl, h, refl)
-element-inv (Chunk e) k a l h = let i = also-inv _ a l h in (some _, i .0, refl, i .1, i .2)
-element-inv (ElementRefused r) k a l h = absurd (never r l h)
+use Rattle.ea_geometry.proofs.Places.{place-is, place-inline, place-past, next-slot, first-slot-zero, first-slot-mono}
+use Rattle.ea_blocks.specs.Array.{Array}
+use Rattle.ea_blocks.specs.Structures.{dataBlock, dataPage, testOf, arrayTest, pagesOf, isDirect, blockAt, dataPageAt, superUndefined, blockUndefined, pageSet}
+use Rattle.ea_blocks.specs.Places.{positionOf}
+use Rattle.ea_walk.specs.Walk.{located, block, blocksFrom, supersFrom, behindInline, walk, list}
+use Rattle.ea_walk.proofs.Paths.{Ready, no-super, no-block, in-block, in-clear, in-page, in-index, no-place}
 
 -- a block that is read by pages has more elements than a page
-pub in-pages-over : (h : ExtensibleArrayHeader) (u : ℕ) → inPages h u ≡ true → overPage h u ≡ true
+pub in-pages-over : (h : Parameters) (u : ℕ) → inPages h u ≡ true → overPage h u ≡ true
 unfolding inPages
 in-pages-over h u q = both (leb (directSuperBlocks h) u) (overPage h u) q .1
 
--- the records of the slots from s on to the published count
-unfoldable pub from : Call → ℕ → List Rec
-from c s = records c s (c .header .«num_elements» - s)
+-- elements in the array's form
+module _ (a : Array) (e : Elements) (form : formOf (a .parameters) (a .offsetSize) ≡ e .form) where
+  abbrev h : Parameters
+  h = a .parameters
 
--- what an accepted walk from slot s on, with the list l, has shown
-pub record Right (c : Call) (s : ℕ) (l : List Rec) : Type 0 where
-  pub is : l ≡ from c s
-  pub paths : (t : ℕ) → s ≤ t → t < c .header .«num_elements» → path c t ≡ accepted (recordAt c t)
+  abbrev st : ℕ
+  st = elementStride (a .parameters) (a .offsetSize)
 
-module _ (c : Call) where
-  abbrev count : ℕ
-  count = c .header .«num_elements»
+  -- what an accepted walk from slot s on has shown
+  abbrev Shown : ℕ → List Rec → Type 0
+  Shown = Right (located a e)
 
-  from-end : (s : ℕ) → count ≤ s → from c s ≡ []
-  unfolding from records
-  from-end s h = let z : count - s ≡ 0 = omega arith in rw z
+  abbrev Lead : ℕ → ℕ → Type 0
+  Lead = LeadsTo (located a e)
 
-  from-more : (s : ℕ) (x : Option Rec) → s < count → recordAt c s ≡ x → from c s ≡ with x (from c (s + 1))
-  unfolding from records
-  from-more s x h p =
-      let z : count - s ≡ suc (count - (s + 1)) = omega arith in
-      rw z (ap (λ (y : Option Rec). with y (records c (s + 1) (count - (s + 1)))) p)
+  abbrev Miss : ℕ → Type 0
+  Miss = LeadsNowhere (located a e)
 
-  right-at : (s s′ : ℕ) (l : List Rec) → s ≡ s′ → Right c s l → Right c s′ l
-  right-at s s′ l e r = subst (λ (x : ℕ). Right c x l) e r
+  own-stride : st ≡ stride (e .form)
+  own-stride = ap stride form
 
-  right-past : (s s′ : ℕ) (l : List Rec) → count ≤ s → count ≤ s′ → Right c s′ l → Right c s l
-  right-past s s′ l h h′ r = record { is = r .is ∙ from-end s′ h′ ∙ sym (from-end s h); paths = λ t a b. absurd (omega arith) }
-
-  right-end : (s : ℕ) (l : List Rec) → count ≤ s → accepted [] ≡ accepted l → Right c s l
-  right-end s l h e = record { is = nil-is l e ∙ sym (from-end s h); paths = λ t a b. absurd (omega arith) }
-
-  right-more : (s : ℕ) (x : Option Rec) (l m : List Rec) → s < count → recordAt c s ≡ x → path c s ≡ accepted x → l ≡ with x m → Right c (s + 1) m → Right c s l
-  right-more s x l m lt e q h r = record {
-    is = h ∙ ap (with x) (r .is) ∙ sym (from-more s x lt e);
-    paths = λ t a b. ⊎-elim
-        (λ (k : s ≡ t). subst (λ (y : ℕ). path c y ≡ accepted (recordAt c y)) k (q ∙ ap (λ (y : Option Rec). accepted y) (sym e)))
-        (λ (k : s < t). r .paths t (omega arith) b) (eq-or-lt-of-le a);
-  }
-
-  -- slots without an element give nothing
-  right-empty : (j s : ℕ) (l : List Rec) → ((i : ℕ) → i < j → Misses c (s + i)) → Right c (s + j) l → Right c s l
-  unfolding with
-  right-empty zero s l p r = right-at (s + 0) s l (let z : s + 0 ≡ s = omega arith in z) r
-  right-empty (suc j) s l p r =
-      let again : Right c (s + 1 + j) l → Right c (s + 1) l = λ k. right-empty j (s + 1) l (λ i h. subst (Misses c) (one-is i) (p (suc i) (omega arith))) k in
-      ⊎-elim
-      (λ (lt : s < count).
-      let m = subst (Misses c) zero-is (p 0 (omega arith)) in
-      right-more s none l l lt (missed c s m) (m .way) refl (again (right-at (s + suc j) (s + 1 + j) l (one-is j) r)))
-      (λ (ge : count ≤ s). right-past s (s + suc j) l ge (omega arith) r)
-      (lt-or-ge s count)
-    where
-      zero-is : s + 0 ≡ s
-      zero-is = omega arith
-
-      one-is : (i : ℕ) → s + suc i ≡ s + 1 + i
-      one-is i = omega arith
-
-  -- j elements from pos on are those of the j slots from s on
-  elements-right : (j pos s : ℕ) (rest : Listing) (l : List Rec)
-      → ((i : ℕ) → i < j → Leads c (s + i) (pos + i * elementStride (c .header) (c .offsetSize)))
-      → ((m : List Rec) → rest ≡ accepted m → Right c (s + j) m)
-      → elements c pos j s rest ≡ accepted l → Right c s l
-  unfolding elements
-  elements-right zero pos s rest l p after = λ h. right-at (s + 0) s l (let z : s + 0 ≡ s = omega arith in z) (after l h)
-  elements-right (suc j) pos s rest l p after =
-      let again : (m : List Rec) → elements c (pos + st) j (s + 1) rest ≡ accepted m → Right c (s + 1) m =
-      (λ m h. elements-right j (pos + st) (s + 1) rest m
-      (λ i k. subst (λ (x : ℕ). Leads c (s + 1 + i) x) (pos-is i) (subst (λ (x : ℕ). Leads c x (pos + suc i * st)) (one-is i) (p (suc i) (omega arith))))
-      (λ q e. right-at (s + suc j) (s + 1 + j) q (one-is j) (after q e)) h) in
-      by-cond P (leb count s)
-      (λ t h. let k = leb-true count s t in right-past s (s + suc j) l k (omega arith) (after l h))
-      (λ t h.
-      let i = element-inv _ _ _ l h in
-      let d = here (p 0 (omega arith)) in
-      right-more s (i .0) l (i .1) (leb-false _ _ t) (led c s pos (i .0) d (i .2)) (d .way ∙ i .2) (i .4) (again (i .1) (i .3)))
-    where
-      st : ℕ
-      st = elementStride (c .header) (c .offsetSize)
-
-      P : Listing → Type 0
-      P a = a ≡ accepted l → Right c s l
-
-      one-is : (i : ℕ) → s + suc i ≡ s + 1 + i
-      one-is i = omega arith
-
-      pos-is : (i : ℕ) → pos + suc i * st ≡ pos + st + i * st
-      pos-is i = omega arith
-
-      here : Leads c (s + 0) (pos + 0 * st) → Leads c s pos
-      here h =
-          let a : s + 0 ≡ s = omega arith in
-          let b : pos + 0 * st ≡ pos = omega arith in
-          subst (λ (x : ℕ). Leads c x pos) a (subst (Leads c (s + 0)) b h)
+  -- j elements from pos on, in the array's own stride
+  elements-shown : (j pos s : ℕ) (rest : Listing) (l : List Rec) → ((i : ℕ) → i < j → Lead (s + i) (pos + i * st))
+      → ((m : List Rec) → rest ≡ accepted m → Shown (s + j) m) → elementsFrom e pos j s rest ≡ accepted l → Shown s l
+  elements-shown j pos s rest l p after k = elements-right (located a e) j pos s rest l (λ i lt. subst (λ (n : ℕ). Lead (s + i) (pos + i * n)) own-stride (p i lt)) after k
 
   -- the slots of data block k of super block u begin at s
-  module _ (v : Served (c .header)) (wide : widthTest 1 (c .offsetSize) ≡ Passed) (u : ℕ) (hu : u < superBlocks (c .header)) where
+  module _ (v : Served (a .parameters)) (wide : widthTest 1 (a .offsetSize) ≡ Passed) (u : ℕ) (hu : u < superBlocks (a .parameters)) where
     abbrev Begins : ℕ → ℕ → Type 0
-    Begins k s = s ≡ firstSlot (c .header) u + k * blockElements (c .header) u
+    Begins k s = s ≡ firstSlot h u + k * blockElements h u
 
-    place-at : (k i s : ℕ) → k < blocks u → i < blockElements (c .header) u → Begins k s → place (c .header) (s + i) ≡ placeIn (c .header) u k i
+    place-at : (k i s : ℕ) → k < blocks u → i < blockElements h u → Begins k s → place h (s + i) ≡ placeIn h u k i
     unfolding slotIn
-    place-at k i s hk hi e =
-        let z : s + i ≡ firstSlot (c .header) u + (k * blockElements (c .header) u + i) = omega arith in
-        place-is (c .header) v (s + i) u k i (record { super = hu; block = hk; element = hi; slot = z })
+    place-at k i s hk hi b =
+        let z : s + i ≡ firstSlot h u + (k * blockElements h u + i) = omega arith in
+        place-is h v (s + i) u k i (record { super = hu; block = hk; element = hi; slot = z })
 
-    module _ (r : Ready c u) (k s : ℕ) (hk : k < blocks u) (hs : Begins k s) (rest : Listing)
-        (after : (q : List Rec) → rest ≡ accepted q → Right c (s + blockElements (c .header) u) q) where
-      module _ (t : blockUndefined c u k ≡ false) (p : testOf c (dataBlock u k) ≡ Passed) where
+    module _ (r : Ready a u) (k s : ℕ) (hk : k < blocks u) (hs : Begins k s) (rest : Listing)
+        (after : (q : List Rec) → rest ≡ accepted q → Shown (s + blockElements (a .parameters) u) q) where
+      module _ (t : blockUndefined a u k ≡ false) (p : testOf a (dataBlock u k) ≡ Passed) where
         -- an unpaged block
-        unpaged-right : inPages (c .header) u ≡ false → (l : List Rec)
-            → elements c (blockAt c u k + blockElementAt (c .header) (c .offsetSize) 0) (blockElements (c .header) u) s rest ≡ accepted l → Right c s l
+        unpaged-right : inPages h u ≡ false → (l : List Rec)
+            → elementsFrom e (blockAt a u k + blockElementAt h (a .offsetSize) 0) (blockElements h u) s rest ≡ accepted l → Shown s l
         unfolding blockElementAt elementAt
-        unpaged-right q l h =
-            elements-right (blockElements (c .header) u) _ s rest l
-            (λ i hi. subst (Leads c (s + i)) (at i) (in-block c u k i (s + i) wide (place-at k i s hk hi hs) r t p q)) after h
+        unpaged-right q l x =
+            elements-shown (blockElements h u) _ s rest l
+            (λ i hi. subst (Lead (s + i)) (at i) (in-block a e u k i (s + i) wide (place-at k i s hk hi hs) r t p q)) after x
           where
-            at : (i : ℕ) → blockAt c u k + blockElementAt (c .header) (c .offsetSize) i
-                ≡ blockAt c u k + blockElementAt (c .header) (c .offsetSize) 0 + i * elementStride (c .header) (c .offsetSize)
+            at : (i : ℕ) → blockAt a u k + blockElementAt h (a .offsetSize) i ≡ blockAt a u k + blockElementAt h (a .offsetSize) 0 + i * st
             at i = omega arith
 
-        -- the pages of a block from page g on, whose slots begin at s′
-        module _ (q : inPages (c .header) u ≡ true) (exact : pages (c .header) u * pageElements (c .header) ≡ blockElements (c .header) u) where
+        -- the pages of a block
+        module _ (q : inPages (a .parameters) u ≡ true) (exact : pages (a .parameters) u * pageElements (a .parameters) ≡ blockElements (a .parameters) u) where
           abbrev pe : ℕ
-          pe = pageElements (c .header)
+          pe = pageElements h
 
-          fits : (g i : ℕ) → g < pages (c .header) u → i < pe → g * pe + i < blockElements (c .header) u
+          fits : (g i : ℕ) → g < pages h u → i < pe → g * pe + i < blockElements h u
           fits g i hg hi = subst (λ (x : ℕ). g * pe + i < x) exact (digits-lt hg hi)
 
-          clear : (g i : ℕ) → g < pages (c .header) u → i < pe → pageSet c u k g ≡ false → Misses c (s + (g * pe + i))
+          clear : (g i : ℕ) → g < pages h u → i < pe → pageSet a u k g ≡ false → Miss (s + (g * pe + i))
           clear g i hg hi b =
-              in-clear c u k (g * pe + i) (s + (g * pe + i)) wide (place-at k (g * pe + i) s hk (fits g i hg hi) hs) r t p q (rw (digits-div g hi) b)
+              in-clear a e u k (g * pe + i) (s + (g * pe + i)) wide (place-at k (g * pe + i) s hk (fits g i hg hi) hs) r t p q (rw (digits-div g hi) b)
 
-          set : (g i : ℕ) → g < pages (c .header) u → i < pe → pageSet c u k g ≡ true → testOf c (dataPage u k g) ≡ Passed
-              → Leads c (s + (g * pe + i)) (dataPageAt c u k g + i * elementStride (c .header) (c .offsetSize))
+          set : (g i : ℕ) → g < pages h u → i < pe → pageSet a u k g ≡ true → testOf a (dataPage u k g) ≡ Passed → Lead (s + (g * pe + i)) (dataPageAt a u k g + i * st)
           unfolding dataPageAt pagedElementAt elementAt
           set g i hg hi b d =
-              let a = in-page c u k (g * pe + i) (s + (g * pe + i)) wide (place-at k (g * pe + i) s hk (fits g i hg hi) hs) r t p q (rw (digits-div g hi) b) (rw (digits-div g hi) d) in
-              subst (Leads c (s + (g * pe + i))) (at (rw (digits-div g hi, digits-mod g hi) refl)) a
+              let w = in-page a e u k (g * pe + i) (s + (g * pe + i)) wide (place-at k (g * pe + i) s hk (fits g i hg hi) hs) r t p q (rw (digits-div g hi) b) (rw (digits-div g hi) d) in
+              subst (Lead (s + (g * pe + i))) (at (rw (digits-div g hi, digits-mod g hi) refl)) w
             where
-              at : {x : ℕ} → x ≡ pageAt (c .header) (c .offsetSize) g + i * elementStride (c .header) (c .offsetSize)
-                  → blockAt c u k + x ≡ blockAt c u k + pageAt (c .header) (c .offsetSize) g + i * elementStride (c .header) (c .offsetSize)
-              at e = omega arith
+              at : {x : ℕ} → x ≡ pageAt h (a .offsetSize) g + i * st → blockAt a u k + x ≡ blockAt a u k + pageAt h (a .offsetSize) g + i * st
+              at y = omega arith
 
-          pages-right : (j g s′ : ℕ) (l : List Rec) → g + j ≡ pages (c .header) u → s′ ≡ s + g * pe → pagesFrom c u k j g s′ rest ≡ accepted l → Right c s′ l
-          unfolding pagesFrom
-          pages-right zero g s′ l hg e =
-              let z : s′ ≡ s + blockElements (c .header) u = (let y : g ≡ pages (c .header) u = omega arith in e ∙ ap (λ (x : ℕ). s + x * pe) y ∙ ap (λ (x : ℕ). s + x) exact) in
-              λ h. right-at _ s′ l (sym z) (after l h)
-          pages-right (suc j) g s′ l hg e =
-              let lt : g < pages (c .header) u = omega arith in
-              let next : (m : List Rec) → pagesFrom c u k j (g + 1) (s′ + pe) rest ≡ accepted m → Right c (s′ + pe) m =
-              (λ m h. pages-right j (g + 1) (s′ + pe) m (omega arith) (more e) h) in
-              by-cond P (not (pageSet c u k g))
-              (λ b h. right-empty pe s′ l (λ i hi. subst (Misses c) (at i e) (clear g i lt hi (not-true _ b))) (next l h))
-              (λ b h.
-              let a = yields-inv _ _ l h in
-              elements-right pe (dataPageAt c u k g) s′ _ l
-              (λ i hi. subst (λ (x : ℕ). Leads c x (dataPageAt c u k g + i * elementStride (c .header) (c .offsetSize))) (at i e) (set g i lt hi (not-false _ b) (a .0)))
-              (λ m. by-cond (λ (x : Listing). x ≡ accepted m → Right c (s′ + pe) m) (ltb count (s′ + pe))
-              (λ past y. let z = ltb-true count (s′ + pe) past in right-past (s′ + pe) _ m (omega arith) (end lt e z) (after m y))
-              (λ past y. next m y)) (a .1))
-            where
-              P : Listing → Type 0
-              P a = a ≡ accepted l → Right c s′ l
-
-              more : s′ ≡ s + g * pe → s′ + pe ≡ s + (g + 1) * pe
-              more e = omega arith
-
-              at : (i : ℕ) → s′ ≡ s + g * pe → s + (g * pe + i) ≡ s′ + i
-              at i e = omega arith
-
-              end : g < pages (c .header) u → s′ ≡ s + g * pe → count < s′ + pe → count ≤ s + blockElements (c .header) u
-              end lt e z = let m = mul-le-mul-right {m = g + 1} {n = pages (c .header) u} pe (omega arith) in omega arith
+          paged-at : PagesAt (located a e) (pagesOf a u k) (pages h u) s
+          paged-at = record {
+            clear = clear;
+            set = λ g i hg hi b d. subst (λ (n : ℕ). Lead (s + (g * pe + i)) (dataPageAt a u k g + i * n)) own-stride (set g i hg hi b d);
+          }
 
       -- a data block
-      block-right : (t : blockUndefined c u k ≡ false) → (l : List Rec) → block c u k s rest ≡ accepted l → Right c s l
+      block-right : (t : blockUndefined a u k ≡ false) → (l : List Rec) → block a e u k s rest ≡ accepted l → Shown s l
       unfolding block
-      block-right t l h =
-          let a = yields-inv _ _ l h in
-          by-cond (λ (x : Listing). x ≡ accepted l → Right c s l) (inPages (c .header) u)
-          (λ q y. pages-right t (a .0) q (pages-exact (c .header) v u hu (over q)) (pages (c .header) u) 0 s l (omega arith) (omega arith) y)
-          (λ q y. unpaged-right t (a .0) q l y) (a .1)
-        where
-          over : inPages (c .header) u ≡ true → overPage (c .header) u ≡ true
-          over q = in-pages-over (c .header) u q
+      block-right t l x =
+          let y = yields-inv _ _ l x in
+          by-cond (λ (z : Listing). z ≡ accepted l → Shown s l) (inPages h u)
+          (λ q z.
+          let exact = pages-exact h v u hu (in-pages-over h u q) in
+          pages-right (located a e) (pagesOf a u k) (pages h u) s (paged-at t (y .0) q exact) rest
+          (λ m w. right-at (located a e) _ _ m (ap (λ (n : ℕ). s + n) (sym exact)) (after m w)) l z)
+          (λ q z. unpaged-right t (y .0) q l z) (y .1)
 
     -- the data blocks of super block u from block k on
-    blocks-right : Ready c u → (rest : Listing) → ((q : List Rec) → rest ≡ accepted q → Right c (firstSlot (c .header) (u + 1)) q)
-        → (j k s : ℕ) (l : List Rec) → k + j ≡ blocks u → Begins k s → blocksFrom c u j k s rest ≡ accepted l → Right c s l
+    blocks-right : Ready a u → (rest : Listing) → ((q : List Rec) → rest ≡ accepted q → Shown (firstSlot h (u + 1)) q)
+        → (j k s : ℕ) (l : List Rec) → k + j ≡ blocks u → Begins k s → blocksFrom a e u j k s rest ≡ accepted l → Shown s l
     unfolding blocksFrom
     blocks-right r rest after zero k s l hk hs =
-        let z : firstSlot (c .header) (u + 1) ≡ s = (let y : k ≡ blocks u = omega arith in sym (hs ∙ ap (λ (x : ℕ). firstSlot (c .header) u + x * blockElements (c .header) u) y ∙ next-slot (c .header) u)) in
-        λ h. right-at _ s l z (after l h)
+        let z : firstSlot h (u + 1) ≡ s = (let y : k ≡ blocks u = omega arith in sym (hs ∙ ap (λ (x : ℕ). firstSlot h u + x * blockElements h u) y ∙ next-slot h u)) in
+        λ x. right-at (located a e) _ s l z (after l x)
     blocks-right r rest after (suc j) k s l hk hs =
-        let next : (m : List Rec) → blocksFrom c u j (k + 1) (s + blockElements (c .header) u) rest ≡ accepted m → Right c (s + blockElements (c .header) u) m =
-        (λ m h. blocks-right r rest after j (k + 1) (s + blockElements (c .header) u) m (omega arith) (more hs) h) in
-        by-cond P (isDirect c u && leb count s)
-        (λ b h. right-end s l (leb-true _ _ (both (isDirect c u) (leb count s) b .1)) h)
-        (λ b. by-cond P (blockUndefined c u k)
-        (λ t h. right-empty (blockElements (c .header) u) s l (λ i hi. no-block c u k i (s + i) wide (place-at k i s (omega arith) hi hs) r t) (next l h))
-        (λ t h. block-right r k s (omega arith) hs _ next t l h))
+        let next : (m : List Rec) → blocksFrom a e u j (k + 1) (s + blockElements h u) rest ≡ accepted m → Shown (s + blockElements h u) m =
+        (λ m x. blocks-right r rest after j (k + 1) (s + blockElements h u) m (omega arith) (more hs) x) in
+        by-cond P (isDirect a u && leb (e .count) s)
+        (λ b x. let c = leb-true (e .count) s (both (isDirect a u) (leb (e .count) s) b .1) in right-past (located a e) s _ l c (end c hs) (after l x))
+        (λ b. by-cond P (blockUndefined a u k)
+        (λ t x. right-empty (located a e) (blockElements h u) s l (λ i hi. no-block a e u k i (s + i) wide (place-at k i s (omega arith) hi hs) r t) (next l x))
+        (λ t x. block-right r k s (omega arith) hs _ next t l x))
       where
         P : Listing → Type 0
-        P a = a ≡ accepted l → Right c s l
+        P x = x ≡ accepted l → Shown s l
 
-        more : Begins k s → Begins (k + 1) (s + blockElements (c .header) u)
-        more e = omega arith
+        more : Begins k s → Begins (k + 1) (s + blockElements h u)
+        more b = omega arith
+
+        end : e .count ≤ s → Begins k s → e .count ≤ firstSlot h (u + 1)
+        end c b = let n = next-slot h u in let m = mul-le-mul-right {m = k} {n = blocks u} (blockElements h u) (omega arith) in omega arith
 
     -- a super block whose pointer is undefined
-    gone-right : isDirect c u ≡ false → superUndefined c u ≡ true → (l : List Rec) → Right c (firstSlot (c .header) (u + 1)) l → Right c (firstSlot (c .header) u) l
-    gone-right d t l h =
-        right-empty (blocks u * n) first l (λ x hx.
-        let e = elements-pos (c .header) v u in
-        let q : x / n < blocks u = div-lt-iff-lt-mul e .1 hx in
-        let z : first + x / n * n + x % n ≡ first + x = (let y = div-add-mod' x n in omega arith) in
-        subst (Misses c) z (no-super c u (x / n) (x % n) _ wide (place-at (x / n) (x % n) (first + x / n * n) q (mod-lt x e) refl) d t))
-        (right-at _ _ l (sym (next-slot (c .header) u)) h)
+    gone-right : isDirect a u ≡ false → superUndefined a u ≡ true → (l : List Rec) → Shown (firstSlot h (u + 1)) l → Shown (firstSlot h u) l
+    gone-right d t l y =
+        right-empty (located a e) (blocks u * n) first l (λ x hx.
+        let w = elements-pos h v u in
+        let q : x / n < blocks u = div-lt-iff-lt-mul w .1 hx in
+        let z : first + x / n * n + x % n ≡ first + x = (let m = div-add-mod' x n in omega arith) in
+        subst Miss z (no-super a e u (x / n) (x % n) _ wide (place-at (x / n) (x % n) (first + x / n * n) q (mod-lt x w) refl) d t))
+        (right-at (located a e) _ _ l (sym (next-slot h u)) y)
       where
         n : ℕ
-        n = blockElements (c .header) u
+        n = blockElements (a .parameters) u
 
         first : ℕ
-        first = firstSlot (c .header) u
+        first = firstSlot (a .parameters) u
 
-  -- past the last super block there is nothing
-  past-right : (s : ℕ) (l : List Rec) → Served (c .header) → capacity (c .header) ≤ s → accepted [] ≡ accepted l → Right c s l
-  past-right s l v h e =
-      right-empty count s l (λ i hi. no-place c (s + i) (place-past (c .header) v (s + i) (omega arith))) (right-end (s + count) l (omega arith) e)
-
-  supers-right : Served (c .header) → widthTest 1 (c .offsetSize) ≡ Passed → (j u s : ℕ) (l : List Rec) → u + j ≡ superBlocks (c .header)
-      → s ≡ firstSlot (c .header) u → supers c j u s ≡ accepted l → Right c s l
-  unfolding supers capacity
-  supers-right v wide zero u s l hu hs =
-      let y : u ≡ superBlocks (c .header) = omega arith in
-      let z : capacity (c .header) ≡ s = sym (hs ∙ ap (firstSlot (c .header)) y) in
-      λ h. past-right s l v (omega arith) h
-  supers-right v wide (suc j) u s l hu hs =
-      let lt : u < superBlocks (c .header) = omega arith in
-      let f : s + blocks u * blockElements (c .header) u ≡ firstSlot (c .header) (u + 1) = ap (λ (x : ℕ). x + blocks u * blockElements (c .header) u) hs ∙ next-slot (c .header) u in
-      let next : (q : List Rec) → supers c j (u + 1) (s + blocks u * blockElements (c .header) u) ≡ accepted q → Right c (firstSlot (c .header) (u + 1)) q =
-      (λ q h. right-at _ _ q f (supers-right v wide j (u + 1) (s + blocks u * blockElements (c .header) u) q (omega arith) f h)) in
-      let within : Ready c u → blocksFrom c u (blocks u) 0 s (supers c j (u + 1) (s + blocks u * blockElements (c .header) u)) ≡ accepted l → Right c s l =
-      (λ r h. blocks-right v wide u lt r _ next (blocks u) 0 s l (omega arith) (zero-more hs) h) in
-      by-cond P (leb count s)
-      (λ t h. right-end s l (leb-true _ _ t) h)
-      (λ t. by-cond P (isDirect c u)
-      (λ d h. within (record { named = inl d }) h)
-      (λ d. by-cond P (superUndefined c u)
-      (λ w h. right-at _ s l (sym hs) (gone-right v wide u lt d w l (next l h)))
-      (λ w h. let a = yields-inv _ _ l h in within (record { named = inr (d, w, a .0) }) (a .1))))
+  -- the super blocks from u on, and what is walked behind them
+  pub supers-right : Served h → widthTest 1 (a .offsetSize) ≡ Passed → (rest : Listing) (j u s : ℕ) (l : List Rec) → u + j ≤ superBlocks h → s ≡ firstSlot h u
+      → ((q : List Rec) → rest ≡ accepted q → Shown (firstSlot h (u + j)) q) → supersFrom a e j u s rest ≡ accepted l → Shown s l
+  unfolding supersFrom
+  supers-right v wide rest zero u s l hu hs after =
+      let z : firstSlot h (u + 0) ≡ s = ap (firstSlot h) (let y : u + 0 ≡ u = omega arith in y) ∙ sym hs in
+      λ x. right-at (located a e) _ s l z (after l x)
+  supers-right v wide rest (suc j) u s l hu hs after =
+      let lt : u < superBlocks h = omega arith in
+      let f : s + blocks u * blockElements h u ≡ firstSlot h (u + 1) = ap (λ (x : ℕ). x + blocks u * blockElements h u) hs ∙ next-slot h u in
+      let next : (q : List Rec) → supersFrom a e j (u + 1) (s + blocks u * blockElements h u) rest ≡ accepted q → Shown (firstSlot h (u + 1)) q =
+      (λ q x. right-at (located a e) _ _ q f (supers-right v wide rest j (u + 1) (s + blocks u * blockElements h u) q (omega arith) f
+      (λ m w. right-at (located a e) _ _ m (ap (firstSlot h) (let y : u + suc j ≡ u + 1 + j = omega arith in y)) (after m w)) x)) in
+      let within : Ready a u → blocksFrom a e u (blocks u) 0 s (supersFrom a e j (u + 1) (s + blocks u * blockElements h u) rest) ≡ accepted l → Shown s l =
+      (λ r x. blocks-right v wide u lt r _ next (blocks u) 0 s l (omega arith) (zero-more hs) x) in
+      by-cond P (leb (e .count) s)
+      (λ t x. let c = leb-true (e .count) s t in right-past (located a e) s _ l c (end c hs) (after l x))
+      (λ t. by-cond P (isDirect a u)
+      (λ d x. within (record { named = inl d }) x)
+      (λ d. by-cond P (superUndefined a u)
+      (λ w x. right-at (located a e) _ s l (sym hs) (gone-right v wide u lt d w l (next l x)))
+      (λ w x. let y = yields-inv _ _ l x in within (record { named = inr (d, w, y .0) }) (y .1))))
     where
       P : Listing → Type 0
-      P a = a ≡ accepted l → Right c s l
+      P x = x ≡ accepted l → Shown s l
 
-      zero-more : s ≡ firstSlot (c .header) u → s ≡ firstSlot (c .header) u + 0 * blockElements (c .header) u
-      zero-more e = omega arith
+      zero-more : s ≡ firstSlot h u → s ≡ firstSlot h u + 0 * blockElements h u
+      zero-more b = omega arith
 
-  inline-leads : Served (c .header) → (i : ℕ) → i < c .header .«idx_blk_elmts» → Leads c (0 + i) (indexAt c + inlineElementAt (c .header) (c .offsetSize) 0 + i * elementStride (c .header) (c .offsetSize))
+      end : e .count ≤ s → s ≡ firstSlot h u → e .count ≤ firstSlot h (u + suc j)
+      end c b = let m = first-slot-mono h u (u + suc j) (omega arith) in omega arith
+
+  -- past the last super block there is nothing
+  past-right : (s : ℕ) (l : List Rec) → Served h → capacity h ≤ s → accepted [] ≡ accepted l → Shown s l
+  past-right s l v c x =
+      right-empty (located a e) (e .count) s l (λ i hi. no-place a e (s + i) (place-past h v (s + i) (omega arith))) (right-end (located a e) (s + e .count) l (omega arith) x)
+
+  inline-leads : Served h → (i : ℕ) → i < h .«idx_blk_elmts» → Lead (0 + i) (a .indexAt + inlineElementAt h (a .offsetSize) 0 + i * st)
   unfolding positionOf inlineElementAt elementAt
-  inline-leads v i h =
+  inline-leads v i lt =
       let z : i ≡ 0 + i = omega arith in
-      subst (λ (x : ℕ). Leads c x (indexAt c + inlineElementAt (c .header) (c .offsetSize) 0 + i * elementStride (c .header) (c .offsetSize))) z
-      (subst (Leads c i) (let y : positionOf c (Inline i) ≡ indexAt c + inlineElementAt (c .header) (c .offsetSize) 0 + i * elementStride (c .header) (c .offsetSize) = omega arith in y)
-      (in-index c i (place-inline (c .header) v i h)))
+      let at : positionOf a (Inline i) ≡ a .indexAt + inlineElementAt h (a .offsetSize) 0 + i * st = omega arith in
+      subst (λ (x : ℕ). Lead x (a .indexAt + inlineElementAt h (a .offsetSize) 0 + i * st)) z (subst (Lead i) at (in-index a e i (place-inline h v i lt)))
 
-  behind-right : Served (c .header) → (l : List Rec) → behindInline c ≡ accepted l → Right c (0 + c .header .«idx_blk_elmts») l
-  unfolding behindInline
+  behind-right : Served h → (l : List Rec) → behindInline a e ≡ accepted l → Shown (0 + h .«idx_blk_elmts») l
+  unfolding behindInline capacity
   behind-right v l =
-      by-cond (λ (x : Listing). x ≡ accepted l → Right c (0 + c .header .«idx_blk_elmts») l) (leb count (c .header .«idx_blk_elmts»))
-      (λ t h. let k = leb-true count (c .header .«idx_blk_elmts») t in right-end (0 + c .header .«idx_blk_elmts») l (omega arith) h)
-      (λ t h.
-      let a = yields-inv _ _ l h in
-      right-at _ _ l (let z : c .header .«idx_blk_elmts» ≡ 0 + c .header .«idx_blk_elmts» = omega arith in z)
-      (supers-right v (a .0) (superBlocks (c .header)) 0 (c .header .«idx_blk_elmts») l (omega arith) (sym (first-slot-zero (c .header))) (a .1)))
+      by-cond (λ (x : Listing). x ≡ accepted l → Shown (0 + h .«idx_blk_elmts») l) (leb (e .count) (h .«idx_blk_elmts»))
+      (λ t x. let k = leb-true (e .count) (h .«idx_blk_elmts») t in right-end (located a e) (0 + h .«idx_blk_elmts») l (omega arith) x)
+      (λ t x.
+      let y = yields-inv _ _ l x in
+      right-at (located a e) _ _ l (let z : h .«idx_blk_elmts» ≡ 0 + h .«idx_blk_elmts» = omega arith in z)
+      (supers-right v (y .0) (accepted []) (superBlocks h) 0 (h .«idx_blk_elmts») l (omega arith) (sym (first-slot-zero h))
+      (λ q w. past-right _ q v (let z : 0 + superBlocks h ≡ superBlocks h = omega arith in rw z (omega arith)) w) (y .1)))
 
-pub walk-right : (c : Call) (l : List Rec) → walk c ≡ accepted l → Right c 0 l
-unfolding walk
-walk-right c l h =
-    let a = yields-inv _ _ l h in
-    let v = tested-serves (c .header) (a .0) in
-    elements-right c (c .header .«idx_blk_elmts») _ 0 _ l (inline-leads c v) (behind-right c v) (yields-inv _ _ l (a .1) .1)
+  pub walk-right : (l : List Rec) → walk a e ≡ accepted l → Shown 0 l
+  unfolding walk arrayTest
+  walk-right l x =
+      let y = yields-inv _ _ l x in
+      let v = tested-serves h (then-inv _ _ (y .0) .0) in
+      elements-shown (h .«idx_blk_elmts») _ 0 _ l (inline-leads v) (behind-right v) (y .1)
 
--- An accepted walk's list is the list of the records of all slots below the count whose place holds an address and that have a chunk, in
--- slot order.
-pub walk-records : (c : Call) (l : List Rec) → walk c ≡ accepted l → l ≡ records c 0 (c .header .«num_elements»)
-unfolding from
-walk-records c l h = simp sub-zero at (walk-right c l h .is)
+  -- An accepted list's records, any rank.
+  pub list-records : (l : List Rec) → list a e ≡ accepted l → l ≡ records (indexOf (located a e)) 0 (e .count)
+  unfolding list
+  list-records l x = right-records (located a e) l (walk-right l (yields-inv _ _ l x .1))
+
+  -- An accepted list of rank 1 to 32 is complete and exact.
+  pub list-exact : (l : List Rec) → 0 < e .grid .rank → e .count ≤ largest64 → list a e ≡ accepted l → ExactList (indexOf (located a e)) l (length l)
+  unfolding list
+  list-exact l ranked fits x =
+      let y = yields-inv _ _ l x in
+      right-exact (located a e) l (walk-right l (y .1)) (grid-accepted (e .grid) (y .0)) ranked fits

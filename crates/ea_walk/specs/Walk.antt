@@ -1,66 +1,74 @@
 -- The walk of the list: which test comes when, and which records it gives. Each definition says what is left to do from here;
 -- `rest` is what comes behind it, and s the slot that the walk has come to.
 use Prim.Native.Nat.{ℕ, zero, suc, _+_, _*_}
-use mathlib.Core.Bool.{not, cond, _&&_}
+use mathlib.Core.Bool.{cond, _&&_}
 use mathlib.Core.List.{[]}
-use lib.Dec.{leb, ltb}
+use lib.Dec.{leb}
 use Rattle.refusal.specs.Outcome.{accepted, _yields_}
 use Rattle.fields.specs.Fields.{widthTest}
-use Rattle.ea_header.specs.Served.{servedTest}
-use Rattle.ea_geometry.specs.Sizes.{superBlocks, blocks, blockElements, pageElements, pages}
+use Rattle.chunk_grid.specs.Grid.{gridTest}
+use Rattle.index.specs.Index.{Listing}
+use Rattle.elements.specs.Elements.{Elements}
+use Rattle.elements.specs.Runs.{elementsFrom, pagesFrom}
+use Rattle.located.specs.Located.{Located}
+use Rattle.ea_geometry.specs.Sizes.{superBlocks, blocks, blockElements, pages}
 use Rattle.ea_geometry.specs.Extents.{inlineElementAt, blockElementAt}
-use Rattle.ea_geometry.specs.Place.{inPages}
-use Rattle.ea_blocks.specs.Call.{Call}
-use Rattle.ea_blocks.specs.Structures.{indexBlock, superBlock, dataBlock, dataPage, testOf, indexAt, isDirect, blockAt, dataPageAt, superUndefined, blockUndefined, pageSet}
-use Rattle.ea_elements.specs.Runs.{Listing, elements}
+use Rattle.ea_geometry.specs.Place.{inPages, place}
+use Rattle.ea_blocks.specs.Array.{Array}
+use Rattle.ea_blocks.specs.Structures.{superBlock, dataBlock, testOf, arrayTest, pagesOf, isDirect, blockAt, superUndefined, blockUndefined}
+use Rattle.ea_blocks.specs.Places.{reached, positionOf, placeTest}
 
--- The pages of data block k of super block u, j of them from p on. A clear page is stepped over by its full stride.
--- A set page that runs past the count is tested, then ends its data block.
-unfoldable pub pagesFrom : Call → ℕ → ℕ → ℕ → ℕ → ℕ → Listing → Listing
-pagesFrom c u k zero p s rest = rest
-pagesFrom c u k (suc j) p s rest =
-    let e = pageElements (c .header) in
-    let next = pagesFrom c u k j (p + 1) (s + e) rest in
-    cond (not (pageSet c u k p)) next
-    (testOf c (dataPage u k p)
-    yields elements c (dataPageAt c u k p) e s (cond (ltb (c .header .«num_elements») (s + e)) rest next))
+-- Where the elements of an array lie: each slot's element at its place.
+abbrev pub located : Array → Elements → Located
+located a e = record {
+  elements = e;
+  tests = λ (s : ℕ). placeTest a (place (a .parameters) s);
+  reached = λ (s : ℕ). reached a (place (a .parameters) s);
+  position = λ (s : ℕ). positionOf a (place (a .parameters) s);
+}
 
 -- Data block k of super block u. Its extent and checksum cover all its slots, also those past the published count.
-unfoldable pub block : Call → ℕ → ℕ → ℕ → Listing → Listing
-block c u k s rest =
-    testOf c (dataBlock u k)
-    yields cond (inPages (c .header) u) (pagesFrom c u k (pages (c .header) u) 0 s rest)
-    (elements c (blockAt c u k + blockElementAt (c .header) (c .offsetSize) 0) (blockElements (c .header) u) s rest)
+unfoldable pub block : Array → Elements → ℕ → ℕ → ℕ → Listing → Listing
+block a e u k s rest =
+    testOf a (dataBlock u k)
+    yields cond (inPages (a .parameters) u) (pagesFrom e (pagesOf a u k) (pages (a .parameters) u) 0 s rest)
+    (elementsFrom e (blockAt a u k + blockElementAt (a .parameters) (a .offsetSize) 0) (blockElements (a .parameters) u) s rest)
 
 -- The data blocks of super block u, j of them from k on. Those that the index block names are walked up to the count; a super block
 -- reached by the walk has every defined data block tested, also past the count.
-unfoldable pub blocksFrom : Call → ℕ → ℕ → ℕ → ℕ → Listing → Listing
-blocksFrom c u zero k s rest = rest
-blocksFrom c u (suc j) k s rest =
-    let next = blocksFrom c u j (k + 1) (s + blockElements (c .header) u) rest in
-    cond (isDirect c u && leb (c .header .«num_elements») s) (accepted [])
-    (cond (blockUndefined c u k) next (block c u k s next))
+unfoldable pub blocksFrom : Array → Elements → ℕ → ℕ → ℕ → ℕ → Listing → Listing
+blocksFrom a e u zero k s rest = rest
+blocksFrom a e u (suc j) k s rest =
+    let next = blocksFrom a e u j (k + 1) (s + blockElements (a .parameters) u) rest in
+    cond (isDirect a u && leb (e .count) s) rest
+    (cond (blockUndefined a u k) next (block a e u k s next))
 
 -- the super blocks, j of them from u on, up to the count
-unfoldable pub supers : Call → ℕ → ℕ → ℕ → Listing
-supers c zero u s = accepted []
-supers c (suc j) u s =
-    let next = supers c j (u + 1) (s + blocks u * blockElements (c .header) u) in
-    cond (leb (c .header .«num_elements») s) (accepted [])
-    (cond (isDirect c u) (blocksFrom c u (blocks u) 0 s next)
-    (cond (superUndefined c u) next
-    (testOf c (superBlock u) yields blocksFrom c u (blocks u) 0 s next)))
+unfoldable pub supersFrom : Array → Elements → ℕ → ℕ → ℕ → Listing → Listing
+supersFrom a e zero u s rest = rest
+supersFrom a e (suc j) u s rest =
+    let next = supersFrom a e j (u + 1) (s + blocks u * blockElements (a .parameters) u) rest in
+    cond (leb (e .count) s) rest
+    (cond (isDirect a u) (blocksFrom a e u (blocks u) 0 s next)
+    (cond (superUndefined a u) next
+    (testOf a (superBlock u) yields blocksFrom a e u (blocks u) 0 s next)))
 
 -- behind the inline elements: 1, since the index block has a pointer at least and all are read before the first is followed; the super blocks
-unfoldable pub behindInline : Call → Listing
-behindInline c =
-    cond (leb (c .header .«num_elements») (c .header .«idx_blk_elmts»)) (accepted [])
-    (widthTest 1 (c .offsetSize) yields supers c (superBlocks (c .header)) 0 (c .header .«idx_blk_elmts»))
+unfoldable pub behindInline : Array → Elements → Listing
+behindInline a e =
+    cond (leb (e .count) (a .parameters .«idx_blk_elmts»)) (accepted [])
+    (widthTest 1 (a .offsetSize)
+    yields supersFrom a e (superBlocks (a .parameters)) 0 (a .parameters .«idx_blk_elmts») (accepted []))
 
 -- the inline elements, and what is behind them
-abbrev pub fromInline : Call → Listing
-fromInline c = elements c (indexAt c + inlineElementAt (c .header) (c .offsetSize) 0) (c .header .«idx_blk_elmts») 0 (behindInline c)
+abbrev pub fromInline : Array → Elements → Listing
+fromInline a e =
+    elementsFrom e (a .indexAt + inlineElementAt (a .parameters) (a .offsetSize) 0) (a .parameters .«idx_blk_elmts») 0 (behindInline a e)
 
--- 27, then the index block's 20, 23, 26, then the walk in slot order
-unfoldable pub walk : Call → Listing
-walk c = servedTest (c .header) yields testOf c indexBlock yields fromInline c
+-- the way into the array, then the walk in slot order
+unfoldable pub walk : Array → Elements → Listing
+walk a e = arrayTest a yields fromInline a e
+
+-- List: 3 to 8, then 27 and the walk.
+unfoldable pub list : Array → Elements → Listing
+list a e = gridTest (e .grid) yields walk a e

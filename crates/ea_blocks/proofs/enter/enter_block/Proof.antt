@@ -1,8 +1,8 @@
 -- `ea_blocks::enter::enter_block` meets its contract. Assumes nothing.
 use mathlib.Core.Path.{sym, subst, _∙_}
 use Rattle.ea_blocks.specs.Entered.{EnteredBlock}
-use Rattle.ea_blocks.proofs.Pointers.{pointer-undefined, pointer-at}
-use Rattle.ea_blocks.proofs.Entering.{block-by-verdict}
+use Rattle.ea_blocks.proofs.PointerValues.{pointer-undefined, pointer-at}
+use Rattle.ea_blocks.proofs.Entering.{block-by-result}
 use borrow.Author.Needs.{needs}
 use Rattle.ea_blocks.proofs.enter.enter_block.Statement.{statement}
 use Rattle.ea_blocks.proofs.enter.enter_block.Tie as tie
@@ -19,16 +19,16 @@ enum-known-at c = search needs
 test-data-block-requires : tie.Need-test-data-block-requires
 test-data-block-requires c κs = search needs
 
-enter-by-verdict-requires : tie.Need-enter-by-verdict-requires
-enter-by-verdict-requires c κs = search needs
+enter-by-result-requires : tie.Need-enter-by-result-requires
+enter-by-result-requires c κs = search needs
 
 returns : tie.Need-returns
-returns c = λ k s e. pointer-undefined _ _ (sym (c .enum-told .given .1) ∙ c .before .before .block-pointer .ensures k s e)
+returns c = λ e. pointer-undefined _ _ (sym (c .enum-told .given .1) ∙ c .before .before .block-pointer .ensures e)
 
 returns-2 : tie.Need-returns-2
-returns-2 c = λ k s e.
-    let q = pointer-at _ _ _ (sym (c .before .before .before .at .given .1) ∙ c .before .before .before .before .before .block-pointer .ensures k s e) in
-    subst (EnteredBlock k _ _) (sym (c .enter-by-verdict .ensures)) (block-by-verdict _ _ _ _ _ (q .0) (c .before .test-data-block .ensures k _ s (q .1)) (q .1))
+returns-2 c = λ e.
+    let q = pointer-at _ _ _ (sym (c .before .before .before .at .given .1) ∙ c .before .before .before .before .before .block-pointer .ensures e) in
+    subst (EnteredBlock _ _ _) (sym (c .enter-by-result .ensures)) (block-by-result _ _ _ _ _ (q .0) (c .before .test-data-block .ensures _ (q .1)) (q .1))
 
 pub enter-block-spec : {M : Type 1} → statement M
 enter-block-spec =
@@ -38,6 +38,6 @@ enter-block-spec =
     enum-told
     enum-known-at
     test-data-block-requires
-    enter-by-verdict-requires
+    enter-by-result-requires
     returns
     returns-2)

@@ -1,8 +1,8 @@
 -- `ea_blocks::enter::enter_block_in_turn` meets its contract. Assumes nothing.
 use mathlib.Core.Path.{sym, subst, _∙_}
 use Rattle.ea_blocks.specs.Entered.{EnteredBlock}
-use Rattle.ea_blocks.proofs.Pointers.{pointer-undefined, pointer-at}
-use Rattle.ea_blocks.proofs.Entering.{block-by-verdict}
+use Rattle.ea_blocks.proofs.PointerValues.{pointer-undefined, pointer-at}
+use Rattle.ea_blocks.proofs.Entering.{block-by-result}
 use borrow.Author.Needs.{needs}
 use Rattle.ea_blocks.proofs.enter.enter_block_in_turn.Statement.{statement}
 use Rattle.ea_blocks.proofs.enter.enter_block_in_turn.Tie as tie
@@ -16,20 +16,20 @@ enum-told c = search needs
 enum-known-at : tie.Need-enum-known-at
 enum-known-at c = search needs
 
-block-verdict-requires : tie.Need-block-verdict-requires
-block-verdict-requires c κs = search needs
+block-result-requires : tie.Need-block-result-requires
+block-result-requires c κs = search needs
 
-enter-by-verdict-requires : tie.Need-enter-by-verdict-requires
-enter-by-verdict-requires c κs = search needs
+enter-by-result-requires : tie.Need-enter-by-result-requires
+enter-by-result-requires c κs = search needs
 
 returns : tie.Need-returns
-returns c = λ k s e f. (pointer-undefined _ _ (sym (c .enum-told .given .1) ∙ c .before .before .block-pointer .ensures k s e), f)
+returns c = λ e f. (pointer-undefined _ _ (sym (c .enum-told .given .1) ∙ c .before .before .block-pointer .ensures e), f)
 
 returns-2 : tie.Need-returns-2
-returns-2 c = λ k s e f.
-    let q = pointer-at _ _ _ (sym (c .before .before .before .at .given .1) ∙ c .before .before .before .before .before .block-pointer .ensures k s e) in
-    let v = c .before .block-verdict .ensures k s e (q .1) f in
-    (subst (EnteredBlock k _ _) (sym (c .enter-by-verdict .ensures)) (block-by-verdict _ _ _ _ _ (q .0) (v .0) (q .1)), v .1)
+returns-2 c = λ e f.
+    let q = pointer-at _ _ _ (sym (c .before .before .before .at .given .1) ∙ c .before .before .before .before .before .block-pointer .ensures e) in
+    let v = c .before .block-result .ensures e (q .1) f in
+    (subst (EnteredBlock _ _ _) (sym (c .enter-by-result .ensures)) (block-by-result _ _ _ _ _ (q .0) (v .0) (q .1)), v .1)
 
 pub enter-block-in-turn-spec : {M : Type 1} → statement M
 enter-block-in-turn-spec =
@@ -38,7 +38,7 @@ enter-block-in-turn-spec =
     block-pointer-requires
     enum-told
     enum-known-at
-    block-verdict-requires
-    enter-by-verdict-requires
+    block-result-requires
+    enter-by-result-requires
     returns
     returns-2)

@@ -4,7 +4,7 @@ use native.Mathlib.Omega.{arith}
 use borrow.Author.Tests.{not-true, not-false}
 use Rattle.ea_blocks.specs.Structures.{dataPageAt}
 use Rattle.ea_blocks.specs.Entered.{EnteredPage}
-use Rattle.ea_blocks.proofs.Entering.{page-few, page-fits, page-by-verdict}
+use Rattle.ea_blocks.proofs.Entering.{page-few, page-fits, page-by-result}
 use borrow.Author.Needs.{needs}
 use Rattle.ea_blocks.proofs.enter.enter_page_in_turn.Statement.{statement}
 use Rattle.ea_blocks.proofs.enter.enter_page_in_turn.Tie as tie
@@ -13,7 +13,7 @@ page-set-requires : tie.Need-page-set-requires
 page-set-requires c κs = search needs
 
 returns : tie.Need-returns
-returns c = λ k s e i f. (sym (c .before .page-set .ensures k s e) ∙ not-true _ (c .if1 .taken), f)
+returns c = λ e i f. (sym (c .before .page-set .ensures e) ∙ not-true _ (c .if1 .taken), f)
 
 page-at-requires : tie.Need-page-at-requires
 page-at-requires c κs = let a = c .before .before .before in (page-few _ (a .pre .0 .bounded .served) _ _ (a .pre .0 .super) (a .pre .0 .page), a .pre .0 .bounded)
@@ -23,17 +23,17 @@ add-pos c =
     let a = c .before .before .before .before in
     omega (arith, a .pre .1, c .page-at .ensures, page-fits _ (a .pre .0 .bounded) (omega arith) _ (a .args .p) (a .args .at) (a .pre .0 .super) (a .pre .0 .page) (omega arith))
 
-page-verdict-requires : tie.Need-page-verdict-requires
-page-verdict-requires c κs = search needs
+page-result-requires : tie.Need-page-result-requires
+page-result-requires c κs = search needs
 
-enter-by-verdict-requires : tie.Need-enter-by-verdict-requires
-enter-by-verdict-requires c κs = search needs
+enter-by-result-requires : tie.Need-enter-by-result-requires
+enter-by-result-requires c κs = search needs
 
 returns-2 : tie.Need-returns-2
 unfolding dataPageAt
-returns-2 c = λ k s e i f.
-    let v = c .before .page-verdict .ensures k s i f in (
-      subst (EnteredPage k _ _ _) (sym (c .enter-by-verdict .ensures)) (page-by-verdict _ _ _ _ _ _ (sym (c .before .before .before .before .page-set .ensures k s e) ∙ not-false _ (c .before .before .before .if1 .left)) (v .0) (rw (← i, s .header, s .offset, c .before .before .page-at .ensures))),
+returns-2 c = λ e i f.
+    let v = c .before .page-result .ensures i f in (
+      subst (EnteredPage _ _ _ _) (sym (c .enter-by-result .ensures)) (page-by-result _ _ _ _ _ _ (sym (c .before .before .before .before .page-set .ensures e) ∙ not-false _ (c .before .before .before .if1 .left)) (v .0) (rw (← i, c .before .before .page-at .ensures))),
       v .1,
     )
 
@@ -45,6 +45,6 @@ enter-page-in-turn-spec =
     returns
     page-at-requires
     add-pos
-    page-verdict-requires
-    enter-by-verdict-requires
+    page-result-requires
+    enter-by-result-requires
     returns-2)

@@ -3,13 +3,12 @@ use mathlib.Core.Path.{_≡_, sym, subst, _∙_}
 use mathlib.Core.Bool.{false}
 use mathlib.Core.Logic.{inl}
 use native.Mathlib.Omega.{arith}
-use Rattle.ea_blocks.specs.Call.{Call}
+use Rattle.ea_blocks.specs.Array.{arrayOf}
 use Rattle.ea_blocks.specs.Structures.{isDirect}
-use Rattle.ea_blocks.specs.Values.{Sees}
 use Rattle.ea_blocks.specs.Entered.{EnteredSuper}
 use Rattle.ea_blocks.proofs.StructureTests.{is-direct, not-direct}
-use Rattle.ea_blocks.proofs.Pointers.{pointer-undefined, pointer-at}
-use Rattle.ea_blocks.proofs.Entering.{super-by-verdict}
+use Rattle.ea_blocks.proofs.PointerValues.{pointer-undefined, pointer-at}
+use Rattle.ea_blocks.proofs.Entering.{super-by-result}
 use borrow.Author.Needs.{needs}
 use Rattle.ea_blocks.proofs.enter.enter_super.Statement.{statement}
 use Rattle.ea_blocks.proofs.enter.enter_super.Tie as tie
@@ -18,9 +17,9 @@ direct-super-blocks-requires : tie.Need-direct-super-blocks-requires
 direct-super-blocks-requires c κs = search needs
 
 returns : tie.Need-returns
-returns c = λ k s.
+returns c =
     let d = c .before .direct-super-blocks .ensures in
-    inl (is-direct _ _ _ s _ (omega arith))
+    inl (is-direct _ _ (omega arith))
 
 super-pointer-requires : tie.Need-super-pointer-requires
 super-pointer-requires c κs = search needs
@@ -34,27 +33,28 @@ enum-known-at c = search needs
 test-super-block-requires : tie.Need-test-super-block-requires
 test-super-block-requires c κs = search needs
 
-enter-by-verdict-requires : tie.Need-enter-by-verdict-requires
-enter-by-verdict-requires c κs = search needs
+enter-by-result-requires : tie.Need-enter-by-result-requires
+enter-by-result-requires c κs = search needs
 
 -- the index block doesn't name the data blocks
-beyond : (c : tie.Else1) (k : Call) → Sees k (c .before .before .before .args .file .now) (c .before .before .before .args .geometry)
-    → isDirect k (c .before .before .before .args .u) ≡ false
-beyond c k s =
+beyond : (c : tie.Else1)
+    → let a = c .before .before .before .args in
+    isDirect (arrayOf (a .file .now) (a .array)) (a .u) ≡ false
+beyond c =
     let d = c .before .direct-super-blocks .ensures in
-    not-direct _ _ _ s _ (omega arith)
+    not-direct _ _ (omega arith)
 
 returns-2 : tie.Need-returns-2
-returns-2 c = λ k s.
+returns-2 c =
     let b = c .before .before in
-    (beyond (b .before) k s, pointer-undefined _ _ (sym (c .enum-told .given .1) ∙ b .super-pointer .ensures k s))
+    (beyond (b .before), pointer-undefined _ _ (sym (c .enum-told .given .1) ∙ b .super-pointer .ensures))
 
 returns-3 : tie.Need-returns-3
-returns-3 c = λ k s.
+returns-3 c =
     let b = c .before .before .before .before .before in
-    let q = pointer-at _ _ _ (sym (c .before .before .before .at .given .1) ∙ b .super-pointer .ensures k s) in
-    subst (EnteredSuper k _) (sym (c .enter-by-verdict .ensures))
-    (super-by-verdict _ _ _ _ (beyond (b .before) k s) (q .0) (c .before .test-super-block .ensures k s (q .1)) (q .1))
+    let q = pointer-at _ _ _ (sym (c .before .before .before .at .given .1) ∙ b .super-pointer .ensures) in
+    subst (EnteredSuper _ _) (sym (c .enter-by-result .ensures))
+    (super-by-result _ _ _ _ (beyond (b .before)) (q .0) (c .before .test-super-block .ensures (q .1)) (q .1))
 
 pub enter-super-spec : {M : Type 1} → statement M
 enter-super-spec =
@@ -66,6 +66,6 @@ enter-super-spec =
     enum-told
     enum-known-at
     test-super-block-requires
-    enter-by-verdict-requires
+    enter-by-result-requires
     returns-2
     returns-3)

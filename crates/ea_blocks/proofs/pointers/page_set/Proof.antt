@@ -1,0 +1,54 @@
+-- `ea_blocks::pointers::page_set` meets its contract. Assumes nothing.
+use Prim.Native.Nat.{_+_, _<_}
+use native.Mathlib.Omega.{arith}
+use lib.Dec.{leb}
+use lib.ListN.{length}
+use Rattle.refusal.proofs.Tests.{both}
+use Rattle.ea_geometry.specs.Sizes.{directSuperBlocks, overPage}
+use Rattle.ea_geometry.specs.Extents.{pageBitsAt}
+use Rattle.ea_geometry.specs.Sizes.{bitNumber}
+use Rattle.structures.specs.PageBits.{bitByte}
+use Rattle.ea_geometry.specs.Place.{inPages}
+use Rattle.ea_geometry.proofs.Positions.{bit-inside, block-pointer-inside}
+use Rattle.ea_blocks.specs.Structures.{bitSet, pageSet}
+use borrow.Author.Needs.{needs}
+use Rattle.ea_blocks.proofs.pointers.page_set.Statement.{statement}
+use Rattle.ea_blocks.proofs.pointers.page_set.Tie as tie
+
+-- the bit lies in the super block
+in-super : (a : tie.Start)
+    → let g = a .args .array .geometry in
+    a .args .super-at + pageBitsAt (g .parameters) (g .«offset_size») + bitByte (bitNumber (g .parameters) (a .args .u) (a .args .k) (a .args .p)) < length (a .args .file .now)
+unfolding inPages
+in-super a =
+    let h = a .args .array .geometry .parameters in
+    let o = a .args .array .geometry .«offset_size» in
+    let u = a .args .u in
+    let over = both (leb (directSuperBlocks h) u) (overPage h u) (a .pre .paged) .1 in
+    omega (arith, a .pre, bit-inside h o u (a .args .k) (a .args .p) over (a .pre .block) (a .pre .page), block-pointer-inside h o u 0 (omega (arith, a .pre)))
+
+page-bits-at-requires : tie.Need-page-bits-at-requires
+page-bits-at-requires c κs = search needs
+
+add-pos : tie.Need-add-pos
+add-pos c = omega (arith, c .page-bits-at .ensures, in-super (c .before .before))
+
+bit-number-requires : tie.Need-bit-number-requires
+bit-number-requires c κs = search needs
+
+page-is-initialized-requires : tie.Need-page-is-initialized-requires
+page-is-initialized-requires c κs = rw (c .before .page-bits-at .ensures, c .bit-number .ensures) (in-super (c .before .before .before))
+
+returns : tie.Need-returns
+unfolding pageSet bitSet
+returns c e = rw (← e, c .page-is-initialized .ensures, c .before .before .page-bits-at .ensures, c .before .bit-number .ensures)
+
+pub page-set-spec : {M : Type 1} → statement M
+page-set-spec =
+    tie.close
+    (tie.spec
+    page-bits-at-requires
+    add-pos
+    bit-number-requires
+    page-is-initialized-requires
+    returns)

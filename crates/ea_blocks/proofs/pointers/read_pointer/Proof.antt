@@ -1,0 +1,24 @@
+-- `ea_blocks::pointers::read_pointer` meets its contract. Assumes nothing.
+use Rattle.fields.specs.Fields.{undefinedAt}
+use Rattle.ea_blocks.specs.Values.{pointerOf}
+use borrow.Author.Needs.{needs}
+use Rattle.ea_blocks.proofs.pointers.read_pointer.Statement.{statement}
+use Rattle.ea_blocks.proofs.pointers.read_pointer.Tie as tie
+
+read-address-requires : tie.Need-read-address-requires
+read-address-requires c κs = search needs
+
+is-undefined-addr-requires : tie.Need-is-undefined-addr-requires
+is-undefined-addr-requires c κs = search needs
+
+returns : tie.Need-returns
+unfolding pointerOf undefinedAt
+returns c = rw (← c .before .before .read-address .ensures, ← c .before .is-undefined-addr .ensures, c .if1 .taken)
+
+returns-2 : tie.Need-returns-2
+unfolding pointerOf undefinedAt
+returns-2 c = rw (← c .before .before .read-address .ensures, ← c .before .is-undefined-addr .ensures, c .if1 .left)
+
+pub read-pointer-spec : {M : Type 1} → statement M
+read-pointer-spec =
+    tie.close (tie.spec read-address-requires is-undefined-addr-requires returns returns-2)

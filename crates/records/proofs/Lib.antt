@@ -1,0 +1,4 @@
+pub mod Records
+pub mod ReadBack
+pub mod Lines
+pub mod Writing
