@@ -6,3 +6,4 @@ pub mod Turns
 pub mod Pages
 pub mod ChunkBytes
 pub mod Numbered
+pub mod Readers

@@ -9,7 +9,6 @@ use lib.Dec.{leb, ltb}
 use Rattle.refusal.specs.declared.Refusal.{Refusal}
 use Rattle.refusal.specs.declared.Checked.{Checked}
 use Rattle.refusal.specs.declared.Checked.the-variants.{Passed, Refused}
-use Rattle.refusal.specs.Outcome.{refused}
 use Rattle.refusal.proofs.Tests.{by-cond}
 use Rattle.refusal.proofs.Numbered.{Numbered, Told, numbered-refuse, numbered-then, told-yields, told-accepted, told-cond, told-also}
 use Rattle.fields.specs.Fields.{widthTest, sizeTest}

@@ -1,4 +1,5 @@
--- A lookup of any located index: what an accepted one says of its corner, and that it agrees with an accepted list. Assumes nothing.
+-- A lookup of any located index: what an accepted one says of its corner, and that it agrees with an accepted list.
+-- Assumes nothing.
 use Prim.Native.Nat.{ℕ, _<_, _≤_}
 use mathlib.Core.Path.{_≡_, refl, _∙_}
 use mathlib.Core.Bool.{true}
@@ -30,8 +31,8 @@ module _ (x : Located) (t : Checked) (corner : List ℕ) where
   abbrev lookup : Outcome (Option Rec)
   lookup = gridTest g then cornerTest g corner then t yields slotPath x (slotOf g corner)
 
-  -- An accepted lookup has a record exactly when the corner's slot is below the count and its place holds an address, and then that
-  -- record; otherwise it is absent. Every rank.
+  -- An accepted lookup has a record exactly when the corner's slot is below the count and its place holds an address,
+  -- and then that record; otherwise it is absent. Every rank.
   pub lookup-answers : (r : Option Rec) → lookup ≡ accepted r → Answers (indexOf x) corner r
   lookup-answers r h =
       let a = yields-inv _ _ r h in

@@ -5,21 +5,12 @@ use borrow.Author.Needs.{needs}
 use Rattle.element_runs.proofs.count.reach_from.Statement.{statement}
 use Rattle.element_runs.proofs.count.reach_from.Tie as tie
 
-offsets-in-extent-requires : tie.Need-offsets-in-extent-requires
-offsets-in-extent-requires c κs = search needs
-
-enum-told : tie.Need-enum-told
-enum-told c = search needs
-
 line-from-requires : tie.Need-line-from-requires
 line-from-requires c κs =
     let e = c .before .before .before in
     let s = e .before .before in
     let p = s .pre in
     (p .0, s .args .chunk .now, s .args .reader .numbers, p .1, p .2, sym (e .offsets-in-extent .ensures (p .0) (p .1) (p .2) .0) ∙ c .enum-told .given .1)
-
-below-count-requires : tie.Need-below-count-requires
-below-count-requires c κs = search needs
 
 returns : tie.Need-returns
 returns c =
@@ -45,11 +36,4 @@ returns-3 c = (omega arith, λ h. absurd (omega arith), λ g q x. (c .before .of
 pub reach-from-spec : {M : Type 1} → statement M
 reach-from-spec =
     tie.close
-    (tie.spec
-    offsets-in-extent-requires
-    enum-told
-    line-from-requires
-    below-count-requires
-    returns
-    returns-2
-    returns-3)
+    (tie.spec (λ c κs. search needs) (search needs) line-from-requires (search needs) returns returns-2 returns-3)
