@@ -15,7 +15,6 @@ ghost use Rattle.records.specs.Values.{ReadsLine};
 use chunk_grid::Offsets;
 use chunk_slots::Line;
 use chunk_slots::line_from;
-use chunk_slots::offsets_in_extent;
 use element_runs::count::below_count;
 use element_runs::defined::undefined_run;
 use elements::Element;
@@ -24,8 +23,8 @@ use elements::read::read_inside_element;
 use fields::bytes::put_le;
 use index::Entry;
 
-// Writes the record of an entry, and of the chunk whose corner the first `rank` offsets are, but for dimension `dim`, whose offset is
-// `offset`, from `at` on.
+// Writes the record of an entry, and of the chunk whose corner the first `rank` offsets are, but for dimension `dim`,
+// whose offset is `offset`, from `at` on.
 pub fn put_record(
     out: &mut [u8],
     at: usize,
@@ -58,8 +57,8 @@ fn put_offsets(out: &mut [u8], at: usize, rank: usize, offsets: &[u64; 32], dim:
     }
 }
 
-// Writes the records of n elements from pos on, whose slots lie in a line, into the list from `at` on; the first `rank` offsets are those
-// of the first slot. Gives where they end.
+// Writes the records of n elements from pos on, whose slots lie in a line, into the list from `at` on; the first `rank`
+// offsets are those of the first slot. Gives where they end.
 fn write_line(
     out: &mut [u8],
     at: usize,
@@ -100,8 +99,8 @@ fn write_line(
     to
 }
 
-// Writes the records of n elements from pos on, whose slots begin at `slot`, up to the published count, into the list from `at` on.
-// Gives where they end. Such a run is counted before: nothing is refused any more.
+// Writes the records of n elements from pos on, whose slots begin at `slot`, up to the published count, into the list
+// from `at` on. Gives where they end. Such a run is counted before: nothing is refused any more.
 pub fn write_elements(
     out: &mut [u8],
     at: usize,
@@ -140,16 +139,7 @@ pub fn write_elements(
             continue;
         }
         let here = slot + i;
-        let reached = offsets_in_extent(
-            &mut offsets,
-            here,
-            rank,
-            rotated,
-            reader.numbers,
-            chunk,
-            bound,
-            down,
-        );
+        let reached = reader.reach(&mut offsets, here, chunk, bound, down);
         let passed = if let Offsets::Inside = reached {
             let line = line_from(here, rank, rotated, bound, down);
             let n = below_count(line.slots, i, left);

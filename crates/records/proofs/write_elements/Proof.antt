@@ -126,17 +126,17 @@ loop-again c =
 add-here : tie.Need-add-here Inv-loop μ-loop
 add-here c = omega (arith, few (c .before .before))
 
-offsets-in-extent-requires : tie.Need-offsets-in-extent-requires Inv-loop μ-loop
-offsets-in-extent-requires c κs = let d = given (c .before .before .before .before) in (d .0, d .3 .numbered, d .3 .extended)
+reach-requires : tie.Need-reach-requires Inv-loop μ-loop
+reach-requires c κs = let d = given (c .before .before .before .before) in (d .0, d .1, d .3)
 
 -- an element inside the extents begins a line
-abbrev loopOf : tie.After-offsets-in-extent Inv-loop μ-loop → tie.At-loop Inv-loop μ-loop
+abbrev loopOf : tie.After-reach Inv-loop μ-loop → tie.At-loop Inv-loop μ-loop
 loopOf c = c .before .before .before .before .before
 
-abbrev takenOf : tie.After-offsets-in-extent Inv-loop μ-loop → tie.In-loop Inv-loop μ-loop
+abbrev takenOf : tie.After-reach Inv-loop μ-loop → tie.In-loop Inv-loop μ-loop
 takenOf c = c .before .before .before .before
 
-abbrev hereOf : tie.After-offsets-in-extent Inv-loop μ-loop → ℕ
+abbrev hereOf : tie.After-reach Inv-loop μ-loop → ℕ
 hereOf c = start (loopOf c) .args .slot + loopOf c .loop .i
 
 line-from-requires : tie.Need-line-from-requires Inv-loop μ-loop
@@ -144,30 +144,30 @@ line-from-requires c κs =
     let e = c .before .before in
     let d = given (loopOf e) in
     let q = d .3 in
-    (d .0, start (loopOf e) .args .chunk .now, start (loopOf e) .args .reader .numbers, q .numbered, q .extended, sym (e .offsets-in-extent .ensures (d .0) (q .numbered) (q .extended) .0) ∙ c .enum-told .given .1)
+    (d .0, start (loopOf e) .args .chunk .now, start (loopOf e) .args .reader .numbers, q .numbered, q .extended, sym (e .reach .ensures _ _ q .0) ∙ c .enum-told .given .1)
 
 -- the elements of a line that are written
-abbrev offsetsOf : tie.After-below-count2 Inv-loop μ-loop → tie.After-offsets-in-extent Inv-loop μ-loop
-offsetsOf c = c .before .before .before .before
+abbrev reachOf : tie.After-below-count2 Inv-loop μ-loop → tie.After-reach Inv-loop μ-loop
+reachOf c = c .before .before .before .before
 
-line-read : (c : tie.After-below-count2 Inv-loop μ-loop) (grid : Grid) (m : ℕ) → ReadsAt (loopOf (offsetsOf c)) grid m
-    → ReadsLine (start (loopOf (offsetsOf c)) .args .reader) (offsetsOf c .offsets-in-extent .last .0) (c .before .line-from .result) (start (loopOf (offsetsOf c)) .args .chunk .now) grid m (hereOf (offsetsOf c))
+line-read : (c : tie.After-below-count2 Inv-loop μ-loop) (grid : Grid) (m : ℕ) → ReadsAt (loopOf (reachOf c)) grid m
+    → ReadsLine (start (loopOf (reachOf c)) .args .reader) (reachOf c .reach .last .1 .0) (c .before .line-from .result) (start (loopOf (reachOf c)) .args .chunk .now) grid m (hereOf (reachOf c))
 line-read c grid m q =
-    let e = offsetsOf c in
-    reads-line q _ _ (e .offsets-in-extent .ensures grid (q .numbered) (q .extended)) (loopOf e .loop .inv .2) (c .before .before .enum-told .given .1)
+    let e = reachOf c in
+    reads-line q _ _ (e .reach .ensures grid m q) (loopOf e .loop .inv .2) (c .before .before .enum-told .given .1)
     (c .before .line-from .ensures grid _ _ (q .numbered) (q .extended))
 
 line-some : (c : tie.After-below-count2 Inv-loop μ-loop)
-    → (0 < c .below-count2 .result) × (loopOf (offsetsOf c) .loop .i + c .below-count2 .result ≤ left (loopOf (offsetsOf c)))
+    → (0 < c .below-count2 .result) × (loopOf (reachOf c) .loop .i + c .below-count2 .result ≤ left (loopOf (reachOf c)))
 line-some c =
-    let e = offsetsOf c in
+    let e = reachOf c in
     let t = takenOf e .loop-test .taken in
     (omega (arith, t, c .below-count2 .ensures, line-read c _ _ (given (loopOf e) .3) .lies .some), omega (arith, t, c .below-count2 .ensures))
 
 write-line-requires : tie.Need-write-line-requires Inv-loop μ-loop
 write-line-requires c κs =
     let m = c .before .before in
-    let e = offsetsOf m in
+    let e = reachOf m in
     let l = loopOf e in
     let d = given l in
     let h = line-some m .1 in (
@@ -213,7 +213,7 @@ written c grid m l q h =
     rw (w .11) (left-same (left-behind z _ i) (w .9 ∙ p .0) (w .10 ∙ p .1)))
     (λ w.
     let one : 1 * strideAt k ≡ strideAt k = omega arith in
-    let o = e .offsets-in-extent .ensures grid (q .numbered) (q .extended) .0 in
+    let o = e .reach .ensures grid m q .0 in
     rw (w .3, one) (left-same (left-outside z (t .loop-test .taken) (few t) (λ x. ⊎-elim (λ y. omega arith) (λ y. omega arith) (rw (o ∙ x) at (w .0 .keys2)))) (w .1) (w .2)))
     (c .match .came)
 
@@ -238,7 +238,7 @@ loop-again-2 c =
     rw (l .before .stride .ensures) (
       passed m .1,
       left-length _ _ _ _ _ _ _ _ _ _ (written m _ _ _ q (given l .4)),
-      ap length (e .offsets-in-extent .ensures _ (q .numbered) (q .extended) .1) ∙ length-handed _ _ _ ∙ l .loop .inv .2,
+      ap length (e .reach .ensures _ _ q .1) ∙ length-handed _ _ _ ∙ l .loop .inv .2,
       written m,
     )
 
@@ -249,6 +249,6 @@ pub write-elements-spec : {M : Type 1} → statement M
 write-elements-spec =
     tie.close
     (tie.spec Inv-loop μ-loop (search needs) (search needs) loop-holds (search needs) undefined-run-requires
-    mul-from add-from add-i loop-less loop-again add-here offsets-in-extent-requires (search needs)
+    mul-from add-from add-i loop-less loop-again add-here reach-requires (search needs)
     line-from-requires (search needs) write-line-requires mul-from-2 add-from-2 add-i-2 loop-less-2
     loop-again-2 (search needs) returns)

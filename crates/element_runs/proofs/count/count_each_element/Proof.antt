@@ -87,7 +87,7 @@ loop-again c =
     )
 
 reach-from-requires : tie.Need-reach-from-requires Inv-loop μ-loop
-reach-from-requires c κs = let p = start (c .before .before .before .before) .pre .0 in (p .grid, p .reads .numbered, p .reads .extended)
+reach-from-requires c κs = let p = start (c .before .before .before .before) .pre .0 in (p .grid, p .elementBytes, p .reads)
 
 -- a line of elements inside the extents
 abbrev lineOf : tie.After-reach-from Inv-loop μ-loop → tie.At-loop Inv-loop μ-loop
@@ -114,7 +114,7 @@ line-counted c grid m q =
     let d = c .count-defined .ensures in
     counting-inside (l .loop .inv .2 grid m q) (e .before .before .before .before .loop-test .taken) (p .1) (p .2) (λ j. omega (arith, l .before .before .before .shared-slice-known .given j))
     (sym (l .before .sizes-fit .ensures grid m (q .chunked)) ∙ e .reach-from .ensures .1 (c .before .if2 .taken)) _ (line-passed e .1 .passed)
-    (e .reach-from .ensures .2 grid (q .numbered) (q .extended) .1) _ (rw (l .before .before .stride .ensures) at d)
+    (e .reach-from .ensures .2 grid m q .1) _ (rw (l .before .before .stride .ensures) at d)
 
 line-few : (c : tie.After-count-defined Inv-loop μ-loop)
     → lineOf (c .before .before) .loop .count + c .count-defined .result ≤ lineOf (c .before .before) .loop .i + c .before .before .reach-from .result .slots
@@ -142,7 +142,7 @@ loop-again-2 c = rw (lineOf (c .before .before) .before .before .stride .ensures
 is-element : (c : tie.After-read-defined-element Inv-loop μ-loop) (grid : Grid) (m : ℕ) → ReadsAt (lineOf (c .before .before)) grid m
     → c .read-defined-element .result
     ≡ element (elementsAt (lineOf (c .before .before)) grid m) (lineOf (c .before .before) .loop .at) (start (lineOf (c .before .before)) .args .slot + lineOf (c .before .before) .loop .i)
-is-element c grid m q = c .read-defined-element .ensures grid m _ (q .chunked) (c .before .before .reach-from .ensures .2 grid (q .numbered) (q .extended) .0)
+is-element c grid m q = c .read-defined-element .ensures grid m _ (q .chunked) (c .before .before .reach-from .ensures .2 grid m q .0)
 
 read-defined-element-requires : tie.Need-read-defined-element-requires Inv-loop μ-loop
 read-defined-element-requires c κs =

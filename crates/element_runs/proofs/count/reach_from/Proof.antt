@@ -10,7 +10,8 @@ line-from-requires c κs =
     let e = c .before .before .before in
     let s = e .before .before in
     let p = s .pre in
-    (p .0, s .args .chunk .now, s .args .reader .numbers, p .1, p .2, sym (e .offsets-in-extent .ensures (p .0) (p .1) (p .2) .0) ∙ c .enum-told .given .1)
+    let q = p .2 in
+    (p .0, s .args .chunk .now, s .args .reader .numbers, q .numbered, q .extended, sym (e .reach .ensures _ _ q .0) ∙ c .enum-told .given .1)
 
 returns : tie.Need-returns
 returns c =
@@ -20,18 +21,18 @@ returns c =
     let s = e .before .before in (
       omega (arith, c .below-count .ensures),
       λ h. t .if1 .taken,
-      λ g q x.
-          let o = e .offsets-in-extent .ensures g q x .0 in
-          let r = l .line-from .ensures g (s .args .chunk .now) (s .args .reader .numbers) q x (sym o ∙ l .before .enum-told .given .1) in
+      λ grid m q.
+          let o = e .reach .ensures grid m q .0 in
+          let r = l .line-from .ensures grid _ _ (q .numbered) (q .extended) (sym o ∙ l .before .enum-told .given .1) in
           (o, λ j h. r .inside j (omega (arith, c .below-count .ensures))),
     )
 
 -- no line
 returns-2 : tie.Need-returns-2
-returns-2 c = (omega arith, λ h. absurd (omega arith), λ g q x. (c .before .before .offsets-in-extent .ensures g q x .0, λ j h. absurd (omega arith)))
+returns-2 c = (omega arith, λ h. absurd (omega arith), λ grid m q. (c .before .before .reach .ensures grid m q .0, λ j h. absurd (omega arith)))
 
 returns-3 : tie.Need-returns-3
-returns-3 c = (omega arith, λ h. absurd (omega arith), λ g q x. (c .before .offsets-in-extent .ensures g q x .0, λ j h. absurd (omega arith)))
+returns-3 c = (omega arith, λ h. absurd (omega arith), λ grid m q. (c .before .reach .ensures grid m q .0, λ j h. absurd (omega arith)))
 
 pub reach-from-spec : {M : Type 1} → statement M
 reach-from-spec =

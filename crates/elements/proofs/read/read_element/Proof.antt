@@ -34,7 +34,7 @@ read-defined-element-requires c κs =
     (sized (a .before), start (a .before) .pre .1, tested _ _ _ _ _ (a .read-address .ensures) (d .before .is-undefined-addr .ensures) ∙ d .if1 .left)
 
 returns-3 : tie.Need-returns-3
-returns-3 c = λ grid n q. c .read-defined-element .ensures grid n _ (q .chunked) (c .before .offsets-in-extent .ensures grid (q .numbered) (q .extended) .0)
+returns-3 c = λ grid n q. c .read-defined-element .ensures grid n _ (q .chunked) (c .before .reach .ensures grid n q .0)
 
 pub read-element-spec : {M : Type 1} → statement M
 read-element-spec =
