@@ -1,15 +1,16 @@
--- A slot and its chunk give each other back. Assumes nothing.
+-- A slot and its chunk give each other back, and a corner is a chunk's where it passes its test. Assumes nothing.
 use Prim.Native.Nat.{ℕ, _<_, _≤_}
 use mathlib.Core.Path.{_≡_, refl, subst}
-use mathlib.Core.Bool.{true, false, not, cond, _||_}
+use mathlib.Core.Bool.{true, false, not, _||_}
 use mathlib.Core.List.{List}
 use mathlib.Core.Option.{Option, some, Option·some-injective}
 use native.Mathlib.Omega.{arith}
 use borrow.Author.Tests.{not-false}
-use Rattle.refusal.specs.Refusals.{largest64}
-use Rattle.refusal.proofs.Tests.{by-cond, neither}
+use Rattle.refusal.specs.declared.Checked.the-variants.{Passed}
+use Rattle.refusal.specs.Refusals.{largest64, refuse}
+use Rattle.refusal.proofs.Tests.{by-cond, neither, refuse-inv}
 use Rattle.chunk_grid.specs.declared.Slot.the-variants.{At}
-use Rattle.chunk_grid.specs.Grid.{Grid, numbersNothing, offsets, below, isChunk, slotOf}
+use Rattle.chunk_grid.specs.Grid.{Grid, numbersNothing, offsets, below, isChunk, cornerTest, slotOf}
 use Rattle.chunk_grid.specs.Chunks.{chunkAt}
 use Rattle.chunk_grid.proofs.Grids.{Accepted, chunk-inv, slot-offsets, offsets-chunk, offsets-slot}
 
@@ -38,3 +39,12 @@ module _ (g : Grid) (b : Accepted g) where
   slot-chunk-at corner s a h =
       let o = offsets-slot g b corner s a h in
       rw (o .0, o .1, chunk-inv g corner a .inside) refl
+
+-- the corners that pass their test are those of chunks
+pub corner-chunk : (g : Grid) (corner : List ℕ) → cornerTest g corner ≡ Passed → isChunk g corner ≡ true
+unfolding cornerTest
+corner-chunk g corner h = not-false _ (refuse-inv _ _ _ _ h)
+
+pub chunk-corner : (g : Grid) (corner : List ℕ) → isChunk g corner ≡ true → cornerTest g corner ≡ Passed
+unfolding cornerTest refuse
+chunk-corner g corner k = rw k refl

@@ -3,7 +3,6 @@ use Prim.Native.Nat.{ℕ}
 use mathlib.Core.Path.{_≡_, refl, sym}
 use mathlib.Core.List.{List}
 use mathlib.Core.Option.{Option, none, some}
-use native.Mathlib.Omega.{arith}
 use Rattle.refusal.specs.Outcome.{accepted, also}
 use Rattle.refusal.proofs.Outcomes.{never, also-inv}
 use Rattle.index.specs.Index.{Rec, Listing, with}

@@ -5,3 +5,4 @@ pub mod Runs
 pub mod Turns
 pub mod Pages
 pub mod ChunkBytes
+pub mod Numbered

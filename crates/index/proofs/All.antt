@@ -1,7 +1,7 @@
 -- What holds of every record of a list, and of the records of slots. Assumes nothing.
 use Prim.Native.Nat.{ℕ, _+_, _<_, _≤_}
 use mathlib.Core.Path.{_≡_, refl}
-use mathlib.Core.List.{List, [], _∷_, _++_, List·Memᴰ, List·Memᴰ·head, List·Memᴰ·tail}
+use mathlib.Core.List.{List, [], _∷_, List·Memᴰ, List·Memᴰ·head, List·Memᴰ·tail}
 use mathlib.Core.Option.{some}
 use Rattle.index.specs.Index.{Index, Rec, recordAt, records}
 use Rattle.index.proofs.Records.{listed}

@@ -1,4 +1,5 @@
--- The records of the slots below the count are an exact list of the index, where its grid was accepted, of rank 1 at least. Assumes nothing.
+-- The records of the slots below the count are an exact list of the index, where its grid was accepted, of rank 1 at
+-- least. Assumes nothing.
 use Prim.Native.Nat.{ℕ, zero, suc, _+_, _<_, _≤_}
 use mathlib.Core.Path.{_≡_, refl, sym, _∙_}
 use mathlib.Core.List.{List}

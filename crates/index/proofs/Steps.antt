@@ -1,4 +1,5 @@
--- What holds of slots from some slot on, and of positions a stride apart: it holds of the first, and of the others. Assumes nothing.
+-- What holds of slots from some slot on, and of positions a stride apart: it holds of the first, and of the others.
+-- Assumes nothing.
 use Prim.Native.Nat.{ℕ, suc, _+_, _*_, _<_}
 use mathlib.Core.Path.{_≡_, subst}
 use native.Mathlib.Omega.{arith}

@@ -46,8 +46,8 @@ pub record ExactList (i : Index) (l : List Rec) (count : ℕ) : Type 0 where
   -- .. and the number of the stored chunks
   pub tallied : Tally (Used i) 0 (i .count) count
 
--- What the answer to a corner says: a record is the corner's, with what the place of its slot, below the count, holds; absent says that no
--- such slot and place are the corner's.
+-- What the answer to a corner says: a record is the corner's, with what the place of its slot, below the count, holds;
+-- absent says that no such slot and place are the corner's.
 abbrev pub Answers : Index → List ℕ → Option Rec → Type 0
 Answers i corner (some r) = ((s : ℕ) × Stored i corner s (r .entry)) × (r .corner ≡ corner)
 Answers i corner none = (s : ℕ) (e : Entry) → Stored i corner s e → ⊥

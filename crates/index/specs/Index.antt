@@ -7,7 +7,8 @@ use Rattle.chunk_grid.specs.Grid.{Grid}
 use Rattle.chunk_grid.specs.Chunks.{chunkAt}
 use Rattle.index.specs.declared.Entry.{Entry}
 
--- The grid that numbers the chunks, the published count, from which on no slot is in use, and what the place of each slot holds.
+-- The grid that numbers the chunks, the published count, from which on no slot is in use, and what the place of each
+-- slot holds.
 pub record Index : Type 0 where
   pub grid : Grid
   pub count : ℕ

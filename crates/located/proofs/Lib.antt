@@ -1,3 +1,5 @@
 pub mod Paths
 pub mod Walks
 pub mod Runs
+pub mod Lookups
+pub mod Numbered

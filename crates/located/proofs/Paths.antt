@@ -1,6 +1,6 @@
 -- The path to a slot, and the record of its slot where it is accepted. Assumes nothing.
 use Prim.Native.Nat.{ℕ, _<_}
-use mathlib.Core.Path.{_≡_, refl, ap, subst, _∙_}
+use mathlib.Core.Path.{_≡_, refl, ap, _∙_}
 use mathlib.Core.Bool.{Bool, true, false, not, cond}
 use mathlib.Core.Option.{Option, none}
 use borrow.Author.Tests.{ltb-true}

@@ -1,5 +1,6 @@
--- An accepted walk over elements, or over the pages of a data block, lists the records of its slots in slot order, and the path to each of
--- these slots is accepted with the slot's record, where this holds of what is walked behind them. Assumes nothing.
+-- An accepted walk over elements, or over the pages of a data block, lists the records of its slots in slot order, and
+-- the path to each of these slots is accepted with the slot's record, where this holds of what is walked behind them.
+-- Assumes nothing.
 use Prim.Native.Nat.{ℕ, zero, suc, _+_, _*_, _<_, _≤_}
 use mathlib.Core.Path.{_≡_, refl, sym, ap, subst, _∙_}
 use mathlib.Core.Bool.{true, false, not}
@@ -27,7 +28,7 @@ use Rattle.index.proofs.Exact.{records-exact}
 use Rattle.elements.specs.Runs.{elementsFrom, pagesFrom}
 use Rattle.elements.proofs.Answers.{also-element-inv}
 use Rattle.located.specs.Located.{Located, indexOf, path}
-use Rattle.located.proofs.Paths.{LeadsTo, LeadsNowhere, way-to, way-nowhere, unreached, path-record}
+use Rattle.located.proofs.Paths.{LeadsTo, LeadsNowhere, way-to, way-nowhere, path-record}
 
 nil-is : (l : List Rec) → accepted [] ≡ accepted l → l ≡ []
 nil-is l h = cc
@@ -94,7 +95,8 @@ module _ (x : Located) where
       let i = also-element-inv _ _ _ l h in
       right-more s (i .0) l (i .1) (leb-false _ _ t) (way-to x s pos (first (LeadsTo x) s pos st j p) ∙ i .2) (i .4) (again (i .1) (i .3)))
 
--- n pages, whose slots begin at s: those of a clear page lead nowhere, those of a set one that has passed its test to the page's elements
+-- n pages, whose slots begin at s: those of a clear page lead nowhere, those of a set one that has passed its test to
+-- the page's elements
 pub record PagesAt (x : Located) (g : Pages) (n s : ℕ) : Type 0 where
   pub clear : (p i : ℕ) → p < n → i < g .size → g .set p ≡ false → LeadsNowhere x (s + (p * g .size + i))
   pub set : (p i : ℕ) → p < n → i < g .size → g .set p ≡ true → g .test p ≡ Passed

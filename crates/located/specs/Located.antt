@@ -12,8 +12,8 @@ use Rattle.index.specs.declared.Entry.{Entry}
 use Rattle.index.specs.Index.{Index, Rec}
 use Rattle.elements.specs.Elements.{Elements, undefinedElement, entryAt, element, answerOf}
 
--- What its elements are read by; of each slot the tests of the structures that lead to its place, whether all pointers on
--- the way are defined and its page bit (if any) is set, and the file's position of its element.
+-- What its elements are read by; of each slot the tests of the structures that lead to its place, whether all pointers
+-- on the way are defined and its page bit (if any) is set, and the file's position of its element.
 pub record Located : Type 0 where
   pub elements : Elements
   pub tests : ℕ → Checked
