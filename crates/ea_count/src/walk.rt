@@ -10,7 +10,7 @@ ghost use Rattle.elements.specs.Values.{elementsOf, Reads};
 ghost use Rattle.ea_geometry.specs.Extents.{formOf};
 ghost use Rattle.ea_blocks.specs.Array.{arrayOf};
 ghost use Rattle.ea_walk.specs.Walk.{fromInline, walk};
-ghost use Rattle.ea_count.specs.Values.{WalkBy};
+ghost use Rattle.ea_walk.specs.Given.{ReadBy};
 use crate::count_blocks;
 use ea_blocks::ExtensibleArray;
 use ea_blocks::tests::test_array;
@@ -31,7 +31,7 @@ pub fn count_walk(
     bound: &[u64; 32],
     down: &[u64; 32],
 ) -> Counted
-    requires { ⌜ WalkBy array reader (now chunk) (now bound) (now down) ⌝ }
+    requires { ⌜ ReadBy array reader (now chunk) (now bound) (now down) ⌝ }
     ensures { λ r. ⌜ ((grid : Grid) (n : ℕ) → Reads reader (now (chunk .entry)) (now (bound .entry)) (now (down .entry)) grid n
         → r ≡ countedOf (walk (arrayOf (now (file .entry)) array) (elementsOf (now (file .entry)) reader grid n))) ⌝ }
 {

@@ -6,6 +6,7 @@ use Rattle.refusal.specs.Refusals.{refusalOf}
 use Rattle.refusal.specs.declared.Checked.{Checked}
 use Rattle.fields.specs.Fields.{isWidth}
 use Rattle.element_form.specs.declared.Form.{Form}
+use Rattle.refusal.specs.declared.Counted.the-variants.{Refused as CountedRefused}
 use Rattle.ea_count.proofs.Heads.{unreadable-none, unreadable-pointer, unreadable-element}
 use borrow.Author.Needs.{needs}
 use Rattle.ea_count.proofs.walk.count_unreadable.Statement.{statement}
