@@ -8,3 +8,4 @@ pub mod Shapes
 pub mod Slots
 pub mod Tried
 pub mod Chunks
+pub mod RefusalNumbers
