@@ -3,7 +3,7 @@
 -- nothing.
 use Prim.Native.Nat.{ℕ, zero, suc, _+_, _*_, _/_, _%_, _<_, _≤_}
 use mathlib.Core.Path.{_≡_, refl, sym, ap, subst, _∙_}
-use mathlib.Core.Bool.{true, false, _&&_}
+use mathlib.Core.Bool.{true, false, not, _&&_}
 use mathlib.Core.List.{[]}
 use mathlib.Core.Logic.{inl, inr}
 use native.Mathlib.Omega.{arith}
@@ -33,15 +33,26 @@ use Rattle.ea_geometry.specs.declared.Place.the-variants.{Inline}
 use Rattle.ea_geometry.proofs.Counts.{elements-pos, pages-exact}
 use Rattle.ea_geometry.proofs.Places.{in-pages-over, place-is, place-inline, place-past, next-slot, first-slot-zero, first-slot-mono}
 use Rattle.ea_blocks.specs.Array.{Array}
-use Rattle.ea_blocks.specs.Structures.{Structure, superBlock, dataBlock, dataPage, testOf, arrayTest, pagesOf, isDirect, blockAt, dataPageAt, superUndefined, blockUndefined, pageSet}
-use Rattle.ea_blocks.specs.Places.{positionOf}
+use Rattle.ea_blocks.specs.Structures.{Structure, indexBlock, superBlock, dataBlock, dataPage, testOf, arrayTest, pagesOf, isDirect, blockAt, dataPageAt, superUndefined, blockUndefined, pageSet}
+use Rattle.ea_blocks.specs.Places.{blockReached, positionOf}
 use Rattle.ea_walk.specs.Walk.{located, block, blocksFrom, supersFrom, behindInline, walk}
-use Rattle.ea_walk.proofs.Paths.{Ready, no-super, no-block, in-block, in-clear, in-page, in-index, no-place}
+use Rattle.ea_walk.proofs.Paths.{Ready, ready-reached, no-super, no-block, in-block, in-clear, in-page, in-index, no-place}
 
--- elements in the array's form, a relation that the steps of a walk over them keep, and the array's tests among those
--- of the walk
+-- a data block that is pointed to, and any structure
+abbrev BlockPointed : Array → ℕ → ℕ → Type 0
+BlockPointed a u k = (u < superBlocks (a .parameters)) × (k < blocks u) × (blockReached a u k ≡ true)
+
+abbrev pub Pointed : Array → Structure → Type 0
+Pointed a indexBlock = Unit {0}
+Pointed a (superBlock u) = (u < superBlocks (a .parameters)) × (isDirect a u ≡ false) × (superUndefined a u ≡ false)
+Pointed a (dataBlock u k) = BlockPointed a u k
+Pointed a (dataPage u k p) =
+    BlockPointed a u k × (inPages (a .parameters) u ≡ true) × (p < pages (a .parameters) u) × (pageSet a u k p ≡ true)
+
+-- elements in the array's form, a relation that the steps of a walk over them keep, and among the walk's tests
+-- those of the structures that are pointed to
 module _ (a : Array) (e : Elements) (form : formOf (a .parameters) (a .offsetSize) ≡ e .form) {Tests : Checked → Type 0} {R : ℕ → Listing → Listing → Type 0}
-    (steps : Steps e (LeadsTo (located a e)) (LeadsNowhere (located a e)) Tests R) (tests : (z : Structure) → Tests (testOf a z)) where
+    (steps : Steps e (LeadsTo (located a e)) (LeadsNowhere (located a e)) Tests R) (tests : (z : Structure) → Pointed a z → Tests (testOf a z)) where
   abbrev h : Parameters
   h = a .parameters
 
@@ -115,15 +126,18 @@ module _ (a : Array) (e : Elements) (form : formOf (a .parameters) (a .offsetSiz
               set = λ g i hg hi b d. subst (λ (n : ℕ). Lead (s + (g * pe + i)) (dataPageAt a u k g + i * n)) own-stride (set g i hg hi b d);
             }
 
+        pointed : BlockPointed a u k
+        pointed = (hu, hk, ready-reached a u k r ∙ ap not t)
+
         -- a data block
         block-kept : R s (block a e u k s x) (block a e u k s y)
         unfolding block
         block-kept =
-            steps .test _ s _ _ (tests (dataBlock u k)) (λ p.
+            steps .test _ s _ _ (tests (dataBlock u k) pointed) (λ p.
             by-conds (R s) (inPages h u)
             (λ q.
             let exact = pages-exact h v u hu (in-pages-over h u q) in
-            pages-kept steps (pagesOf a u k) (pages h u) s (paged-at p q exact) (λ g. tests (dataPage u k g)) x y
+            pages-kept steps (pagesOf a u k) (pages h u) s (paged-at p q exact) (λ g hg b. tests (dataPage u k g) (pointed, q, hg, b)) x y
             (at-slot steps _ _ x y (ap (λ (n : ℕ). s + n) (sym exact)) after))
             (λ q. unpaged-kept p q))
 
@@ -183,7 +197,7 @@ module _ (a : Array) (e : Elements) (form : formOf (a .parameters) (a .offsetSiz
         (λ d. within (record { named = inl d }))
         (λ d. by-conds (R s) (superUndefined a u)
         (λ w. at-slot steps _ s _ _ (sym hs) (gone-kept u lt d w _ _ next))
-        (λ w. steps .test _ s _ _ (tests (superBlock u)) (λ p. within (record { named = inr (d, w, p) })))))
+        (λ w. steps .test _ s _ _ (tests (superBlock u) (lt, d, w)) (λ p. within (record { named = inr (d, w, p) })))))
       where
         behind : Listing → Listing
         behind = supersFrom a e j (u + 1) (s + blocks u * blockElements h u)

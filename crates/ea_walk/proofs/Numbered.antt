@@ -15,7 +15,7 @@ use Rattle.ea_walk.proofs.Induction.{walk-kept}
 
 module _ (a : Array) (e : Elements) (form : formOf (a .parameters) (a .offsetSize) ≡ e .form) where
   pub walk-told : Told (walk a e)
-  walk-told = walk-kept a e form (told-steps e _ _) (test-numbered a) (array-numbered a) (width-numbered 1 _ (omega arith)) (λ s h. told-accepted [])
+  walk-told = walk-kept a e form (told-steps e _ _) (λ z w. test-numbered a z) (array-numbered a) (width-numbered 1 _ (omega arith)) (λ s h. told-accepted [])
 
   pub list-told : Told (list a e)
   unfolding list

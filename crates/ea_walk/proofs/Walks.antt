@@ -21,7 +21,7 @@ use Rattle.ea_walk.proofs.Induction.{walk-kept}
 -- elements in the array's form
 module _ (a : Array) (e : Elements) (form : formOf (a .parameters) (a .offsetSize) ≡ e .form) where
   pub walk-right : (l : List Rec) → walk a e ≡ accepted l → Right (located a e) 0 l
-  walk-right = walk-kept a e form (right-steps (located a e)) (λ z. tt) tt tt (λ s h l x. right-end (located a e) s l h x)
+  walk-right = walk-kept a e form (right-steps (located a e)) (λ z w. tt) tt tt (λ s h l x. right-end (located a e) s l h x)
 
   -- An accepted list's records, any rank.
   pub list-records : (l : List Rec) → list a e ≡ accepted l → l ≡ records (indexOf (located a e)) 0 (e .count)

@@ -76,7 +76,7 @@ module _ {e : Elements} {Has : ℕ → ℕ → Type 0} {Lacks : ℕ → Type 0} 
       (λ t. k .has s pos _ _ (leb-false _ _ t) (first Has s pos st j p) again)
 
   -- the pages of a data block
-  module _ (g : Pages) (n s : ℕ) (h : PagesAt Has Lacks (stride (e .form)) g n s) (tests : (p : ℕ) → Tests (g .test p)) (x y : Listing)
+  module _ (g : Pages) (n s : ℕ) (h : PagesAt Has Lacks (stride (e .form)) g n s) (tests : (p : ℕ) → p < n → g .set p ≡ true → Tests (g .test p)) (x y : Listing)
       (r : R (s + n * g .size) x y) where
     from-kept : (j p s′ : ℕ) → p + j ≡ n → s′ ≡ s + p * g .size → R s′ (pagesFrom e g j p s′ x) (pagesFrom e g j p s′ y)
     unfolding pagesFrom
@@ -88,7 +88,7 @@ module _ {e : Elements} {Has : ℕ → ℕ → Type 0} {Lacks : ℕ → Type 0} 
         let next = from-kept j (p + 1) (s′ + g .size) (omega arith) (more q) in
         by-conds (R s′) (not (g .set p))
         (λ b. lacks-kept (g .size) s′ _ _ (λ i hi. subst Lacks (at i q) (h .clear p i lt hi (not-true _ b))) next)
-        (λ b. k .test (g .test p) s′ _ _ (tests p) (λ t.
+        (λ b. k .test (g .test p) s′ _ _ (tests p lt (not-false _ b)) (λ t.
         elements-kept (g .size) (g .position p) s′ _ _
         (λ i hi. subst (λ (m : ℕ). Has m (g .position p + i * st)) (at i q) (h .set p i lt hi (not-false _ b) t))
         (by-conds (R (s′ + g .size)) (ltb (e .count) (s′ + g .size))
