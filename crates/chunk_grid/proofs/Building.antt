@@ -1,7 +1,7 @@
 -- What the loops that build a grid have at each turn. Assumes nothing.
 use Prim.Native.Nat.{ℕ, zero, suc, _+_, _-_, _*_, _/_, _%_, _<_, _≤_, max}
 use mathlib.Core.Path.{_≡_, refl, sym, ap, _∙_}
-use mathlib.Core.Bool.{Bool, true, false, not, _&&_, _||_}
+use mathlib.Core.Bool.{Bool, true, false, not, cond, _&&_, _||_}
 use mathlib.Core.List.{List, [], _∷_}
 use native.Mathlib.Decide.{ℕ-discrete}
 use native.Mathlib.Nat.{mul-comm, pos-of-ne-zero, div-add-mod', mod-lt, mul-le-mul-left}
@@ -9,7 +9,7 @@ use native.Mathlib.Numerals.{add-one}
 use native.Mathlib.Omega.{arith}
 use borrow.Author.Tests.{eq-eqb, ne-eqb, lt-ltb, le-ltb}
 use lib.Arith.{digits-div}
-use lib.Dec.{eqb, ltb}
+use lib.Dec.{eqb, ltb, leb·suc-suc}
 use lib.ListN.{length, getD, drop, set, length-set, drop-of-length-le}
 use lib.Seq.{drop-cons, drop-drop, getD-set-same, getD-set-other, ext-getD}
 use Rattle.refusal.specs.declared.Refusal.{Refusal}
@@ -17,6 +17,7 @@ use Rattle.refusal.specs.declared.Checked.the-variants.{Passed, Refused}
 use Rattle.refusal.specs.Refusals.{largest64, refuse, _then_}
 use Rattle.chunk_grid.specs.Grid.{any, ceilDiv, firstUnlimited, leadingIn, toFront, multiplier, multipliers, hasZero, shapesTest, multiplierTest, productTest}
 use Rattle.chunk_grid.specs.Shapes.{given}
+use Rattle.chunk_grid.specs.Values.{placeOf}
 use Rattle.chunk_grid.specs.declared.GridOrder.{GridOrder}
 use Rattle.chunk_grid.proofs.Order.{front-nil}
 use Rattle.chunk_grid.proofs.Members.{multiplier-at}
@@ -40,19 +41,34 @@ ceil-over a b pos n =
     let s : a + (b - 1) ≡ (a / b + 1) * b + (a % b - 1) = omega arith in
     (rw s (sym (digits-div (a / b + 1) (omega arith))), omega arith)
 
--- the first unlimited dimension
-module _ (l : List ℕ) (i : ℕ) where
-  pub first-end : length l ≤ i → firstUnlimited (drop i l) ≡ 0
-  unfolding firstUnlimited
-  first-end h = rw (drop-of-length-le l {i = i} h) refl
+-- the first member that is v
+module _ (v : ℕ) (l : List ℕ) (i : ℕ) where
+  pub place-end : length l ≤ i → placeOf v (drop i l) ≡ 0
+  unfolding placeOf
+  place-end h = rw (drop-of-length-le l {i = i} h) refl
 
-  pub first-stop : i < length l → getD l i 0 ≡ largest64 → firstUnlimited (drop i l) ≡ 0
-  unfolding firstUnlimited
-  first-stop h e = rw (drop-cons l i 0 h, eq-eqb (getD l i 0) largest64 e) refl
+  pub place-stop : i < length l → getD l i 0 ≡ v → placeOf v (drop i l) ≡ 0
+  unfolding placeOf
+  place-stop h e = rw (drop-cons l i 0 h, eq-eqb (getD l i 0) v e) refl
 
-  pub first-on : i < length l → (getD l i 0 ≡ largest64 → ⊥) → firstUnlimited (drop i l) ≡ suc (firstUnlimited (drop (i + 1) l))
-  unfolding firstUnlimited
-  first-on h n = rw (drop-cons l i 0 h, ne-eqb (getD l i 0) largest64 n, add-one) refl
+  pub place-on : i < length l → (getD l i 0 ≡ v → ⊥) → placeOf v (drop i l) ≡ suc (placeOf v (drop (i + 1) l))
+  unfolding placeOf
+  place-on h n = rw (drop-cons l i 0 h, ne-eqb (getD l i 0) v n, add-one) refl
+
+-- the first unlimited dimension, and whether there is a 0
+pub place-unlimited : (l : List ℕ) → placeOf largest64 l ≡ firstUnlimited l
+unfolding placeOf firstUnlimited
+place-unlimited [] = refl
+place-unlimited (c ∷ l) = rw (place-unlimited l) refl
+
+pub place-zero : (l : List ℕ) → ltb (placeOf 0 l) (length l) ≡ hasZero l
+unfolding placeOf hasZero any
+place-zero [] = refl
+place-zero (c ∷ l) = go (eqb c 0) (place-zero l)
+  where
+    go : (t : Bool) → ltb (placeOf 0 l) (length l) ≡ hasZero l → ltb (cond t 0 (suc (placeOf 0 l))) (suc (length l)) ≡ t || hasZero l
+    go true e = lt-ltb 0 (suc (length l)) (omega arith)
+    go false e = leb·suc-suc (suc (placeOf 0 l)) (length l) ∙ e
 
 pub leads-first : (cs : List ℕ) → firstUnlimited cs < length cs → firstUnlimited cs ≡ leadingIn true cs
 unfolding leadingIn

@@ -6,6 +6,6 @@ pub mod Building
 pub mod Numbered
 pub mod Shapes
 pub mod Slots
-pub mod Tried
+pub mod Worked
 pub mod Chunks
 pub mod RefusalNumbers

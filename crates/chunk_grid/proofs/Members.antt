@@ -34,19 +34,6 @@ pub take-more : (l out : List ℕ) (i v : ℕ) → take i out ≡ take i l → i
 take-more l out i v e room inside is =
     rw add-one (take-suc-set out i v room ∙ rw (e, is) refl ∙ sym (take-suc l i 0 inside))
 
-module _ (p : ℕ → Bool) (l : List ℕ) (i : ℕ) where
-  pub any-end : length l ≤ i → any p (drop i l) ≡ false
-  unfolding any
-  any-end h = rw (drop-of-length-le l {i = i} h) refl
-
-  pub any-stop : i < length l → p (getD l i 0) ≡ true → any p (drop i l) ≡ true
-  unfolding any
-  any-stop h e = rw (drop-cons l i 0 h, e) refl
-
-  pub any-on : i < length l → p (getD l i 0) ≡ false → any p (drop i l) ≡ any p (drop (i + 1) l)
-  unfolding any
-  any-on h e = rw (drop-cons l i 0 h, e, add-one) refl
-
 module _ (p : ℕ → ℕ → Bool) (l m : List ℕ) (i : ℕ) where
   pub every-end : length l ≤ i → every p (drop i l) (drop i m) ≡ true
   unfolding every
@@ -55,9 +42,3 @@ module _ (p : ℕ → ℕ → Bool) (l m : List ℕ) (i : ℕ) where
   pub every-step : i < length l → i < length m → every p (drop i l) (drop i m) ≡ p (getD l i 0) (getD m i 0) && every p (drop (i + 1) l) (drop (i + 1) m)
   unfolding every
   every-step h k = rw (drop-cons l i 0 h, drop-cons m i 0 k, add-one) refl
-
-  pub every-stop : i < length l → i < length m → p (getD l i 0) (getD m i 0) ≡ false → every p (drop i l) (drop i m) ≡ false
-  every-stop h k e = every-step h k ∙ rw e refl
-
-  pub every-on : i < length l → i < length m → p (getD l i 0) (getD m i 0) ≡ true → every p (drop i l) (drop i m) ≡ every p (drop (i + 1) l) (drop (i + 1) m)
-  every-on h k e = every-step h k ∙ rw e refl

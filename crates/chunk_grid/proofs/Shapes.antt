@@ -58,9 +58,12 @@ stored-on vs l i v h e = rw (add-one, e, drop-cons vs i 0 h) refl
 pub stored-end : (vs l : List ℕ) (i : ℕ) → length vs ≤ i → l ≡ sets l i (drop i vs)
 stored-end vs l i h = rw (drop-of-length-le vs {i = i} h) refl
 
--- a shape that is stored at the beginning of a longer list, read again
-pub stored-shape : (rank : ℕ) (s l out : List ℕ) (n : ℕ) → rank ≤ 32 → 32 ≤ length l → n ≡ length (shapeOf rank s) → out ≡ sets l 0 (shapeOf rank s)
-    → (n ≤ length out) × (take n out ≡ shapeOf rank s) × (n ≡ length (take n out))
+-- A list that begins with a shape of n numbers.
+abbrev pub BeginsWith : ℕ → List ℕ → List ℕ → ℕ → Type 0
+BeginsWith rank s out n = (n ≤ length out) × (take n out ≡ shapeOf rank s) × (n ≡ length (take n out))
+
+-- a shape that is stored at the beginning of a longer list
+pub stored-shape : (rank : ℕ) (s l out : List ℕ) (n : ℕ) → rank ≤ 32 → 32 ≤ length l → n ≡ length (shapeOf rank s) → out ≡ sets l 0 (shapeOf rank s) → BeginsWith rank s out n
 stored-shape rank s l out n small room e f =
     let vs = shapeOf rank s in
     let h = shape-small rank s small in

@@ -107,7 +107,7 @@ offsets g s = fromFront (leading g) (pairwise _*_ (quotients s (multipliers (ord
 unfoldable pub overflows : List ℕ → Bool
 overflows l = any (ltb largest64) l
 
--- each lies below its fellow
+-- each lies below the number at its place in the second list
 unfoldable pub below : List ℕ → List ℕ → Bool
 below l m = every ltb l m
 

@@ -2,8 +2,8 @@
 use Prim.Native.Nat.{ℕ, zero, suc}
 use mathlib.Core.Path.{_≡_}
 use mathlib.Core.Bool.{Bool, false, not, cond}
-use mathlib.Core.List.{List, []}
-use lib.Dec.{ltb}
+use mathlib.Core.List.{List, [], _∷_}
+use lib.Dec.{ltb, eqb}
 use lib.ListN.{take, drop}
 use Rattle.refusal.specs.declared.Checked.{Checked}
 use Rattle.refusal.specs.declared.Checked.the-variants.{Passed, Refused}
@@ -22,6 +22,11 @@ gridOf k =
 unfoldable pub whereTested : Checked → Grid → Grid
 whereTested Passed g = g
 whereTested (Refused r) g = given 0 [] [] false [] RowMajor
+
+-- the place of the first member that is v; the list's length where there is none
+unfoldable pub placeOf : ℕ → List ℕ → ℕ
+placeOf v [] = 0
+placeOf v (c ∷ cs) = cond (eqb c v) 0 (suc (placeOf v cs))
 
 -- the dimension at place i of the grid's order
 unfoldable pub dimAt : ℕ → ℕ → ℕ

@@ -10,7 +10,7 @@ ghost use Rattle.chunk_grid.specs.declared.Offsets.the-variants.{Inside}
 ghost use Rattle.chunk_grid.specs.Grid.{pairwise, ceilDiv, countOf, firstUnlimited, leadingIn, toFront, multipliers, hasZero};
 ghost use Rattle.chunk_grid.specs.Grid.{shapesTest, multiplierTest, productTest, gridTest};
 ghost use Rattle.chunk_grid.specs.Shapes.{isUnlimitedFirst, given, shapeOf, givenBytes};
-ghost use Rattle.chunk_grid.specs.Values.{gridOf, whereTested, dimAt, numberingTest, Made, Numbers, Counted, Extents};
+ghost use Rattle.chunk_grid.specs.Values.{gridOf, whereTested, placeOf, dimAt, numberingTest, Made, Numbers, Counted, Extents};
 use fields::bytes::read_u64_le;
 use fields::convert::Exact;
 use fields::convert::checked_mul;
@@ -117,11 +117,7 @@ impl ChunkGrid {
         ensures grid { λ r. ⌜ gridOf (r .grid) ≡ whereTested (r .checked) (givenBytes rank (now (chunk .entry)) (now (present .entry)) «has_maximum» (now (maximum .entry)) order) ⌝ }
     {
         if 32 < rank {
-            return refused_grid(Refusal {
-                number: Refusal::RANK,
-                first: 0,
-                second: 0,
-            });
+            return refused_grid(Refusal::plain(Refusal::RANK));
         }
         let mut lengths = [0u64; 32];
         let mut extents = [0u64; 32];
@@ -191,6 +187,7 @@ pub fn read_shape(shape: &mut [u64], rank: u64, bytes: &[u8]) -> u64
         return 0;
     }
     let mut i = 0;
+    // The first i numbers are read.
     while i < n {
         shape[i] = read_u64_le(bytes, 8 * i);
         i += 1;
@@ -202,11 +199,7 @@ pub fn read_shape(shape: &mut [u64], rank: u64, bytes: &[u8]) -> u64
 pub fn refused(number: u64) -> Checked
     ensures { λ r. ⌜ r ≡ Refused (record { number = number; first = 0; second = 0 }) ⌝ }
 {
-    Checked::Refused(Refusal {
-        number,
-        first: 0,
-        second: 0,
-    })
+    Checked::Refused(Refusal::plain(number))
 }
 
 fn refused_grid(r: Refusal) -> Built
@@ -280,6 +273,7 @@ fn padded(s: &[u64]) -> [u64; 32]
 {
     let mut r = [0u64; 32];
     let mut i = 0;
+    // The first i members of r are those of s.
     while i < 32 {
         if s.len() <= i {
             return r;
@@ -290,17 +284,25 @@ fn padded(s: &[u64]) -> [u64; 32]
     r
 }
 
-fn has_zero(s: &[u64]) -> bool
-    ensures { λ r. ⌜ r ≡ hasZero (now (s .entry)) ⌝ }
+// The place of the first member of s that is `value`; the length of s where there is none.
+fn place_of(s: &[u64], value: u64) -> usize
+    ensures { λ r. ⌜ r ≡ placeOf value (now (s .entry)) ⌝ }
 {
     let mut i = 0;
+    // No member before place i is `value`.
     while i < s.len() {
-        if s[i] == 0 {
-            return true;
+        if s[i] == value {
+            return i;
         }
         i += 1;
     }
-    false
+    i
+}
+
+fn has_zero(s: &[u64]) -> bool
+    ensures { λ r. ⌜ r ≡ hasZero (now (s .entry)) ⌝ }
+{
+    place_of(s, 0) < s.len()
 }
 
 // a / b, rounded up.
@@ -329,6 +331,7 @@ fn counts_of(counts: &mut [u64], bound: &mut [u64], limits: &[u64], present: &[u
     ensures { λ _. ⌜ (now (counts .exit) ≡ pairwise countOf (now (limits .entry)) (now (chunk .entry))) × (now (bound .exit) ≡ pairwise ceilDiv (now (present .entry)) (now (chunk .entry))) ⌝ }
 {
     let mut i = 0;
+    // The first i dimensions' numbers are stored.
     while i < chunk.len() {
         let length = chunk[i];
         counts[i] = count_of(limits[i], length);
@@ -341,14 +344,7 @@ fn counts_of(counts: &mut [u64], bound: &mut [u64], limits: &[u64], present: &[u
 fn first_unlimited(counts: &[u64]) -> usize
     ensures { λ r. ⌜ r ≡ firstUnlimited (now (counts .entry)) ⌝ }
 {
-    let mut i = 0;
-    while i < counts.len() {
-        if counts[i] == u64::MAX {
-            return i;
-        }
-        i += 1;
-    }
-    i
+    place_of(counts, u64::MAX)
 }
 
 // The dimension in front of the grid's order.
@@ -385,6 +381,7 @@ fn multipliers_of(down: &mut [u64], counts: &[u64], rotated: usize) -> Multiplie
         };
     }
     down[i - 1] = 1;
+    // The multipliers from place i - 1 on are stored; `numbers` says whether the counts from place i on are all above 0.
     while 1 < i {
         i -= 1;
         let count = counts[dim_at(i, rotated)];
@@ -415,6 +412,7 @@ fn product_test(counts: &[u64]) -> Checked
 {
     let mut product = 1u64;
     let mut i = 0;
+    // The product of the first i counts, none of them unlimited, fits 64 bits.
     while i < counts.len() {
         let count = counts[i];
         if count == u64::MAX {

@@ -153,7 +153,7 @@ module _ (qs cs ms : List ℕ) where
     unfolding onward
     next-place h = rw (below-on h, ← rest-is) refl
 
-  pub last-place : (i slot : ℕ) → length qs ≤ i → slot ≤ largest64 → At slot ≡ onward i slot
+  last-place : (i slot : ℕ) → length qs ≤ i → slot ≤ largest64 → At slot ≡ onward i slot
   unfolding onward total pairwise below every
   last-place i slot h fits =
       rw (drop-of-length-le qs {i = i} h, drop-of-length-le qs {i = max i 1} (omega arith), add-zero, le-leb slot largest64 fits) refl
@@ -177,7 +177,7 @@ module _ (g : Grid) (corner : List ℕ) (u : ℕ) (chunk counts down : List ℕ)
   same : length (toFront u corner) ≡ length (inOrder (length corner) u chunk)
   same = size ∙ sym (length-order (length corner) u chunk (leads g (length corner) u chunk down n) (rooms g (length corner) u chunk down n .0))
 
-  pub length-corner : length (cornerQuotients u corner chunk) ≡ length corner
+  length-corner : length (cornerQuotients u corner chunk) ≡ length corner
   length-corner = length-pairwise _/_ _ _ same ∙ size
 
   pub corner-at : (i : ℕ) → i < length corner → getD (cornerQuotients u corner chunk) i 0 ≡ getD corner (dimAt u i) 0 / getD chunk (dimAt u i) 0
@@ -223,6 +223,10 @@ module _ (g : Grid) (corner : List ℕ) (u : ℕ) (chunk counts down : List ℕ)
 
     pub one-more : (0 < i → quotient < getD counts (dimAt u i) 0) → onward Q C M (i + 1) (slot + quotient * getD down i 0) ≡ onward Q C M i slot
     one-more lt = rw (← corner-at i h, ← down-at) (next-place Q C M i slot hq hc hm (rw (count-at, corner-at i h) lt))
+
+  -- behind the last place
+  pub past-places : (i slot : ℕ) → length corner ≤ i → slot ≤ largest64 → At slot ≡ onward (cornerQuotients u corner chunk) (inOrder (length corner) u counts) (take (length corner) down) i slot
+  past-places i slot h fits = last-place _ _ _ i slot (rw length-corner h) fits
 
   counts-are : inOrder (length corner) u counts ≡ ordered g
   unfolding ordered

@@ -43,6 +43,7 @@ pub fn corner_test(grid: ChunkGrid, corner: &[u64]) -> Checked
     let chunk = grid.chunk;
     let present = grid.present;
     let mut i = 0;
+    // The first i members are multiples of the chunk's lengths, below the present extents.
     while i < corner.len() {
         if corner[i] % chunk[i] != 0 {
             return refused(Refusal::CORNER);
@@ -107,16 +108,13 @@ pub fn offsets_in_extent(
         → (r ≡ inExtent g slot) × (now (offsets .exit) ≡ handed g slot (now (offsets .entry)))) ⌝ }
 {
     if !numbers {
-        return Offsets::Refused(Refusal {
-            number: Refusal::NUMBERS_NOTHING,
-            first: 0,
-            second: 0,
-        });
+        return Offsets::Refused(Refusal::plain(Refusal::NUMBERS_NOTHING));
     }
     let mut rest = slot;
     let mut inside = true;
     let mut over = false;
     let mut i = 0;
+    // The first i places' offsets are stored; `inside` and `over` speak of these places, and `rest` is what is left of the slot.
     while i < rank {
         let d = dim_at(i, rotated);
         let multiplier = down[i];
@@ -130,11 +128,7 @@ pub fn offsets_in_extent(
         i += 1;
     }
     if over {
-        return Offsets::Refused(Refusal {
-            number: Refusal::OFFSET_OVERFLOW,
-            first: 0,
-            second: 0,
-        });
+        return Offsets::Refused(Refusal::plain(Refusal::OFFSET_OVERFLOW));
     }
     if inside {
         Offsets::Inside
@@ -165,6 +159,7 @@ pub fn line_from(
     let mut slots = u64::MAX;
     let mut rest = slot;
     let mut i = 0;
+    // The first i places have the same quotients for `slots` slots, and no multiplier 1; `rest` is what is left of the slot.
     while i < rank {
         let multiplier = down[i];
         if multiplier == 1 {
@@ -206,6 +201,7 @@ pub fn all_inside(
     }
     let mut rests = n;
     let mut i = 0;
+    // At the first i places all quotients lie below their bounds, and the rests that they leave lie below `rests`.
     while i < rank {
         let d = dim_at(i, rotated);
         let multiplier = down[i];
@@ -232,6 +228,7 @@ pub fn slot_of(
 {
     let mut slot = 0u64;
     let mut i = 0;
+    // `slot` is the sum over the first i places, whose quotients lie below their counts, the leading one's aside.
     while i < corner.len() {
         let d = dim_at(i, rotated);
         let q = corner[d] / chunk[d];

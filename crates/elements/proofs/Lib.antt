@@ -7,3 +7,4 @@ pub mod Turns
 pub mod Pages
 pub mod ChunkBytes
 pub mod Numbered
+pub mod Readers

@@ -13,8 +13,8 @@ use Rattle.refusal.specs.declared.Checked.the-variants.{Passed, Refused}
 use Rattle.refusal.specs.Refusals.{figure, largest64}
 use Rattle.fields.specs.declared.bytes.Field.the-variants.{Value, Refused as FieldRefused}
 use Rattle.fields.specs.declared.bytes.OptionalOffset.the-variants.{Undefined, At, Refused as OptionalRefused}
-use Rattle.fields.specs.Fields.{isWidth, widthTest, inFile, undefined}
-use Rattle.fields.specs.Values.{fieldTest, sizeFieldTest, fieldAfter, optionalAfter}
+use Rattle.fields.specs.Fields.{isWidth, widthTest, inFile, undefined, addressAt, undefinedAt}
+use Rattle.fields.specs.Values.{fieldTest, sizeFieldTest, fieldAfter, optionalAfter, offsetField, optionalOffsetField}
 use Rattle.refusal.proofs.Tests.{lt-or-ge, refuse-false, refuse-true, refuse-inv, then-second, then-first, then-inv}
 
 module _ (s : List ℕ) (pos len : ℕ) where
@@ -72,11 +72,11 @@ module _ (t : Checked) (n : ℕ) where
 pub value-is : (t : Checked) (n v : ℕ) → Value v ≡ fieldAfter t n → (Passed ≡ t) × (v ≡ n)
 unfolding fieldAfter
 value-is Passed n v h = (refl, cc)
-value-is (Refused r) n v h = let z : _≡_ {A = ℕ} 0 1 = cc in absurd (omega arith)
+value-is (Refused r) n v h = (cc, cc)
 
 pub refused-is : (t : Checked) (n : ℕ) (r : Refusal) → FieldRefused r ≡ fieldAfter t n → Refused r ≡ t
 unfolding fieldAfter
-refused-is Passed n r h = let z : _≡_ {A = ℕ} 0 1 = cc in absurd (omega arith)
+refused-is Passed n r h = cc
 refused-is (Refused q) n r h = cc
 
 module _ (t : Checked) (b : Bool) (a : ℕ) where
@@ -92,23 +92,23 @@ module _ (t : Checked) (b : Bool) (a : ℕ) where
   unfolding optionalAfter
   optional-refused e = ap (λ (x : Checked). optionalAfter x b a) e
 
-pub undefined-is : (t : Checked) (b : Bool) (a : ℕ) → Undefined ≡ optionalAfter t b a → (Passed ≡ t) × (b ≡ true)
-unfolding optionalAfter
-undefined-is Passed true a h = (refl, refl)
-undefined-is Passed false a h = let z : _≡_ {A = ℕ} 0 1 = cc in absurd (omega arith)
-undefined-is (Refused r) b a h = let z : _≡_ {A = ℕ} 0 1 = cc in absurd (omega arith)
+-- an address that may be undefined, from the address that is read
+module _ (s : List ℕ) (pos o : ℕ) where
+  pub offset-undefined : (v : ℕ) → Value v ≡ offsetField s pos o → undefined o v ≡ true → Undefined ≡ optionalOffsetField s pos o
+  unfolding offsetField optionalOffsetField undefinedAt
+  offset-undefined v e u =
+      let i = value-is (fieldTest 1 s pos o) (addressAt s pos o) v e in
+      undefined-after _ _ _ (i .0) (rw (i .1) at u)
 
-pub at-is : (t : Checked) (b : Bool) (a v : ℕ) → At v ≡ optionalAfter t b a → (Passed ≡ t) × (b ≡ false) × (v ≡ a)
-unfolding optionalAfter
-at-is Passed true a v h = let z : _≡_ {A = ℕ} 0 1 = cc in absurd (omega arith)
-at-is Passed false a v h = (refl, refl, cc)
-at-is (Refused r) b a v h = let z : _≡_ {A = ℕ} 0 1 = cc in absurd (omega arith)
+  pub offset-defined : (v : ℕ) → Value v ≡ offsetField s pos o → undefined o v ≡ false → At v ≡ optionalOffsetField s pos o
+  unfolding offsetField optionalOffsetField undefinedAt
+  offset-defined v e u =
+      let i = value-is (fieldTest 1 s pos o) (addressAt s pos o) v e in
+      rw (i .1) (at-after _ _ _ (i .0) (rw (i .1) at u))
 
-pub optional-refused-is : (t : Checked) (b : Bool) (a : ℕ) (r : Refusal) → OptionalRefused r ≡ optionalAfter t b a → Refused r ≡ t
-unfolding optionalAfter
-optional-refused-is Passed true a r h = let z : _≡_ {A = ℕ} 0 1 = cc in absurd (omega arith)
-optional-refused-is Passed false a r h = let z : _≡_ {A = ℕ} 0 1 = cc in absurd (omega arith)
-optional-refused-is (Refused q) b a r h = cc
+  pub offset-refused : (r : Refusal) → FieldRefused r ≡ offsetField s pos o → OptionalRefused r ≡ optionalOffsetField s pos o
+  unfolding offsetField optionalOffsetField
+  offset-refused r e = optional-refused _ _ _ (refused-is (fieldTest 1 s pos o) (addressAt s pos o) r e)
 
 -- another width has no undefined address
 pub no-undefined : (o a : ℕ) → isWidth o ≡ false → false ≡ undefined o a

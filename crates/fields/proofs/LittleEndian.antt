@@ -1,5 +1,5 @@
--- Laws of the little-endian number in a part of a byte string.
-use mathlib.Core.Path.{_≡_}
+-- Laws of the little-endian number in a part of a byte string. Assumes nothing.
+use mathlib.Core.Path.{_≡_, sym}
 use mathlib.Core.List.{List}
 use Prim.Native.Nat.{ℕ, zero, suc, _+_, _*_, _^_, _<_, _≤_, _-_}
 use native.Mathlib.Nat.{mul-suc, zero-add, sub-self, sub-zero, add-zero}
@@ -29,6 +29,10 @@ le-add (suc v) w s pos h =
     let e : pos + suc v ≡ suc pos + v = omega arith in
     let f : suc v + w ≡ suc (v + w) = omega arith in
     rw (f, e, bits-suc v) (omega (arith, le-cons s pos (v + w) inside, le-cons s pos v inside, le-add v w s (suc pos) (omega arith)))
+
+-- a number of v bytes from pos on, and one of as many above it
+pub halves : (v : ℕ) (s : List ℕ) (pos low high : ℕ) → pos + v ≤ length s → low ≡ leAt s pos v → high ≡ leAt s (pos + v) v → low + 2 ^ (8 * v) * high ≡ leAt s pos (v + v)
+halves v s pos low high h e d = rw (e, d) (sym (le-add v v s pos h))
 
 -- one byte
 pub le-one : (s : List ℕ) (pos : ℕ) → pos < length s → leAt s pos 1 ≡ getD s pos 0

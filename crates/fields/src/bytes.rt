@@ -96,16 +96,15 @@ pub fn read_offset(s: &[u8], pos: u64, width: u64) -> Field
 pub fn read_optional_offset(s: &[u8], pos: u64, width: u64) -> OptionalOffset
     ensures { λ r. ⌜ r ≡ optionalOffsetField (now (s .entry)) pos width ⌝ }
 {
-    match ensure_field(s, pos, width, Refusal::OFFSET_SIZE) {
-        Checked::Passed => {
-            let a = read_address(s, pos as usize, width as usize);
-            if is_undefined_addr(a, width) {
+    match read_offset(s, pos, width) {
+        Field::Value(value) => {
+            if is_undefined_addr(Address { value }, width) {
                 OptionalOffset::Undefined
             } else {
-                OptionalOffset::At(a.value)
+                OptionalOffset::At(value)
             }
         }
-        Checked::Refused(r) => OptionalOffset::Refused(r),
+        Field::Refused(r) => OptionalOffset::Refused(r),
     }
 }
 
@@ -124,11 +123,7 @@ pub fn read_variable_length(s: &[u8], pos: u64, width: u64) -> Field
     ensures { λ r. ⌜ r ≡ sizeField (now (s .entry)) pos width ⌝ }
 {
     if 8 < width {
-        return Field::Refused(Refusal {
-            number: Refusal::SIZE_FIELD,
-            first: 0,
-            second: 0,
-        });
+        return Field::Refused(Refusal::plain(Refusal::SIZE_FIELD));
     }
     match ensure_len(s, pos, width) {
         Checked::Passed => Field::Value(read_le(s, pos as usize, width as usize)),
@@ -172,6 +167,7 @@ fn read_le_bytes(s: &[u8], pos: usize, width: usize) -> u64
 {
     let mut v = 0u64;
     let mut i = width;
+    // v is the number in the bytes from pos + i to pos + width.
     while 0 < i {
         i -= 1;
         v = v * 256 + wide(s[pos + i]);
@@ -229,6 +225,7 @@ pub fn put_le(s: &mut [u8], pos: usize, width: usize, value: u64)
 {
     let mut rest = value;
     let mut i = 0;
+    // The lowest i bytes are stored, and `rest` is the number without them.
     while i < width {
         s[pos + i] = (rest % 256) as u8;
         rest = rest / 256;

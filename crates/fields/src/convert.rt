@@ -1,6 +1,6 @@
 // Sums, products and numbers that may not fit their type.
 ghost use mathlib.Core.Path.{_≡_};
-ghost use Prim.Native.Nat.{_+_, _*_};
+ghost use Prim.Native.Nat.{ℕ, _+_, _*_};
 ghost use Rattle.refusal.specs.Refusals.{figure};
 ghost use Rattle.fields.specs.Values.{exact, narrowed};
 use refusal::Refusal;
@@ -40,24 +40,26 @@ pub fn checked_mul(a: u64, b: u64) -> Exact
     }
 }
 
-// a + b, or 2^64 - 1 where it is past that.
-pub fn saturating_add(a: u64, b: u64) -> u64
-    ensures { λ r. ⌜ r ≡ figure (a + b) ⌝ }
+// The sum or product, or 2^64 - 1 where it is past that.
+fn saturated(e: Exact) -> u64
+    ensures { λ r. ⌜ ((n : ℕ) → e ≡ exact n → r ≡ figure n) ⌝ }
 {
-    match checked_add(a, b) {
+    match e {
         Exact::Fits(n) => n,
         Exact::Overflows => u64::MAX,
     }
 }
 
-// a * b, or 2^64 - 1 where it is past that.
+pub fn saturating_add(a: u64, b: u64) -> u64
+    ensures { λ r. ⌜ r ≡ figure (a + b) ⌝ }
+{
+    saturated(checked_add(a, b))
+}
+
 pub fn saturating_mul(a: u64, b: u64) -> u64
     ensures { λ r. ⌜ r ≡ figure (a * b) ⌝ }
 {
-    match checked_mul(a, b) {
-        Exact::Fits(n) => n,
-        Exact::Overflows => u64::MAX,
-    }
+    saturated(checked_mul(a, b))
 }
 
 // The value in 32 bits: over 2^32 - 1 it is 30.

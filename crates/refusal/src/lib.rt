@@ -106,11 +106,7 @@ impl Checked {
         ensures { λ r. ⌜ r ≡ refusalOf self ⌝ }
     {
         match self {
-            Checked::Passed => Refusal {
-                number: 0,
-                first: 0,
-                second: 0,
-            },
+            Checked::Passed => Refusal::plain(0),
             Checked::Refused(r) => r,
         }
     }

@@ -8,15 +8,6 @@ use Rattle.checksum.proofs.compared.Tie as tie
 returns : tie.Need-returns
 returns c = short lookup3 (c .before .before .args .block .now) (c .if1 .taken)
 
-sub-read-u32-le : tie.Need-sub-read-u32-le
-sub-read-u32-le c = search needs
-
-read-u32-le-requires : tie.Need-read-u32-le-requires
-read-u32-le-requires c κs = search needs
-
-cast-stored : tie.Need-cast-stored
-cast-stored c = search needs
-
 returns-2 : tie.Need-returns-2
 returns-2 c =
     same lookup3 _ _ _ (c .before .read-u32-le .ensures) (c .before .before .before .before .pre) (c .before .before .if1 .left) (c .if2 .taken)
@@ -26,6 +17,4 @@ returns-3 c =
     other lookup3 _ _ _ (c .before .read-u32-le .ensures) (c .before .before .before .before .pre) (c .before .before .if1 .left) (c .if2 .left)
 
 pub compared-spec : {M : Type 1} → statement M
-compared-spec =
-    tie.close
-    (tie.spec returns sub-read-u32-le read-u32-le-requires cast-stored returns-2 returns-3)
+compared-spec = tie.close (tie.spec returns (search needs) (search needs) (search needs) returns-2 returns-3)

@@ -10,16 +10,10 @@ use borrow.Author.Needs.{needs}
 use Rattle.checksum.proofs.hashlittle.Statement.{statement}
 use Rattle.checksum.proofs.hashlittle.Tie as tie
 
-start-requires : tie.Need-start-requires
-start-requires c κs = search needs
-
 returns : tie.Need-returns
 returns c =
     let a = c .before .before .before .args in
     ap (λ (w : Words). w .c) (c .before .start .ensures) ∙ of-none (a .s .now) (a .initval) (c .if1 .taken)
-
-hash-from-requires : tie.Need-hash-from-requires
-hash-from-requires c κs = search needs
 
 returns-2 : tie.Need-returns-2
 returns-2 c =
@@ -28,4 +22,4 @@ returns-2 c =
     c .hash-from .ensures ∙ ap (λ (w : Words). blocks ((length s - 1) / 12) w s) (c .before .before .start .ensures) ∙ begun s (a .initval) (omega arith)
 
 pub hashlittle-spec : {M : Type 1} → statement M
-hashlittle-spec = tie.close (tie.spec start-requires returns hash-from-requires returns-2)
+hashlittle-spec = tie.close (tie.spec (search needs) returns (search needs) returns-2)

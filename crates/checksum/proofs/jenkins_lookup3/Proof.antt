@@ -4,12 +4,9 @@ use borrow.Author.Needs.{needs}
 use Rattle.checksum.proofs.jenkins_lookup3.Statement.{statement}
 use Rattle.checksum.proofs.jenkins_lookup3.Tie as tie
 
-hashlittle-requires : tie.Need-hashlittle-requires
-hashlittle-requires c κs = search needs
-
 returns : tie.Need-returns
 unfolding lookup3
 returns c = search needs
 
 pub jenkins-lookup3-spec : {M : Type 1} → statement M
-jenkins-lookup3-spec = tie.close (tie.spec hashlittle-requires returns)
+jenkins-lookup3-spec = tie.close (tie.spec (search needs) returns)

@@ -7,21 +7,10 @@ use borrow.Author.Needs.{needs}
 use Rattle.checksum.proofs.start.Statement.{statement}
 use Rattle.checksum.proofs.start.Tie as tie
 
-cast-wrapping-add-u32 : tie.Need-cast-wrapping-add-u32
-cast-wrapping-add-u32 c = search needs
-
-wrapping-add-u32-requires : tie.Need-wrapping-add-u32-requires
-wrapping-add-u32-requires c κs = search needs
-
-wrapping-add-u32-requires-2 : tie.Need-wrapping-add-u32-requires-2
-wrapping-add-u32-requires-2 c κs = search needs
-
 returns : tie.Need-returns
 returns c =
     let a = c .before .before .args in
     ap seeded (c .wrapping-add-u322 .ensures ∙ ap (λ (x : ℕ). (x + a .initval) % 2 ^ 32) (c .before .wrapping-add-u32 .ensures) ∙ seed-mod (a .n) (a .initval))
 
 pub start-spec : {M : Type 1} → statement M
-start-spec =
-    tie.close
-    (tie.spec cast-wrapping-add-u32 wrapping-add-u32-requires wrapping-add-u32-requires-2 returns)
+start-spec = tie.close (tie.spec (search needs) (search needs) (search needs) returns)

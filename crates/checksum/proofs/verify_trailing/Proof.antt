@@ -5,18 +5,8 @@ use borrow.Author.Needs.{needs}
 use Rattle.checksum.proofs.verify_trailing.Statement.{statement}
 use Rattle.checksum.proofs.verify_trailing.Tie as tie
 
-body-requires : tie.Need-body-requires
-body-requires c κs = search needs
-
-jenkins-lookup3-requires : tie.Need-jenkins-lookup3-requires
-jenkins-lookup3-requires c κs = search needs
-
 compared-requires : tie.Need-compared-requires
 compared-requires c κs = c .jenkins-lookup3 .ensures ∙ ap lookup3 (c .before .body .ensures)
 
-returns : tie.Need-returns
-returns c = search needs
-
 pub verify-trailing-spec : {M : Type 1} → statement M
-verify-trailing-spec =
-    tie.close (tie.spec body-requires jenkins-lookup3-requires compared-requires returns)
+verify-trailing-spec = tie.close (tie.spec (search needs) (search needs) compared-requires (λ c. search needs))

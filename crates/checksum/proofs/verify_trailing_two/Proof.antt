@@ -7,15 +7,6 @@ use borrow.Author.Needs.{needs}
 use Rattle.checksum.proofs.verify_trailing_two.Statement.{statement}
 use Rattle.checksum.proofs.verify_trailing_two.Tie as tie
 
-body-requires : tie.Need-body-requires
-body-requires c κs = search needs
-
-body-requires-2 : tie.Need-body-requires-2
-body-requires-2 c κs = search needs
-
-hashlittle-two-requires : tie.Need-hashlittle-two-requires
-hashlittle-two-requires c κs = search needs
-
 compared-requires : tie.Need-compared-requires
 unfolding lookup3
 compared-requires c κs = c .hashlittle-two .ensures .0 ∙ ap (λ (s : List ℕ). hashlittle s 0) (c .before .before .body .ensures)
@@ -24,16 +15,8 @@ compared-requires-2 : tie.Need-compared-requires-2
 unfolding lookup3
 compared-requires-2 c κs = c .before .hashlittle-two .ensures .1 ∙ ap (λ (s : List ℕ). hashlittle s 0) (c .before .before .body2 .ensures)
 
-returns : tie.Need-returns
-returns c = search needs
-
 pub verify-trailing-two-spec : {M : Type 1} → statement M
 verify-trailing-two-spec =
     tie.close
-    (tie.spec
-    body-requires
-    body-requires-2
-    hashlittle-two-requires
-    compared-requires
-    compared-requires-2
-    returns)
+    (tie.spec (search needs) (search needs) (search needs) compared-requires compared-requires-2
+    (λ c. search needs))

@@ -4,12 +4,6 @@ use Rattle.refusal.specs.Refusals.{_then_}
 use Rattle.chunk_grid.proofs.and_then.Statement.{statement}
 use Rattle.chunk_grid.proofs.and_then.Tie as tie
 
-enum-told : tie.Need-enum-told
-enum-told c = search needs
-
-enum-known-first : tie.Need-enum-known-first
-enum-known-first c = search needs
-
 returns : tie.Need-returns
 unfolding _then_
 returns c = rw (c .enum-told .given .1)
@@ -19,4 +13,4 @@ unfolding _then_
 returns-2 c = rw (c .before .first .given .1)
 
 pub and-then-spec : {M : Type 1} → statement M
-and-then-spec = tie.close (tie.spec enum-told enum-known-first returns returns-2)
+and-then-spec = tie.close (tie.spec (search needs) (search needs) returns returns-2)

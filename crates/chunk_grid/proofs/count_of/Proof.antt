@@ -6,9 +6,6 @@ use borrow.Author.Needs.{needs}
 use Rattle.chunk_grid.proofs.count_of.Statement.{statement}
 use Rattle.chunk_grid.proofs.count_of.Tie as tie
 
-ceil-div-requires : tie.Need-ceil-div-requires
-ceil-div-requires c κs = search needs
-
 returns : tie.Need-returns
 unfolding countOf
 returns c = simp (eq-eqb (c .before .args .extent) largest64 (c .if1 .taken))
@@ -18,4 +15,4 @@ unfolding countOf
 returns-2 c = simp (ne-eqb (c .before .before .args .extent) largest64 (c .before .if1 .left)) (c .ceil-div .ensures)
 
 pub count-of-spec : {M : Type 1} → statement M
-count-of-spec = tie.close (tie.spec ceil-div-requires returns returns-2)
+count-of-spec = tie.close (tie.spec (search needs) returns returns-2)

@@ -23,53 +23,14 @@ abbrev μ-loop : tie.MeasureT-loop
 μ-loop counts₀ bound₀ limits present chunk i₀ counts bound i =
     length chunk - i
 
-loop-holds : tie.Need-loop-holds Inv-loop μ-loop
-loop-holds c = search needs
-
-mul-length : tie.Need-mul-length Inv-loop μ-loop
-mul-length c = search needs
-
-shared-slice-read-length : tie.Need-shared-slice-read-length Inv-loop μ-loop
-shared-slice-read-length c = search needs
-
-mul-count-of : tie.Need-mul-count-of Inv-loop μ-loop
-mul-count-of c = search needs
-
-shared-slice-read-count-of : tie.Need-shared-slice-read-count-of Inv-loop μ-loop
-shared-slice-read-count-of c = search needs
-
 count-of-requires : tie.Need-count-of-requires Inv-loop μ-loop
 unfolding hasZero
 count-of-requires c κs =
     let a = c .before .before .before .before .before .before .before .before .before in
     pos-of-ne-zero (eqb-false _ 0 (any-at (λ (n : ℕ). eqb n 0) (a .args .chunk .now) _ (a .pre .4) (c .before .before .loop-test .taken)))
 
-mul-counts : tie.Need-mul-counts Inv-loop μ-loop
-mul-counts c = search needs
-
-slice-write-counts : tie.Need-slice-write-counts Inv-loop μ-loop
-slice-write-counts c = search needs
-
-mul-ceil-div : tie.Need-mul-ceil-div Inv-loop μ-loop
-mul-ceil-div c = search needs
-
-shared-slice-read-ceil-div : tie.Need-shared-slice-read-ceil-div Inv-loop μ-loop
-shared-slice-read-ceil-div c = search needs
-
 ceil-div-requires : tie.Need-ceil-div-requires Inv-loop μ-loop
 ceil-div-requires c κs = count-of-requires (c .before .before) κs
-
-mul-bound : tie.Need-mul-bound Inv-loop μ-loop
-mul-bound c = search needs
-
-slice-write-bound : tie.Need-slice-write-bound Inv-loop μ-loop
-slice-write-bound c = search needs
-
-add-i : tie.Need-add-i Inv-loop μ-loop
-add-i c = search needs
-
-loop-less : tie.Need-loop-less Inv-loop μ-loop
-loop-less c = search needs
 
 loop-again : tie.Need-loop-again Inv-loop μ-loop
 loop-again c =
@@ -85,12 +46,6 @@ loop-again c =
       take-more (pairwise ceilDiv y z) (l .bound) (l .i) _ (l .inv .4) (omega arith) (omega (arith, length-pairwise ceilDiv y z (s .pre .3))) (c .ceil-div .ensures ∙ sym (getD-pairwise ceilDiv y z (l .i) (s .pre .3) (omega arith))),
     )
 
-same-length : tie.Need-same-length Inv-loop μ-loop
-same-length c = search needs
-
-same-length-2 : tie.Need-same-length-2 Inv-loop μ-loop
-same-length-2 c = search needs
-
 returns : tie.Need-returns Inv-loop μ-loop
 returns c =
     let l = c .before .loop in
@@ -105,25 +60,6 @@ returns c =
 pub counts-of-spec : {M : Type 1} → statement M
 counts-of-spec =
     tie.close
-    (tie.spec
-    Inv-loop
-    μ-loop
-    loop-holds
-    mul-length
-    shared-slice-read-length
-    mul-count-of
-    shared-slice-read-count-of
-    count-of-requires
-    mul-counts
-    slice-write-counts
-    mul-ceil-div
-    shared-slice-read-ceil-div
-    ceil-div-requires
-    mul-bound
-    slice-write-bound
-    add-i
-    loop-less
-    loop-again
-    same-length
-    same-length-2
-    returns)
+    (tie.spec Inv-loop μ-loop (λ c. search needs) (search needs) (search needs) (search needs) (search needs)
+    count-of-requires (search needs) (search needs) (search needs) (search needs) ceil-div-requires
+    (search needs) (search needs) (search needs) (search needs) loop-again (search needs) (search needs) returns)

@@ -11,9 +11,6 @@ use Rattle.chunk_grid.proofs.dim_at.Tie as tie
 returns : tie.Need-returns
 returns c = rw (c .if1 .taken) (sym (dim-zero _))
 
-sub-result : tie.Need-sub-result
-sub-result c = search needs
-
 returns-2 : tie.Need-returns-2
 returns-2 c =
     let a = c .before .before .args in
@@ -27,4 +24,4 @@ returns-3 c =
     e ∙ sym (ap (dimAt (a .rotated)) e ∙ dim-high (a .rotated) (a .i - 1) (omega arith))
 
 pub dim-at-spec : {M : Type 1} → statement M
-dim-at-spec = tie.close (tie.spec returns sub-result returns-2 returns-3)
+dim-at-spec = tie.close (tie.spec returns (search needs) returns-2 returns-3)

@@ -6,15 +6,6 @@ use borrow.Author.Needs.{needs}
 use Rattle.chunk_grid.proofs.leading.Statement.{statement}
 use Rattle.chunk_grid.proofs.leading.Tie as tie
 
-enum-told : tie.Need-enum-told
-enum-told c = search needs
-
-enum-told-2 : tie.Need-enum-told-2
-enum-told-2 c = search needs
-
-first-unlimited-requires : tie.Need-first-unlimited-requires
-first-unlimited-requires c κs = search needs
-
 returns : tie.Need-returns
 unfolding leadingIn isUnlimitedFirst
 returns c = rw (c .enum-told .given .1)
@@ -28,5 +19,4 @@ unfolding isUnlimitedFirst
 returns-3 c = rw (c .before .before .enum-told2 .given .1) (leads-none _ (rw (← c .before .first-unlimited .ensures) (c .if1 .left)))
 
 pub leading-spec : {M : Type 1} → statement M
-leading-spec =
-    tie.close (tie.spec enum-told enum-told-2 first-unlimited-requires returns returns-2 returns-3)
+leading-spec = tie.close (tie.spec (search needs) (search needs) (search needs) returns returns-2 returns-3)

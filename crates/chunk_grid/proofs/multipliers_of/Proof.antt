@@ -48,35 +48,17 @@ returns c =
     let m = made-empty (s .args .rotated) (s .args .counts .now) (s .args .down .now) (c .if1 .taken) (s .pre .0) in
     (m .0, λ p. (m .1, m .2))
 
-sub-down : tie.Need-sub-down Inv-loop μ-loop
-sub-down c = search needs
-
-mul-down : tie.Need-mul-down Inv-loop μ-loop
-mul-down c = search needs
-
-slice-write-down : tie.Need-slice-write-down Inv-loop μ-loop
-slice-write-down c = search needs
-
 loop-holds : tie.Need-loop-holds Inv-loop μ-loop
 loop-holds c =
     let s = c .before .before .before in
     let e = long s in
     rw (← long s) (made-none (toFront (s .args .rotated) (s .args .counts .now)) (s .args .down .now) (omega arith) (omega arith))
 
-sub-i : tie.Need-sub-i Inv-loop μ-loop
-sub-i c = search needs
-
-dim-at-requires : tie.Need-dim-at-requires Inv-loop μ-loop
-dim-at-requires c κs = search needs
-
 mul-count : tie.Need-mul-count Inv-loop μ-loop
 mul-count c = omega (arith, within c)
 
 shared-slice-read-count : tie.Need-shared-slice-read-count Inv-loop μ-loop
 shared-slice-read-count c = within (c .before)
-
-refused-requires : tie.Need-refused-requires Inv-loop μ-loop
-refused-requires c κs = search needs
 
 same-length : tie.Need-same-length Inv-loop μ-loop
 same-length c = size (c .before .before .before .before .before) ∙ sym (c .before .before .before .before .before .before .before .before .before .pre .0)
@@ -91,24 +73,6 @@ returns-2 c =
 mul-checked-mul : tie.Need-mul-checked-mul Inv-loop μ-loop
 mul-checked-mul c = omega (arith, within (c .before .before), c .before .before .before .before .loop .inv .within, long (c .before .before .before .before .before .before .before .before))
 
-slice-read-checked-mul : tie.Need-slice-read-checked-mul Inv-loop μ-loop
-slice-read-checked-mul c = search needs
-
-at-least-one-requires : tie.Need-at-least-one-requires Inv-loop μ-loop
-at-least-one-requires c κs = search needs
-
-checked-mul-requires : tie.Need-checked-mul-requires Inv-loop μ-loop
-checked-mul-requires c κs = search needs
-
-enum-known-next : tie.Need-enum-known-next Inv-loop μ-loop
-enum-known-next c = search needs
-
-enum-told : tie.Need-enum-told Inv-loop μ-loop
-enum-told c = search needs
-
-refused-requires-2 : tie.Need-refused-requires-2 Inv-loop μ-loop
-refused-requires-2 c κs = search needs
-
 same-length-2 : tie.Need-same-length-2 Inv-loop μ-loop
 same-length-2 c = size (c .before .before .before .before .before .before .before .before .before .before) ∙ sym (c .before .before .before .before .before .before .before .before .before .before .before .before .before .before .pre .0)
 
@@ -121,17 +85,8 @@ returns-3 c =
     let a = c .before .before .before .before .at-least-one .ensures ∙ ap (λ (n : ℕ). max n 1) (counted d) in
     (e ∙ sym (made-over _ _ _ _ (l .inv) (d .before .loop-test .taken) (λ p. c .before .before .before .before .before .before .if2 .left (counted d ∙ p)) (rw (← a) o)), λ p. absurd (refused-passed _ (sym e ∙ p)))
 
-sub-down-2 : tie.Need-sub-down-2 Inv-loop μ-loop
-sub-down-2 c = search needs
-
 mul-down-2 : tie.Need-mul-down-2 Inv-loop μ-loop
 mul-down-2 c = omega (arith, c .before .before .before .before .before .before .before .before .before .before .loop .inv .within, long (c .before .before .before .before .before .before .before .before .before .before .before .before .before .before))
-
-slice-write-down-2 : tie.Need-slice-write-down-2 Inv-loop μ-loop
-slice-write-down-2 c = search needs
-
-loop-less : tie.Need-loop-less Inv-loop μ-loop
-loop-less c = search needs
 
 loop-again : tie.Need-loop-again Inv-loop μ-loop
 loop-again c =
@@ -153,34 +108,7 @@ returns-4 c =
 pub multipliers-of-spec : {M : Type 1} → statement M
 multipliers-of-spec =
     tie.close
-    (tie.spec
-    Inv-loop
-    μ-loop
-    returns
-    sub-down
-    mul-down
-    slice-write-down
-    loop-holds
-    sub-i
-    dim-at-requires
-    mul-count
-    shared-slice-read-count
-    refused-requires
-    same-length
-    returns-2
-    mul-checked-mul
-    slice-read-checked-mul
-    at-least-one-requires
-    checked-mul-requires
-    enum-known-next
-    enum-told
-    refused-requires-2
-    same-length-2
-    returns-3
-    sub-down-2
-    mul-down-2
-    slice-write-down-2
-    loop-less
-    loop-again
-    same-length-3
-    returns-4)
+    (tie.spec Inv-loop μ-loop returns (search needs) (search needs) (search needs) loop-holds (search needs)
+    (search needs) mul-count shared-slice-read-count (search needs) same-length returns-2 mul-checked-mul
+    (search needs) (search needs) (search needs) (search needs) (search needs) (search needs) same-length-2
+    returns-3 (search needs) mul-down-2 (search needs) (search needs) loop-again same-length-3 returns-4)

@@ -9,12 +9,6 @@ use borrow.Author.Needs.{needs}
 use Rattle.chunk_grid.proofs.number.Statement.{statement}
 use Rattle.chunk_grid.proofs.number.Tie as tie
 
-has-zero-requires : tie.Need-has-zero-requires
-has-zero-requires c κs = search needs
-
-refused-numbering-requires : tie.Need-refused-numbering-requires
-refused-numbering-requires c κs = search needs
-
 returns : tie.Need-returns
 returns c =
     let e = c .refused-numbering .ensures in
@@ -25,29 +19,11 @@ counts-of-requires c κs =
     let p = c .before .before .before .before .before .before .before .before .before .before .pre in
     (p .0, p .1, p .3, p .4, sym (c .before .before .before .has-zero .ensures) ∙ c .before .before .if1 .left)
 
-leading-requires : tie.Need-leading-requires
-leading-requires c κs = search needs
-
 multipliers-of-requires : tie.Need-multipliers-of-requires
 multipliers-of-requires c κs =
     let p = c .before .before .before .before .before .before .before .before .before .before .before .before .before .before .before .before .before .before .before .pre in
     let e = ap length (c .before .before .before .before .before .before .before .before .counts-of .ensures .0) ∙ length-pairwise _ _ _ (p .3) ∙ p .3 in
     (p .2 ∙ sym e, rw (c .before .before .leading .ensures) (leading-le _ _))
-
-product-test-requires : tie.Need-product-test-requires
-product-test-requires c κs = search needs
-
-and-then-requires : tie.Need-and-then-requires
-and-then-requires c κs = search needs
-
-same-length : tie.Need-same-length
-same-length c = search needs
-
-same-length-2 : tie.Need-same-length-2
-same-length-2 c = search needs
-
-same-length-3 : tie.Need-same-length-3
-same-length-3 c = search needs
 
 returns-2 : tie.Need-returns-2
 returns-2 c =
@@ -58,16 +34,5 @@ returns-2 c =
 pub number-spec : {M : Type 1} → statement M
 number-spec =
     tie.close
-    (tie.spec
-    has-zero-requires
-    refused-numbering-requires
-    returns
-    counts-of-requires
-    leading-requires
-    multipliers-of-requires
-    product-test-requires
-    and-then-requires
-    same-length
-    same-length-2
-    same-length-3
-    returns-2)
+    (tie.spec (search needs) (search needs) returns counts-of-requires (search needs) multipliers-of-requires
+    (search needs) (search needs) (search needs) (search needs) (search needs) returns-2)

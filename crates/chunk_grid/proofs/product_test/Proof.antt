@@ -18,31 +18,10 @@ abbrev μ-loop : tie.MeasureT-loop
 μ-loop counts product₀ i₀ product i =
     length counts - i
 
-loop-holds : tie.Need-loop-holds Inv-loop μ-loop
-loop-holds c = search needs
-
-mul-count : tie.Need-mul-count Inv-loop μ-loop
-mul-count c = search needs
-
-shared-slice-read-count : tie.Need-shared-slice-read-count Inv-loop μ-loop
-shared-slice-read-count c = search needs
-
 returns : tie.Need-returns Inv-loop μ-loop
 returns c =
     let l = c .before .before .before .loop in
     sym (product-unlimited (l .product) (l .i) _ (c .before .before .loop-test .taken) (c .if1 .taken)) ∙ l .inv .1
-
-checked-mul-requires : tie.Need-checked-mul-requires Inv-loop μ-loop
-checked-mul-requires c κs = search needs
-
-enum-known-next : tie.Need-enum-known-next Inv-loop μ-loop
-enum-known-next c = search needs
-
-enum-told : tie.Need-enum-told Inv-loop μ-loop
-enum-told c = search needs
-
-refused-requires : tie.Need-refused-requires Inv-loop μ-loop
-refused-requires c κs = search needs
 
 returns-2 : tie.Need-returns-2 Inv-loop μ-loop
 returns-2 c =
@@ -50,12 +29,6 @@ returns-2 c =
     let l = e .before .before .before .loop in
     let o = overflows-is _ (sym (c .before .enum-told .given .1) ∙ c .before .before .before .checked-mul .ensures) in
     c .refused .ensures ∙ sym (product-over (l .product) (l .i) _ (e .before .before .loop-test .taken) (e .if1 .left) o) ∙ l .inv .1
-
-add-i : tie.Need-add-i Inv-loop μ-loop
-add-i c = search needs
-
-loop-less : tie.Need-loop-less Inv-loop μ-loop
-loop-less c = search needs
 
 loop-again : tie.Need-loop-again Inv-loop μ-loop
 loop-again c =
@@ -70,19 +43,5 @@ returns-3 c = sym (product-end _ _ _ (c .loop-test .left)) ∙ c .before .loop .
 pub product-test-spec : {M : Type 1} → statement M
 product-test-spec =
     tie.close
-    (tie.spec
-    Inv-loop
-    μ-loop
-    loop-holds
-    mul-count
-    shared-slice-read-count
-    returns
-    checked-mul-requires
-    enum-known-next
-    enum-told
-    refused-requires
-    returns-2
-    add-i
-    loop-less
-    loop-again
-    returns-3)
+    (tie.spec Inv-loop μ-loop (search needs) (search needs) (search needs) returns (search needs) (search needs)
+    (search needs) (search needs) returns-2 (search needs) (search needs) loop-again returns-3)

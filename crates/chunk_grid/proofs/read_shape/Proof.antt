@@ -18,15 +18,6 @@ abbrev μ-loop : tie.MeasureT-loop
 μ-loop shape₀ rank bytes n i₀ shape i =
     n - i
 
-mul-if1 : tie.Need-mul-if1 Inv-loop μ-loop
-mul-if1 c = search needs
-
-slice-write-shape : tie.Need-slice-write-shape Inv-loop μ-loop
-slice-write-shape c = search needs
-
-same-length : tie.Need-same-length Inv-loop μ-loop
-same-length c = search needs
-
 returns : tie.Need-returns Inv-loop μ-loop
 returns c =
     let s = c .before .before .before .before .args in
@@ -39,27 +30,6 @@ returns-2 c =
     let e = shape-none (s .rank) (s .bytes .now) (c .before .if1 .taken) (c .if2 .left) in
     (rw e refl, rw e refl)
 
-loop-holds : tie.Need-loop-holds Inv-loop μ-loop
-loop-holds c = search needs
-
-mul-read-u64-le : tie.Need-mul-read-u64-le Inv-loop μ-loop
-mul-read-u64-le c = search needs
-
-read-u64-le-requires : tie.Need-read-u64-le-requires Inv-loop μ-loop
-read-u64-le-requires c κs = search needs
-
-mul-shape : tie.Need-mul-shape Inv-loop μ-loop
-mul-shape c = search needs
-
-slice-write-shape-2 : tie.Need-slice-write-shape-2 Inv-loop μ-loop
-slice-write-shape-2 c = search needs
-
-add-i : tie.Need-add-i Inv-loop μ-loop
-add-i c = search needs
-
-loop-less : tie.Need-loop-less Inv-loop μ-loop
-loop-less c = search needs
-
 loop-again : tie.Need-loop-again Inv-loop μ-loop
 loop-again c =
     let l = c .before .before .loop in
@@ -67,9 +37,6 @@ loop-again c =
     let vs = numbersIn (s .rank) (s .bytes .now) in
     let h = c .before .loop-test .taken in
     (omega arith, length-set (l .shape) (l .i) _ ∙ l .inv .1, stored-on vs (l .shape) (l .i) _ (omega (arith, length-numbers (s .rank) (s .bytes .now))) (c .read-u64-le .ensures ∙ sym (number-at (s .rank) (s .bytes .now) (l .i) h)) ∙ l .inv .2)
-
-same-length-2 : tie.Need-same-length-2 Inv-loop μ-loop
-same-length-2 c = search needs
 
 returns-3 : tie.Need-returns-3 Inv-loop μ-loop
 returns-3 c =
@@ -82,21 +49,6 @@ returns-3 c =
 pub read-shape-spec : {M : Type 1} → statement M
 read-shape-spec =
     tie.close
-    (tie.spec
-    Inv-loop
-    μ-loop
-    mul-if1
-    slice-write-shape
-    same-length
-    returns
-    returns-2
-    loop-holds
-    mul-read-u64-le
-    read-u64-le-requires
-    mul-shape
-    slice-write-shape-2
-    add-i
-    loop-less
-    loop-again
-    same-length-2
-    returns-3)
+    (tie.spec Inv-loop μ-loop (search needs) (search needs) (search needs) returns returns-2 (search needs)
+    (search needs) (search needs) (search needs) (search needs) (search needs) (search needs) loop-again
+    (search needs) returns-3)

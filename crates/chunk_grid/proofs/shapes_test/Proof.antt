@@ -6,26 +6,14 @@ use borrow.Author.Needs.{needs}
 use Rattle.chunk_grid.proofs.shapes_test.Statement.{statement}
 use Rattle.chunk_grid.proofs.shapes_test.Tie as tie
 
-refused-requires : tie.Need-refused-requires
-refused-requires c κs = search needs
-
 returns : tie.Need-returns
 returns c = λ o. c .refused .ensures ∙ rank-over _ _ _ _ o _ (c .before .if1 .taken)
-
-refused-requires-2 : tie.Need-refused-requires-2
-refused-requires-2 c κs = search needs
 
 returns-2 : tie.Need-returns-2
 returns-2 c = λ o. c .refused2 .ensures ∙ rank-differs _ _ _ _ o (c .before .before .if1 .left) _ (c .before .if2 .taken)
 
-refused-requires-3 : tie.Need-refused-requires-3
-refused-requires-3 c κs = search needs
-
 returns-3 : tie.Need-returns-3
 returns-3 c = λ o. c .refused3 .ensures ∙ present-differs _ _ _ _ o (c .before .before .before .if1 .left) (c .before .before .if2 .left) _ (c .before .if3 .taken)
-
-refused-requires-4 : tie.Need-refused-requires-4
-refused-requires-4 c κs = search needs
 
 returns-4 : tie.Need-returns-4
 returns-4 c = λ o. c .refused4 .ensures ∙ rw (c .before .before .if4 .taken) (maximum-differs _ _ _ _ o (c .before .before .before .before .before .if1 .left) (c .before .before .before .before .if2 .left) (c .before .before .before .if3 .left) (c .before .if5 .taken))
@@ -39,14 +27,5 @@ returns-6 c = λ o. shapes-agree _ _ _ _ o (c .before .before .before .if1 .left
 pub shapes-test-spec : {M : Type 1} → statement M
 shapes-test-spec =
     tie.close
-    (tie.spec
-    refused-requires
-    returns
-    refused-requires-2
-    returns-2
-    refused-requires-3
-    returns-3
-    refused-requires-4
-    returns-4
-    returns-5
-    returns-6)
+    (tie.spec (search needs) returns (search needs) returns-2 (search needs) returns-3 (search needs) returns-4
+    returns-5 returns-6)

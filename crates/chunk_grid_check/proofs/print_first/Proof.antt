@@ -10,45 +10,8 @@ Inv-loop s n i₀ i = i ≤ 32
 abbrev μ-loop : tie.MeasureT-loop
 μ-loop s n i₀ i = 32 - i
 
-loop-holds : tie.Need-loop-holds Inv-loop μ-loop
-loop-holds c = search needs
-
-returns : tie.Need-returns Inv-loop μ-loop
-returns c = search needs
-
-mul-print-number : tie.Need-mul-print-number Inv-loop μ-loop
-mul-print-number c = search needs
-
-element-copy-out-print-number : tie.Need-element-copy-out-print-number Inv-loop μ-loop
-element-copy-out-print-number c = search needs
-
-print-number-requires : tie.Need-print-number-requires Inv-loop μ-loop
-print-number-requires c κs = search needs
-
-add-i : tie.Need-add-i Inv-loop μ-loop
-add-i c = search needs
-
-loop-less : tie.Need-loop-less Inv-loop μ-loop
-loop-less c = search needs
-
-loop-again : tie.Need-loop-again Inv-loop μ-loop
-loop-again c = search needs
-
-returns-2 : tie.Need-returns-2 Inv-loop μ-loop
-returns-2 c = search needs
-
 pub print-first-spec : {M : Type 1} → statement M
 print-first-spec =
     tie.close
-    (tie.spec
-    Inv-loop
-    μ-loop
-    loop-holds
-    returns
-    mul-print-number
-    element-copy-out-print-number
-    print-number-requires
-    add-i
-    loop-less
-    loop-again
-    returns-2)
+    (tie.spec Inv-loop μ-loop (search needs) (search needs) (search needs) (search needs) (search needs)
+    (search needs) (search needs) (search needs) (search needs))

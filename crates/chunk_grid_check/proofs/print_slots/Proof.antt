@@ -10,25 +10,8 @@ Inv-loop grid from to s₀ s = from ≤ s
 abbrev μ-loop : tie.MeasureT-loop
 μ-loop grid from to s₀ s = to - s
 
-loop-holds : tie.Need-loop-holds Inv-loop μ-loop
-loop-holds c = search needs
-
-print-slot-requires : tie.Need-print-slot-requires Inv-loop μ-loop
-print-slot-requires c κs = search needs
-
-add-s : tie.Need-add-s Inv-loop μ-loop
-add-s c = search needs
-
-loop-less : tie.Need-loop-less Inv-loop μ-loop
-loop-less c = search needs
-
-loop-again : tie.Need-loop-again Inv-loop μ-loop
-loop-again c = search needs
-
-returns : tie.Need-returns Inv-loop μ-loop
-returns c = search needs
-
 pub print-slots-spec : {M : Type 1} → statement M
 print-slots-spec =
     tie.close
-    (tie.spec Inv-loop μ-loop loop-holds print-slot-requires add-s loop-less loop-again returns)
+    (tie.spec Inv-loop μ-loop (search needs) (search needs) (search needs) (search needs) (search needs)
+    (search needs))

@@ -1,11 +1,11 @@
--- `chunk_grid::corner_test` meets its contract. Assumes nothing.
+-- `chunk_slots::corner_test` meets its contract: what is left from place i on gives the answer. Assumes nothing.
 use borrow.Author.Tests.{lt-ltb, eq-eqb}
 use Rattle.chunk_grid.specs.Values.{gridOf}
 use Rattle.chunk_grid.specs.Shapes.{given}
 use Rattle.chunk_slots.proofs.Corners.{other-rank, corner-small, corner-pos, aligned-step, below-step, unaligned-here, outside-here, passes}
 use borrow.Author.Needs.{needs}
 use Prim.Native.Nat.{_-_, _≤_}
-use mathlib.Core.Path.{_≡_, sym, _∙_}
+use mathlib.Core.Path.{_≡_, refl, sym, _∙_}
 use native.Mathlib.Omega.{arith}
 use lib.ListN.{length, take, drop}
 use Rattle.chunk_grid.specs.Grid.{below, aligned}
@@ -14,66 +14,30 @@ use Rattle.chunk_slots.proofs.corner_test.Tie as tie
 
 abbrev Inv-loop : tie.InvT-loop
 Inv-loop corner chunk present i₀ i =
-    (i ≤ length corner) × (aligned (drop i corner) (drop i (take (length corner) chunk)) ≡ aligned corner (take (length corner) chunk)) × (below (drop i corner) (drop i (take (length corner) present)) ≡ below corner (take (length corner) present))
+    (i ≤ length corner) × (length corner ≤ 32) × (aligned (drop i corner) (drop i (take (length corner) chunk)) ≡ aligned corner (take (length corner) chunk)) × (below (drop i corner) (drop i (take (length corner) present)) ≡ below corner (take (length corner) present))
 
 abbrev μ-loop : tie.MeasureT-loop
-μ-loop corner chunk present i₀ i =
-    length corner - i
-
-refused-requires : tie.Need-refused-requires Inv-loop μ-loop
-refused-requires c κs = search needs
+μ-loop corner chunk present i₀ i = length corner - i
 
 returns : tie.Need-returns Inv-loop μ-loop
 unfolding gridOf given
 returns c = c .refused .ensures ∙ other-rank _ _ (c .before .if1 .taken)
 
 loop-holds : tie.Need-loop-holds Inv-loop μ-loop
-loop-holds c = search needs
-
-mul-if2 : tie.Need-mul-if2 Inv-loop μ-loop
-mul-if2 c = search needs
-
-shared-slice-read-if2 : tie.Need-shared-slice-read-if2 Inv-loop μ-loop
-shared-slice-read-if2 c = search needs
-
-mul-if2-2 : tie.Need-mul-if2-2 Inv-loop μ-loop
-mul-if2-2 c = search needs
-
-array-read-if2 : tie.Need-array-read-if2 Inv-loop μ-loop
-array-read-if2 c = omega (arith, corner-small (c .before .before .before .before .before .before .before .before .args .grid) (c .before .before .before .before .before .before .before .before .args .corner .now) (c .before .before .before .before .before .before .before .before .pre) (c .before .before .before .before .before .if1 .left))
+loop-holds c =
+    let s = c .before .before .before .before .before in
+    (omega arith, corner-small _ (s .args .corner .now) (s .pre) (c .before .before .if1 .left), refl, refl)
 
 rem-if2 : tie.Need-rem-if2 Inv-loop μ-loop
-rem-if2 c = corner-pos (c .before .before .before .before .before .before .before .before .args .grid) (c .before .before .before .before .before .before .before .before .args .corner .now) (c .before .before .before .before .before .before .before .before .pre) (c .before .before .before .before .before .if1 .left) _ (c .before .loop-test .taken)
-
-refused-requires-2 : tie.Need-refused-requires-2 Inv-loop μ-loop
-refused-requires-2 c κs = search needs
+rem-if2 c =
+    let s = c .before .before .before .before .before .before .before .before in
+    corner-pos _ (s .args .corner .now) (s .pre) (c .before .before .before .before .before .if1 .left) _ (c .before .loop-test .taken)
 
 returns-2 : tie.Need-returns-2 Inv-loop μ-loop
-returns-2 c = c .refused2 .ensures ∙ unaligned-here _ _ (c .before .before .before .before .before .before .before .before .before .before .pre) (c .before .before .before .before .before .before .before .if1 .left) _ (c .before .before .before .loop-test .taken) (c .before .before .before .before .loop .inv .1) (c .before .if2 .taken)
-
-mul-if3 : tie.Need-mul-if3 Inv-loop μ-loop
-mul-if3 c = search needs
-
-array-read-if3 : tie.Need-array-read-if3 Inv-loop μ-loop
-array-read-if3 c = omega (arith, corner-small (c .before .before .before .before .before .before .before .before .before .args .grid) (c .before .before .before .before .before .before .before .before .before .args .corner .now) (c .before .before .before .before .before .before .before .before .before .pre) (c .before .before .before .before .before .before .if1 .left))
-
-mul-if3-2 : tie.Need-mul-if3-2 Inv-loop μ-loop
-mul-if3-2 c = search needs
-
-shared-slice-read-if3 : tie.Need-shared-slice-read-if3 Inv-loop μ-loop
-shared-slice-read-if3 c = search needs
-
-refused-requires-3 : tie.Need-refused-requires-3 Inv-loop μ-loop
-refused-requires-3 c κs = search needs
+returns-2 c = c .refused2 .ensures ∙ unaligned-here _ _ (c .before .before .before .before .before .before .before .before .before .before .pre) (c .before .before .before .before .before .before .before .if1 .left) _ (c .before .before .before .loop-test .taken) (c .before .before .before .before .loop .inv .2) (c .before .if2 .taken)
 
 returns-3 : tie.Need-returns-3 Inv-loop μ-loop
-returns-3 c = c .refused3 .ensures ∙ outside-here _ _ (c .before .before .before .before .before .before .before .before .before .before .before .before .pre) (c .before .before .before .before .before .before .before .before .before .if1 .left) _ (c .before .before .before .before .before .loop-test .taken) (c .before .before .before .before .before .before .loop .inv .2) (c .before .if3 .taken)
-
-add-i : tie.Need-add-i Inv-loop μ-loop
-add-i c = search needs
-
-loop-less : tie.Need-loop-less Inv-loop μ-loop
-loop-less c = search needs
+returns-3 c = c .refused3 .ensures ∙ outside-here _ _ (c .before .before .before .before .before .before .before .before .before .before .before .before .pre) (c .before .before .before .before .before .before .before .before .before .if1 .left) _ (c .before .before .before .before .before .loop-test .taken) (c .before .before .before .before .before .before .loop .inv .3) (c .before .if3 .taken)
 
 loop-again : tie.Need-loop-again Inv-loop μ-loop
 loop-again c =
@@ -81,36 +45,16 @@ loop-again c =
     let s = c .before .before .before .before .before .before .before .before .before .before .before in
     let e = c .before .before .before .before .before .before .before .before .if1 .left in
     let h = c .before .before .before .before .loop-test .taken in
-    let a = aligned-step (s .args .grid) (s .args .corner .now) (s .pre) e (l .i) h in
-    let b = below-step (s .args .grid) (s .args .corner .now) (s .pre) e (l .i) h in
-    (omega arith, sym (rw (eq-eqb _ 0 (c .before .before .if2 .left)) at a) ∙ l .inv .1, sym (rw (lt-ltb _ _ (c .if3 .left)) at b) ∙ l .inv .2)
+    let a = aligned-step _ (s .args .corner .now) (s .pre) e (l .i) h in
+    let b = below-step _ (s .args .corner .now) (s .pre) e (l .i) h in
+    (omega arith, l .inv .1, sym (rw (eq-eqb _ 0 (c .before .before .if2 .left)) at a) ∙ l .inv .2, sym (rw (lt-ltb _ _ (c .if3 .left)) at b) ∙ l .inv .3)
 
 returns-4 : tie.Need-returns-4 Inv-loop μ-loop
-returns-4 c = passes _ _ (c .before .before .before .before .before .before .before .pre) (c .before .before .before .before .if1 .left) _ (c .loop-test .left) (c .before .loop .inv .1) (c .before .loop .inv .2)
+returns-4 c = passes _ _ (c .before .before .before .before .before .before .before .pre) (c .before .before .before .before .if1 .left) _ (c .loop-test .left) (c .before .loop .inv .2) (c .before .loop .inv .3)
 
 pub corner-test-spec : {M : Type 1} → statement M
 corner-test-spec =
     tie.close
-    (tie.spec
-    Inv-loop
-    μ-loop
-    refused-requires
-    returns
-    loop-holds
-    mul-if2
-    shared-slice-read-if2
-    mul-if2-2
-    array-read-if2
-    rem-if2
-    refused-requires-2
-    returns-2
-    mul-if3
-    array-read-if3
-    mul-if3-2
-    shared-slice-read-if3
-    refused-requires-3
-    returns-3
-    add-i
-    loop-less
-    loop-again
-    returns-4)
+    (tie.spec Inv-loop μ-loop (search needs) returns loop-holds (search needs) (search needs) (search needs)
+    (search needs) rem-if2 (search needs) returns-2 (search needs) (search needs) (search needs) (search needs)
+    (search needs) returns-3 (search needs) (search needs) loop-again returns-4)

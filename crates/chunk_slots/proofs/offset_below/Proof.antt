@@ -1,4 +1,4 @@
--- `chunk_grid::offset_below` meets its contract. Assumes nothing.
+-- `chunk_slots::offset_below` meets its contract. Assumes nothing.
 use native.Mathlib.Omega.{arith}
 use borrow.Author.Tests.{lt-ltb, le-ltb}
 use Rattle.chunk_slots.proofs.offset_below.Statement.{statement}

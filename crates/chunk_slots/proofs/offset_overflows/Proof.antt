@@ -1,4 +1,4 @@
--- `chunk_grid::offset_overflows` meets its contract. Assumes nothing.
+-- `chunk_slots::offset_overflows` meets its contract. Assumes nothing.
 use Prim.Native.Nat.{_*_, _/_, _<_, _≤_}
 use mathlib.Core.Path.{sym, _∙_}
 use mathlib.Core.Logic.{⊎-elim}
@@ -15,9 +15,6 @@ returns c =
     let a = c .before .args in
     sym (le-ltb largest64 (a .q * a .length) (c .before .pre .1 (c .if1 .taken)))
 
-div-result : tie.Need-div-result
-div-result c = search needs
-
 returns-2 : tie.Need-returns-2
 returns-2 c =
     let a = c .before .args in
@@ -27,4 +24,4 @@ returns-2 c =
     (lt-or-ge (largest64 / a .length) (a .q))
 
 pub offset-overflows-spec : {M : Type 1} → statement M
-offset-overflows-spec = tie.close (tie.spec div-result returns returns-2)
+offset-overflows-spec = tie.close (tie.spec (search needs) returns returns-2)

@@ -1,102 +1,44 @@
 -- `chunk_grid::ChunkGrid::from_bytes` meets its contract. Assumes nothing.
-use Prim.Native.Nat.{_≤_}
-use mathlib.Core.Path.{_≡_, _∙_}
+use mathlib.Core.Path.{ap, _∙_}
 use lib.Dec.{lit≤}
-use lib.ListN.{length, take}
+use Rattle.refusal.specs.declared.Checked.the-variants.{Refused}
 use Rattle.chunk_grid.specs.Values.{whereTested}
-use Rattle.chunk_grid.specs.Shapes.{shapeOf, givenBytes}
+use Rattle.chunk_grid.specs.Shapes.{givenBytes}
 use Rattle.chunk_grid.proofs.Building.{rank-over}
 use Rattle.chunk_grid.proofs.Numbered.{refused-shapes}
-use Rattle.chunk_grid.proofs.Shapes.{stored-shape}
+use Rattle.chunk_grid.proofs.Shapes.{BeginsWith, stored-shape}
 use borrow.Author.Needs.{needs}
 use Rattle.chunk_grid.proofs.ChunkGrid.from_bytes.Statement.{statement}
 use Rattle.chunk_grid.proofs.ChunkGrid.from_bytes.Tie as tie
 
--- each shape, as it is read again
-shape0 : (c : tie.After-read-shape)
-    → (c .read-shape .result ≤ length (c .read-shape .last .0)) × (take (c .read-shape .result) (c .read-shape .last .0) ≡ shapeOf (c .before .before .before .before .before .before .args .rank) (c .before .before .before .before .before .before .args .chunk .now))
-    × (c .read-shape .result ≡ length (take (c .read-shape .result) (c .read-shape .last .0)))
-shape0 c = stored-shape (c .before .before .before .before .before .before .args .rank) (c .before .before .before .before .before .before .args .chunk .now) _ _ _ (c .before .before .if1 .left) (lit≤ tt) (c .read-shape .ensures .0) (c .read-shape .ensures .1)
+-- each shape is at the beginning of its array
+chunk-read : (c : tie.After-read-shape) → BeginsWith (c .before .before .before .before .before .before .args .rank) (c .before .before .before .before .before .before .args .chunk .now) (c .read-shape .last .0) (c .read-shape .result)
+chunk-read c = stored-shape _ _ _ _ _ (c .before .before .if1 .left) (lit≤ tt) (c .read-shape .ensures .0) (c .read-shape .ensures .1)
 
-shape1 : (c : tie.After-read-shape2)
-    → (c .read-shape2 .result ≤ length (c .read-shape2 .last .0)) × (take (c .read-shape2 .result) (c .read-shape2 .last .0) ≡ shapeOf (c .before .before .before .before .before .before .before .before .before .args .rank) (c .before .before .before .before .before .before .before .before .before .args .present .now))
-    × (c .read-shape2 .result ≡ length (take (c .read-shape2 .result) (c .read-shape2 .last .0)))
-shape1 c = stored-shape (c .before .before .before .before .before .before .before .before .before .args .rank) (c .before .before .before .before .before .before .before .before .before .args .present .now) _ _ _ (c .before .before .before .before .before .if1 .left) (lit≤ tt) (c .read-shape2 .ensures .0) (c .read-shape2 .ensures .1)
+present-read : (c : tie.After-read-shape2) → BeginsWith (c .before .before .before .before .before .before .before .before .before .args .rank) (c .before .before .before .before .before .before .before .before .before .args .present .now) (c .read-shape2 .last .0) (c .read-shape2 .result)
+present-read c = stored-shape _ _ _ _ _ (c .before .before .before .before .before .if1 .left) (lit≤ tt) (c .read-shape2 .ensures .0) (c .read-shape2 .ensures .1)
 
-shape2 : (c : tie.After-read-shape3)
-    → (c .read-shape3 .result ≤ length (c .read-shape3 .last .0)) × (take (c .read-shape3 .result) (c .read-shape3 .last .0) ≡ shapeOf (c .before .before .before .before .before .before .before .before .before .before .before .before .args .rank) (c .before .before .before .before .before .before .before .before .before .before .before .before .args .maximum .now))
-    × (c .read-shape3 .result ≡ length (take (c .read-shape3 .result) (c .read-shape3 .last .0)))
-shape2 c = stored-shape (c .before .before .before .before .before .before .before .before .before .before .before .before .args .rank) (c .before .before .before .before .before .before .before .before .before .before .before .before .args .maximum .now) _ _ _ (c .before .before .before .before .before .before .before .before .if1 .left) (lit≤ tt) (c .read-shape3 .ensures .0) (c .read-shape3 .ensures .1)
-
-refused-grid-requires : tie.Need-refused-grid-requires
-refused-grid-requires c κs = search needs
+maximum-read : (c : tie.After-read-shape3) → BeginsWith (c .before .before .before .before .before .before .before .before .before .before .before .before .args .rank) (c .before .before .before .before .before .before .before .before .before .before .before .before .args .maximum .now) (c .read-shape3 .last .0) (c .read-shape3 .result)
+maximum-read c = stored-shape _ _ _ _ _ (c .before .before .before .before .before .before .before .before .if1 .left) (lit≤ tt) (c .read-shape3 .ensures .0) (c .read-shape3 .ensures .1)
 
 returns : tie.Need-returns
 unfolding givenBytes whereTested
 returns c =
     let e = c .refused-grid .ensures in
-    (e .0 ∙ refused-shapes _ _ (rank-over _ _ _ _ _ _ (c .before .if1 .taken)), rw (e .0) (e .1))
-
-slice-aggregate-read-shape : tie.Need-slice-aggregate-read-shape
-slice-aggregate-read-shape c = search needs
-
-read-shape-requires : tie.Need-read-shape-requires
-read-shape-requires c κs = search needs
-
-slice-aggregate-read-shape-2 : tie.Need-slice-aggregate-read-shape-2
-slice-aggregate-read-shape-2 c = search needs
-
-read-shape-requires-2 : tie.Need-read-shape-requires-2
-read-shape-requires-2 c κs = search needs
-
-slice-aggregate-read-shape-3 : tie.Need-slice-aggregate-read-shape-3
-slice-aggregate-read-shape-3 c = search needs
-
-read-shape-requires-3 : tie.Need-read-shape-requires-3
-read-shape-requires-3 c κs = search needs
-
-array-share-prefix-lengths : tie.Need-array-share-prefix-lengths
-array-share-prefix-lengths c = shape0 (c .before .before .before .before .before .before .before) .0
-
-slice-aggregate-new : tie.Need-slice-aggregate-new
-slice-aggregate-new c = shape0 (c .before .before .before .before .before .before .before .before) .2
-
-array-share-prefix-extents : tie.Need-array-share-prefix-extents
-array-share-prefix-extents c = shape1 (c .before .before .before .before .before) .0
-
-slice-aggregate-new-2 : tie.Need-slice-aggregate-new-2
-slice-aggregate-new-2 c = shape1 (c .before .before .before .before .before .before) .2
-
-array-share-prefix-limits : tie.Need-array-share-prefix-limits
-array-share-prefix-limits c = shape2 (c .before .before .before) .0
-
-slice-aggregate-new-3 : tie.Need-slice-aggregate-new-3
-slice-aggregate-new-3 c = shape2 (c .before .before .before .before) .2
-
-new-requires : tie.Need-new-requires
-new-requires c κs = search needs
+    (e .0 ∙ ap Refused (c .before .plain .ensures) ∙ refused-shapes _ _ (rank-over _ _ _ _ _ _ (c .before .before .if1 .taken)), rw (e .0) (e .1))
 
 returns-2 : tie.Need-returns-2
 unfolding givenBytes
-returns-2 c = rw (shape0 (c .before .before .before .before .before .before .before .before .before .before .before) .1, shape1 (c .before .before .before .before .before .before .before .before) .1, shape2 (c .before .before .before .before .before) .1) at (c .new .ensures)
+returns-2 c = rw (chunk-read (c .before .before .before .before .before .before .before .before .before .before .before) .1, present-read (c .before .before .before .before .before .before .before .before) .1, maximum-read (c .before .before .before .before .before) .1) at (c .new .ensures)
 
 pub from-bytes-spec : {M : Type 1} → statement M
 from-bytes-spec =
     tie.close
-    (tie.spec
-    refused-grid-requires
-    returns
-    slice-aggregate-read-shape
-    read-shape-requires
-    slice-aggregate-read-shape-2
-    read-shape-requires-2
-    slice-aggregate-read-shape-3
-    read-shape-requires-3
-    array-share-prefix-lengths
-    slice-aggregate-new
-    array-share-prefix-extents
-    slice-aggregate-new-2
-    array-share-prefix-limits
-    slice-aggregate-new-3
-    new-requires
-    returns-2)
+    (tie.spec (search needs) (search needs) returns (search needs) (search needs) (search needs) (search needs)
+    (search needs) (search needs)
+    (λ c. chunk-read (c .before .before .before .before .before .before .before) .0)
+    (λ c. chunk-read (c .before .before .before .before .before .before .before .before) .2)
+    (λ c. present-read (c .before .before .before .before .before) .0)
+    (λ c. present-read (c .before .before .before .before .before .before) .2)
+    (λ c. maximum-read (c .before .before .before) .0)
+    (λ c. maximum-read (c .before .before .before .before) .2) (search needs) returns-2)

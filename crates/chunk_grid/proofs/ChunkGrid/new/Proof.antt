@@ -35,24 +35,12 @@ tested c =
     let pick : Bool → Checked = λ h. numberingTest (isUnlimitedFirst (a .order)) (cond h (a .maximum .now) (a .present .now)) (a .chunk .now) in
     ⊎-elim (λ w. w .2 ∙ w .1 .ensures ∙ ap pick (sym (w .0 .taken)) ∙ t) (λ w. w .2 ∙ w .1 .ensures ∙ ap pick (sym (w .0 .left)) ∙ t) (c .if1 .came)
 
-shapes-test-requires : tie.Need-shapes-test-requires
-shapes-test-requires c κs = search needs
-
-enum-known-shapes : tie.Need-enum-known-shapes
-enum-known-shapes c = search needs
-
-refused-grid-requires : tie.Need-refused-grid-requires
-refused-grid-requires c κs = search needs
-
 returns : tie.Need-returns
 unfolding whereTested
 returns c =
     let e = c .refused-grid .ensures in
     let s = c .before .before .before .before .shapes-test .ensures in
     (e .0 ∙ refused-shapes (asked (c .before .before .before .before .before .before .before .before)) _ (sym (c .before .before .shapes .given .1) ∙ s _), rw (e .0) (e .1))
-
-enum-told : tie.Need-enum-told
-enum-told c = search needs
 
 numbering-test-requires : tie.Need-numbering-test-requires
 numbering-test-requires c κs =
@@ -64,29 +52,11 @@ numbering-test-requires-2 c κs =
     let l = lengths (c .before) in
     (l .1, l .1, l .2)
 
-enum-known-checked : tie.Need-enum-known-checked
-enum-known-checked c = search needs
-
-refused-grid-requires-2 : tie.Need-refused-grid-requires-2
-refused-grid-requires-2 c κs = search needs
-
 returns-2 : tie.Need-returns-2
 unfolding whereTested
 returns-2 c =
     let e = c .refused-grid2 .ensures in
     (e .0 ∙ sym (c .before .before .checked .given .1) ∙ tested (c .before .before .before .before), rw (e .0) (e .1))
-
-enum-told-2 : tie.Need-enum-told-2
-enum-told-2 c = search needs
-
-padded-requires : tie.Need-padded-requires
-padded-requires c κs = search needs
-
-padded-requires-2 : tie.Need-padded-requires-2
-padded-requires-2 c κs = search needs
-
-padded-requires-3 : tie.Need-padded-requires-3
-padded-requires-3 c κs = search needs
 
 returns-3 : tie.Need-returns-3
 unfolding whereTested
@@ -95,19 +65,6 @@ returns-3 c = (tested (c .before .before .before .before .before), rw (c .before
 pub new-spec : {M : Type 1} → statement M
 new-spec =
     tie.close
-    (tie.spec
-    shapes-test-requires
-    enum-known-shapes
-    refused-grid-requires
-    returns
-    enum-told
-    numbering-test-requires
-    numbering-test-requires-2
-    enum-known-checked
-    refused-grid-requires-2
-    returns-2
-    enum-told-2
-    padded-requires
-    padded-requires-2
-    padded-requires-3
-    returns-3)
+    (tie.spec (search needs) (search needs) (search needs) returns (search needs) numbering-test-requires
+    numbering-test-requires-2 (search needs) (search needs) returns-2 (search needs) (search needs)
+    (search needs) (search needs) returns-3)

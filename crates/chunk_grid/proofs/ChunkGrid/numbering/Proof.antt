@@ -24,37 +24,19 @@ fit c i = let f : Fits w64 (getD (c .before .before .before .before .before .arg
 part : (c : tie.Else1) (l : List ℕ) → 32 ≤ length l → c .before .before .before .before .before .args .self .rank ≡ length (take (c .before .before .before .before .before .args .self .rank) l)
 part c l h = sym (length-take-le _ l (omega arith))
 
-refused-numbering-requires : tie.Need-refused-numbering-requires
-refused-numbering-requires c κs = search needs
-
 returns : tie.Need-returns
 returns c =
     let e = c .refused-numbering .ensures in
     (e ∙ over-32 _ (c .before .if1 .taken), λ p. absurd (refused-passed _ (sym e ∙ p)))
 
-limits-requires : tie.Need-limits-requires
-limits-requires c κs = search needs
-
-slice-relend-prefix-number : tie.Need-slice-relend-prefix-number
-slice-relend-prefix-number c = search needs
-
 slice-aggregate-number : tie.Need-slice-aggregate-number
 slice-aggregate-number c = part (c .before .before .before .before) _ (c .before .before .before .before .before .before .before .before .before .pre .0)
-
-slice-relend-prefix-number-2 : tie.Need-slice-relend-prefix-number-2
-slice-relend-prefix-number-2 c = search needs
 
 slice-aggregate-number-2 : tie.Need-slice-aggregate-number-2
 slice-aggregate-number-2 c = part (c .before .before .before .before .before) _ (c .before .before .before .before .before .before .before .before .before .before .pre .1)
 
-slice-relend-prefix-number-3 : tie.Need-slice-relend-prefix-number-3
-slice-relend-prefix-number-3 c = search needs
-
 slice-aggregate-number-3 : tie.Need-slice-aggregate-number-3
 slice-aggregate-number-3 c = part (c .before .before .before .before .before .before) _ (c .before .before .before .before .before .before .before .before .before .before .before .pre .2)
-
-array-share-prefix-limits : tie.Need-array-share-prefix-limits
-array-share-prefix-limits c = search needs
 
 slice-aggregate-number-4 : tie.Need-slice-aggregate-number-4
 slice-aggregate-number-4 c =
@@ -81,15 +63,6 @@ number-requires c κs =
     let e = part o (c .before .before .before .before .before .before .before .before .before .before .before .before .before .before .args .self .chunk) (omega (arith, sizes o)) in
     (sym (part o _ (p .0)) ∙ e, sym (part o _ (p .1)) ∙ e, sym (part o _ (p .2)) ∙ e, sym (part o _ (omega arith)) ∙ e, sym (part o _ (omega (arith, sizes o))) ∙ e)
 
-same-length : tie.Need-same-length
-same-length c = search needs
-
-same-length-2 : tie.Need-same-length-2
-same-length-2 c = search needs
-
-same-length-3 : tie.Need-same-length-3
-same-length-3 c = search needs
-
 returns-2 : tie.Need-returns-2
 returns-2 c =
     let o = c .before .before .before .before .before .before .before .before .before .before .before .before .before .before .before .before in
@@ -103,24 +76,7 @@ returns-2 c =
 pub numbering-spec : {M : Type 1} → statement M
 numbering-spec =
     tie.close
-    (tie.spec
-    refused-numbering-requires
-    returns
-    limits-requires
-    slice-relend-prefix-number
-    slice-aggregate-number
-    slice-relend-prefix-number-2
-    slice-aggregate-number-2
-    slice-relend-prefix-number-3
-    slice-aggregate-number-3
-    array-share-prefix-limits
-    slice-aggregate-number-4
-    array-share-prefix-present
-    slice-aggregate-number-5
-    array-share-prefix-chunk
-    slice-aggregate-number-6
-    number-requires
-    same-length
-    same-length-2
-    same-length-3
-    returns-2)
+    (tie.spec (search needs) returns (search needs) (search needs) slice-aggregate-number (search needs)
+    slice-aggregate-number-2 (search needs) slice-aggregate-number-3 (search needs) slice-aggregate-number-4
+    array-share-prefix-present slice-aggregate-number-5 array-share-prefix-chunk slice-aggregate-number-6
+    number-requires (search needs) (search needs) (search needs) returns-2)

@@ -8,20 +8,8 @@ use Rattle.fields.proofs.Numbers.{fits-is, overflows-is}
 use Rattle.fields.proofs.bytes.ensure_len.Statement.{statement}
 use Rattle.fields.proofs.bytes.ensure_len.Tie as tie
 
-checked-add-requires : tie.Need-checked-add-requires
-checked-add-requires c κs = search needs
-
-enum-known-end : tie.Need-enum-known-end
-enum-known-end c = search needs
-
 returns : tie.Need-returns
 returns c = in-file _ _ _ (omega (arith, fits-is _ _ (sym (c .before .before .end .given .1) ∙ c .before .before .before .before .checked-add .ensures)))
-
-enum-told : tie.Need-enum-told
-enum-told c = search needs
-
-saturating-add-requires : tie.Need-saturating-add-requires
-saturating-add-requires c κs = search needs
 
 returns-2 : tie.Need-returns-2
 returns-2 c =
@@ -33,10 +21,4 @@ returns-2 c =
 pub ensure-len-spec : {M : Type 1} → statement M
 ensure-len-spec =
     tie.close
-    (tie.spec
-    checked-add-requires
-    enum-known-end
-    returns
-    enum-told
-    saturating-add-requires
-    returns-2)
+    (tie.spec (search needs) (search needs) returns (search needs) (search needs) returns-2)

@@ -17,31 +17,16 @@ abbrev μ-loop : tie.MeasureT-loop
 loop-holds : tie.Need-loop-holds Inv-loop μ-loop
 loop-holds c = whole-left (c .before .args .s .now) (c .before .args .pos) (c .before .args .width)
 
-sub-i : tie.Need-sub-i Inv-loop μ-loop
-sub-i c = search needs
-
 mul-v : tie.Need-mul-v Inv-loop μ-loop
 mul-v c =
     let l = c .before .loop in
     omega (arith, byte-room (c .before .before .before .args .width) (l .i) (l .v) (c .before .before .before .pre .1) (c .loop-test .taken) (l .inv .2))
-
-add-wide : tie.Need-add-wide Inv-loop μ-loop
-add-wide c = search needs
-
-shared-slice-read-wide : tie.Need-shared-slice-read-wide Inv-loop μ-loop
-shared-slice-read-wide c = search needs
-
-wide-requires : tie.Need-wide-requires Inv-loop μ-loop
-wide-requires c κs = search needs
 
 add-v : tie.Need-add-v Inv-loop μ-loop
 add-v c =
     let l = c .before .before .before .loop in
     let a = c .before .before .before .before .before in
     omega (arith, byte-room (a .args .width) (l .i) (l .v) (a .pre .1) (c .before .before .loop-test .taken) (l .inv .2), c .before .shared-slice-known2 .given (a .args .pos + (l .i - 1)))
-
-loop-less : tie.Need-loop-less Inv-loop μ-loop
-loop-less c = search needs
 
 loop-again : tie.Need-loop-again Inv-loop μ-loop
 loop-again c =
@@ -59,16 +44,5 @@ returns c =
 pub read-le-bytes-spec : {M : Type 1} → statement M
 read-le-bytes-spec =
     tie.close
-    (tie.spec
-    Inv-loop
-    μ-loop
-    loop-holds
-    sub-i
-    mul-v
-    add-wide
-    shared-slice-read-wide
-    wide-requires
-    add-v
-    loop-less
-    loop-again
-    returns)
+    (tie.spec Inv-loop μ-loop loop-holds (search needs) mul-v (search needs) (search needs) (search needs) add-v
+    (search needs) loop-again returns)

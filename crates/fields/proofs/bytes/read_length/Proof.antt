@@ -7,19 +7,10 @@ use Rattle.fields.proofs.Widths.{width-le}
 use Rattle.fields.proofs.bytes.read_length.Statement.{statement}
 use Rattle.fields.proofs.bytes.read_length.Tie as tie
 
-ensure-field-requires : tie.Need-ensure-field-requires
-ensure-field-requires c κs = search needs
-
-enum-told : tie.Need-enum-told
-enum-told c = search needs
-
 read-le-requires : tie.Need-read-le-requires
 read-le-requires c κs =
     let p = field-is _ _ _ _ (sym (c .enum-told .given .1) ∙ c .before .before .ensure-field .ensures) in
     (p .0, width-le _ (p .1))
-
-enum-known-r : tie.Need-enum-known-r
-enum-known-r c = search needs
 
 returns : tie.Need-returns
 unfolding lengthField
@@ -32,4 +23,4 @@ returns-2 c = refused-after _ _ (sym (c .before .r .given .1) ∙ c .before .bef
 pub read-length-spec : {M : Type 1} → statement M
 read-length-spec =
     tie.close
-    (tie.spec ensure-field-requires enum-told read-le-requires enum-known-r returns returns-2)
+    (tie.spec (search needs) (search needs) read-le-requires (search needs) returns returns-2)

@@ -6,17 +6,8 @@ use Rattle.fields.proofs.Fields.{value-after, refused-after, field-is}
 use Rattle.fields.proofs.bytes.read_offset.Statement.{statement}
 use Rattle.fields.proofs.bytes.read_offset.Tie as tie
 
-ensure-field-requires : tie.Need-ensure-field-requires
-ensure-field-requires c κs = search needs
-
-enum-told : tie.Need-enum-told
-enum-told c = search needs
-
 read-address-requires : tie.Need-read-address-requires
 read-address-requires c κs = field-is _ _ _ _ (sym (c .enum-told .given .1) ∙ c .before .before .ensure-field .ensures)
-
-enum-known-r : tie.Need-enum-known-r
-enum-known-r c = search needs
 
 returns : tie.Need-returns
 unfolding offsetField
@@ -29,4 +20,4 @@ returns-2 c = refused-after _ _ (sym (c .before .r .given .1) ∙ c .before .bef
 pub read-offset-spec : {M : Type 1} → statement M
 read-offset-spec =
     tie.close
-    (tie.spec ensure-field-requires enum-told read-address-requires enum-known-r returns returns-2)
+    (tie.spec (search needs) (search needs) read-address-requires (search needs) returns returns-2)

@@ -9,19 +9,10 @@ use Rattle.fields.proofs.bytes.read_variable_length.Tie as tie
 
 returns : tie.Need-returns
 unfolding sizeField
-returns c = refused-after _ _ (over-eight _ _ _ (omega arith))
-
-ensure-len-requires : tie.Need-ensure-len-requires
-ensure-len-requires c κs = search needs
-
-enum-told : tie.Need-enum-told
-enum-told c = search needs
+returns c = rw (c .plain .ensures) (refused-after _ _ (over-eight _ _ _ (omega arith)))
 
 read-le-requires : tie.Need-read-le-requires
 read-le-requires c κs = (inside _ _ _ (sym (c .enum-told .given .1) ∙ c .before .before .ensure-len .ensures), omega arith)
-
-enum-known-r : tie.Need-enum-known-r
-enum-known-r c = search needs
 
 returns-2 : tie.Need-returns-2
 unfolding sizeField
@@ -34,11 +25,5 @@ returns-3 c = refused-after _ _ (sym (c .before .r .given .1) ∙ c .before .bef
 pub read-variable-length-spec : {M : Type 1} → statement M
 read-variable-length-spec =
     tie.close
-    (tie.spec
-    returns
-    ensure-len-requires
-    enum-told
-    read-le-requires
-    enum-known-r
-    returns-2
+    (tie.spec (search needs) returns (search needs) (search needs) read-le-requires (search needs) returns-2
     returns-3)

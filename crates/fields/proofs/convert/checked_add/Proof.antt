@@ -6,12 +6,6 @@ use Rattle.fields.proofs.Numbers.{fits, overflows}
 use Rattle.fields.proofs.convert.checked_add.Statement.{statement}
 use Rattle.fields.proofs.convert.checked_add.Tie as tie
 
-sub-if1 : tie.Need-sub-if1
-sub-if1 c = search needs
-
-add-t6 : tie.Need-add-t6
-add-t6 c = search needs
-
 returns : tie.Need-returns
 returns c = fits (c .before .args .a + c .before .args .b) (omega arith)
 
@@ -19,4 +13,4 @@ returns-2 : tie.Need-returns-2
 returns-2 c = overflows (c .before .args .a + c .before .args .b) (omega arith)
 
 pub checked-add-spec : {M : Type 1} → statement M
-checked-add-spec = tie.close (tie.spec sub-if1 add-t6 returns returns-2)
+checked-add-spec = tie.close (tie.spec (search needs) (search needs) returns returns-2)

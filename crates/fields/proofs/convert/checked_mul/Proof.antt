@@ -17,9 +17,6 @@ fitting c = le-div-iff-mul-le (positive (c .before)) .0 (omega arith)
 returns : tie.Need-returns
 returns c = rw (c .if1 .taken, mul-zero) (fits 0 (omega arith))
 
-div-if2 : tie.Need-div-if2
-div-if2 c = search needs
-
 mul-t6 : tie.Need-mul-t6
 mul-t6 c = omega (arith, fitting c)
 
@@ -30,4 +27,4 @@ returns-3 : tie.Need-returns-3
 returns-3 c = overflows _ (div-lt-iff-lt-mul (positive (c .before)) .0 (omega arith))
 
 pub checked-mul-spec : {M : Type 1} → statement M
-checked-mul-spec = tie.close (tie.spec returns div-if2 mul-t6 returns-2 returns-3)
+checked-mul-spec = tie.close (tie.spec returns (search needs) mul-t6 returns-2 returns-3)

@@ -1,25 +1,10 @@
 -- `fields::convert::saturating_add` meets its contract. Assumes nothing.
-use mathlib.Core.Path.{sym, _∙_}
 use borrow.Author.Needs.{needs}
-use Rattle.fields.proofs.Numbers.{figure-fits, figure-overflows}
 use Rattle.fields.proofs.convert.saturating_add.Statement.{statement}
 use Rattle.fields.proofs.convert.saturating_add.Tie as tie
 
-checked-add-requires : tie.Need-checked-add-requires
-checked-add-requires c κs = search needs
-
-enum-known-n : tie.Need-enum-known-n
-enum-known-n c = search needs
-
-enum-told : tie.Need-enum-told
-enum-told c = search needs
-
 returns : tie.Need-returns
-returns c = figure-fits _ _ (sym (c .before .n .given .1) ∙ c .before .before .before .checked-add .ensures)
-
-returns-2 : tie.Need-returns-2
-returns-2 c = figure-overflows _ (sym (c .enum-told .given .1) ∙ c .before .before .checked-add .ensures)
+returns c = c .saturated .ensures _ (c .before .checked-add .ensures)
 
 pub saturating-add-spec : {M : Type 1} → statement M
-saturating-add-spec =
-    tie.close (tie.spec checked-add-requires enum-known-n enum-told returns returns-2)
+saturating-add-spec = tie.close (tie.spec (search needs) (search needs) returns)

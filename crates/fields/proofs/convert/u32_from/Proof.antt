@@ -5,9 +5,6 @@ use Rattle.fields.proofs.Numbers.{narrow, too-wide}
 use Rattle.fields.proofs.convert.u32_from.Statement.{statement}
 use Rattle.fields.proofs.convert.u32_from.Tie as tie
 
-cast-t3 : tie.Need-cast-t3
-cast-t3 c = search needs
-
 returns : tie.Need-returns
 returns c = narrow (c .before .args .value) (omega arith)
 
@@ -15,4 +12,4 @@ returns-2 : tie.Need-returns-2
 returns-2 c = too-wide (c .before .args .value) (omega arith) (omega arith)
 
 pub u32-from-spec : {M : Type 1} → statement M
-u32-from-spec = tie.close (tie.spec cast-t3 returns returns-2)
+u32-from-spec = tie.close (tie.spec (search needs) returns returns-2)

@@ -1,23 +1,14 @@
 -- `refusal::Checked::refusal` meets its contract. Assumes nothing.
-use mathlib.Core.Path.{ap, sym}
+use mathlib.Core.Path.{ap, sym, _∙_}
 use Rattle.refusal.specs.Refusals.{refusalOf}
 use borrow.Author.Needs.{needs}
 use Rattle.refusal.proofs.Checked.refusal.Statement.{statement}
 use Rattle.refusal.proofs.Checked.refusal.Tie as tie
 
-enum-told : tie.Need-enum-told
-enum-told c = search needs
-
-enum-known-self : tie.Need-enum-known-self
-enum-known-self c = search needs
-
 returns : tie.Need-returns
 unfolding refusalOf
-returns c = sym (ap refusalOf (c .enum-told .given .1))
-
-returns-2 : tie.Need-returns-2
-unfolding refusalOf
-returns-2 c = search needs
+returns c = c .plain .ensures ∙ sym (ap refusalOf (c .before .enum-told .given .1))
 
 pub refusal-spec : {M : Type 1} → statement M
-refusal-spec = tie.close (tie.spec enum-told enum-known-self returns returns-2)
+unfolding refusalOf
+refusal-spec = tie.close (tie.spec (search needs) (search needs) (search needs) returns (λ c. search needs))

@@ -1,4 +1,4 @@
--- The tried values that concern the grid: chunk 10 by 5, maximum 20 by unlimited, whatever the present extents. Assumes nothing.
+-- Worked examples of a grid: chunk 10 by 5, maximum 20 by unlimited, whatever the present extents. Assumes nothing.
 use Prim.Native.Nat.{ℕ}
 use mathlib.Core.Path.{_≡_, refl}
 use mathlib.Core.Bool.{Bool, true, false}

@@ -1,0 +1,4 @@
+pub mod DefinedRuns
+pub mod Skipping
+pub mod AllChunks
+pub mod Counting

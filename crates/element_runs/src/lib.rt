@@ -1,0 +1,4 @@
+// Runs of elements: tested and counted, and by their addresses alone.
+
+pub mod count;
+pub mod defined;
