@@ -1,15 +1,14 @@
--- The number that a call answers: the one of its answer that is asked for; and 0, asked of the refusal, says that the call is accepted.
--- Assumes nothing.
-use Prim.Native.Nat.{ℕ, zero, suc, _+_, _-_, _<_, _≤_}
+-- The number that a call answers: the one of its answer that is asked for; and 0, asked of the refusal, says that the
+-- call is accepted. Assumes nothing.
+use Prim.Native.Nat.{ℕ, zero, suc, _-_, _<_, _≤_}
 use mathlib.Core.Path.{_≡_, refl, sym, ap, _∙_}
-use mathlib.Core.Bool.{Bool, true, false, cond}
+use mathlib.Core.Bool.{Bool, true, false}
 use mathlib.Core.List.{List, _∷_}
 use native.Mathlib.Omega.{arith}
-use borrow.Author.Tests.{lt-ltb, le-ltb, lt-leb, le-leb, leb-true, ltb-true}
+use borrow.Author.Tests.{lt-ltb, lt-leb, le-leb, leb-true, ltb-true}
 use lib.Dec.{eqb, ltb}
 use lib.ListN.{length, getD, replicate, length-replicate}
 use Rattle.refusal.specs.declared.Refusal.{Refusal}
-use Rattle.refusal.specs.declared.Checked.the-variants.{Passed}
 use Rattle.refusal.specs.declared.Counted.{Counted}
 use Rattle.refusal.specs.declared.Counted.the-variants.{Count}
 use Rattle.refusal.specs.Refusals.{refusalOf}
@@ -87,7 +86,8 @@ module _ (which names n : ℕ) (c : Counted) (e : c ≡ Count n) where
           let z : which - 3 ≡ suc (which - 4) = omega arith in
           rw z (sym (zeros (names - 1) (which - 4)))
 
--- The number 0, asked of the refusal, says that the call is accepted, where each refusal has a number above 0 and is told as it is.
+-- The number 0, asked of the refusal, says that the call is accepted, where each refusal has a number above 0 and is
+-- told as it is.
 pub zero-accepts : {A : Type 0} (answer : Outcome A → Answer) → ((r : Refusal) → answer (refused r) .refusal ≡ r)
     → (a : Outcome A) → Told a → (which number : ℕ) → number ≡ picked which (answer a) → ZeroAccepts a which number
 unfolding picked isNamed refusalNumber

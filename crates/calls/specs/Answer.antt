@@ -41,7 +41,8 @@ unfoldable pub countedAnswer : ℕ → Counted → Answer
 countedAnswer names (Refused r) = refusedAnswer names r
 countedAnswer names (Count n) = acceptedAnswer (n ∷ replicate (names - 1) 0)
 
--- The calls that list and look up chunks name four numbers: the count, and of the chunk that was looked up the address, size and mask.
+-- The calls that list and look up chunks name four numbers: the count, and of the chunk that was looked up the
+-- address, size and mask.
 abbrev pub chunkNames : ℕ
 chunkNames = 4
 

@@ -8,8 +8,8 @@ use Rattle.chunk_grid.specs.declared.GridOrder.the-variants.{RowMajor, Unlimite
 use Rattle.chunk_grid.specs.Grid.{Grid}
 use Rattle.chunk_grid.specs.Shapes.{givenBytes}
 
--- The file, the sizes of its offsets and lengths, the address of the index's header, the bytes of one element of the dataset, and the grid
--- of the dataset's shapes.
+-- The file, the sizes of its offsets and lengths, the address of the index's header, the bytes of one element of the
+-- dataset, and the grid of the dataset's shapes.
 pub record Call : Type 0 where
   pub file : List ℕ
   pub offsetSize : ℕ

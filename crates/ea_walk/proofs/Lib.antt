@@ -1,3 +1,5 @@
 pub mod Turns
 pub mod Paths
+pub mod Induction
 pub mod Walks
+pub mod Numbered
