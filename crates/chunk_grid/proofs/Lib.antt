@@ -8,3 +8,4 @@ pub mod Shapes
 pub mod Slots
 pub mod Worked
 pub mod Chunks
+pub mod RefusalNumbers

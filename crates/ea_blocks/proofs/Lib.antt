@@ -1,3 +1,4 @@
 pub mod StructureTests
 pub mod PointerValues
 pub mod Entering
+pub mod Numbered

@@ -4,14 +4,12 @@ use mathlib.Core.List.{List}
 use Rattle.refusal.specs.Outcome.{refused, _yields_}
 use Rattle.chunk_grid.specs.Grid.{Grid}
 use Rattle.ea_header.specs.Header.{headerAt, headerTest}
-use Rattle.ea_elements.specs.Elements.{Rec}
-use Rattle.ea_elements.specs.Runs.{Listing}
-use Rattle.ea_list.specs.Listing.{list}
-use Rattle.ea_worked.specs.Files.{byteSum, callOn}
+use Rattle.index.specs.Index.{Rec, Listing}
+use Rattle.ea_worked.specs.Files.{byteSum, sampleOn, listOf}
 
 -- the header at pos with offset size o and length size l, then the list with offset size p
 unfoldable pub answer : List ℕ → ℕ → ℕ → ℕ → ℕ → Grid → ℕ → Listing
-answer f pos o l p g n = headerTest byteSum f pos o l yields list (callOn f (headerAt f pos o l) p g n)
+answer f pos o l p g n = headerTest byteSum f pos o l yields listOf (sampleOn f (headerAt f pos o l) p g n)
 
 -- answers
 abbrev pub chunk : ℕ → ℕ → ℕ → List ℕ → Rec

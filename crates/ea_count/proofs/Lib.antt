@@ -1,3 +1,3 @@
 pub mod WalkStates
+pub mod Invariants
 pub mod Heads
-pub mod Starts

@@ -98,16 +98,7 @@ pub fn count_blocks(
                 let mut p = 0;
                 // What is counted, and the walk from its page p on, are the whole.
                 'pages: while p < pages {
-                    let turn = enter_page_in_turn(
-                        file,
-                        array,
-                        super_at,
-                        at,
-                        u,
-                        k,
-                        p,
-                        page_ahead,
-                    );
+                    let turn = enter_page_in_turn(file, array, super_at, at, u, k, p, page_ahead);
                     page_ahead = turn.ahead;
                     let found = turn.found;
                     let pos = match found {

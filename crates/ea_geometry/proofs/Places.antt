@@ -22,6 +22,11 @@ use Rattle.ea_geometry.specs.declared.Place.{Place}
 use Rattle.ea_geometry.specs.declared.Place.the-variants.{Inline, Block, Page, Nowhere}
 use Rattle.ea_geometry.proofs.Counts.{next-power, next-elements, elements-before-mono, supers-few, elements-pos, pages-exact}
 
+-- a block that is read by pages has more elements than a page
+pub in-pages-over : (h : Parameters) (u : ℕ) → inPages h u ≡ true → overPage h u ≡ true
+unfolding inPages
+in-pages-over h u q = both (leb (directSuperBlocks h) u) (overPage h u) q .1
+
 -- super block 0 begins behind the inline slots, and each further one where the one before it ends
 pub first-slot-zero : (h : Parameters) → firstSlot h 0 ≡ h .«idx_blk_elmts»
 unfolding firstSlot elementsBefore
@@ -177,7 +182,6 @@ module _ (h : Parameters) (v : Served h) where
 
   -- a page of a paged block has its number below the pages
   pub page-below : (u i : ℕ) → u < superBlocks h → inPages h u ≡ true → i < blockElements h u → i / pageElements h < pages h u
-  unfolding inPages pageElements
+  unfolding pageElements
   page-below u i lu t lt =
-      let over = both (leb (directSuperBlocks h) u) (overPage h u) t .1 in
-      div-lt-iff-lt-mul (pow-pos (h .«max_dblk_nelmts_bits»)) .1 (omega (arith, pages-exact h v u lu over))
+      div-lt-iff-lt-mul (pow-pos (h .«max_dblk_nelmts_bits»)) .1 (omega (arith, pages-exact h v u lu (in-pages-over h u t)))

@@ -1,3 +1,4 @@
 pub mod Header
 pub mod Log
 pub mod Served
+pub mod Numbered

@@ -31,7 +31,7 @@ module _ (a : Array) (u k : ℕ) (r : Ready a u) where
   unfolding leadingTo tested _then_
   ready-tested inner = ⊎-elim (λ (d : isDirect a u ≡ true). rw d refl) (λ d. rw (d .0, d .1, d .2) refl) (r .named)
 
-  ready-reached : blockReached a u k ≡ not (blockUndefined a u k)
+  pub ready-reached : blockReached a u k ≡ not (blockUndefined a u k)
   unfolding blockReached
   ready-reached = ⊎-elim (λ (d : isDirect a u ≡ true). rw d refl) (λ d. rw (d .0, d .1) refl) (r .named)
 

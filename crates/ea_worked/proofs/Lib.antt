@@ -1,5 +1,5 @@
 pub mod Opened
 pub mod Worked
 pub mod Pages
-pub mod Tried
-pub mod Idle
+pub mod Table
+pub mod Lazy

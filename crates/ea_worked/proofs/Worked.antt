@@ -4,9 +4,10 @@ use mathlib.Core.List.{[], _∷_, _++_}
 use lib.ListN.{length, replicate}
 use Rattle.refusal.specs.Outcome.{refused, accepted}
 use Rattle.fields.specs.LittleEndian.{leBytes}
-use Rattle.ea_list.specs.Listing.{listInto, listContent}
+use Rattle.records.specs.Records.{listContent}
+use Rattle.ea_list.specs.ListInto.{listInto}
 use Rattle.ea_worked.specs.Files.{listAt}
-use Rattle.ea_worked.specs.Worked.{file, grid, call, chunks}
+use Rattle.ea_worked.specs.Worked.{file, grid, sample, chunks}
 use Rattle.ea_worked.proofs.Opened.{opened}
 
 pub long : length file ≡ 504
@@ -18,15 +19,15 @@ unfolding opened file grid chunks
 listed = refl
 
 -- 48 bytes hold the two records, one byte fewer is 9; bytes behind the last record stay.
-pub fits : listInto call 48 ≡ accepted chunks
-unfolding opened file grid call chunks
+pub fits : listInto (sample .array) (sample .elements) 48 ≡ accepted chunks
+unfolding opened file grid sample chunks
 fits = refl
 
-pub too-small : listInto call 47 ≡ refused (record { number = 9; first = 2; second = 0 })
-unfolding opened file grid call
+pub too-small : listInto (sample .array) (sample .elements) 47 ≡ refused (record { number = 9; first = 2; second = 0 })
+unfolding opened file grid sample
 too-small = refl
 
-pub written : listContent (listInto call 50) (replicate 50 7)
+pub written : listContent (listInto (sample .array) (sample .elements) 50) (replicate 50 7)
     ≡ leBytes 8 4096 ++ leBytes 4 40 ++ leBytes 4 0 ++ leBytes 8 0 ++ leBytes 8 8192 ++ leBytes 4 40 ++ leBytes 4 0 ++ leBytes 8 20 ++ 7 ∷ 7 ∷ []
-unfolding opened file grid call
+unfolding opened file grid sample
 written = refl

@@ -1,16 +1,18 @@
--- Calls on small files. Their checksum is the sum of the bytes, which a proof can compute.
+-- Datasets in small files. Their checksum is the sum of the bytes, which a proof can compute.
 use Prim.Native.Nat.{ℕ}
 use mathlib.Core.List.{List}
 use mathlib.Core.Option.{Option}
 use lib.ListN.{replicate}
 use Rattle.refusal.specs.Outcome.{Outcome, _yields_}
 use Rattle.chunk_grid.specs.Grid.{Grid, total}
+use Rattle.index.specs.Index.{Index, Rec, Listing}
+use Rattle.elements.specs.Elements.{Elements}
+use Rattle.located.specs.Located.{indexOf}
 use Rattle.ea_header.specs.declared.ExtensibleArrayHeader.{ExtensibleArrayHeader}
 use Rattle.ea_header.specs.Header.{headerAt, headerTest}
-use Rattle.ea_blocks.specs.Call.{Call}
-use Rattle.ea_elements.specs.Elements.{Rec}
-use Rattle.ea_elements.specs.Runs.{Listing}
-use Rattle.ea_list.specs.Listing.{list}
+use Rattle.ea_blocks.specs.Array.{Array}
+use Rattle.ea_walk.specs.Given.{elementsIn}
+use Rattle.ea_walk.specs.Walk.{located, list}
 use Rattle.ea_lookup.specs.Lookup.{lookup}
 
 abbrev pub byteSum : List ℕ → ℕ
@@ -20,17 +22,35 @@ byteSum s = total s
 unfoldable pub undefinedBytes : ℕ → List ℕ
 undefinedBytes n = replicate n 0xff
 
--- the call on a file with this header, with offset size o and elements of n bytes in the dataset
-unfoldable pub callOn : List ℕ → ExtensibleArrayHeader → ℕ → Grid → ℕ → Call
-callOn f h o g n = record { file = f; sum = byteSum; header = h; offsetSize = o; grid = g; elementBytes = n }
+-- the array and the elements of a dataset
+pub record Sample : Type 0 where
+  pub array : Array
+  pub elements : Elements
+
+-- of a file with this header, with offset size o and elements of n bytes in the dataset
+unfoldable pub sampleOn : List ℕ → ExtensibleArrayHeader → ℕ → Grid → ℕ → Sample
+sampleOn f h o g n = record {
+  array = record { file = f; sum = byteSum; parameters = h .parameters; offsetSize = o; indexAt = h .«index_block_address» };
+  elements = elementsIn f h o g n;
+}
 
 -- where the header stands at pos and was read with offset size o and length size l
-unfoldable pub callAt : List ℕ → ℕ → ℕ → ℕ → Grid → ℕ → Call
-callAt f pos o l g n = callOn f (headerAt f pos o l) o g n
+unfoldable pub sampleAt : List ℕ → ℕ → ℕ → ℕ → Grid → ℕ → Sample
+sampleAt f pos o l g n = sampleOn f (headerAt f pos o l) o g n
 
--- its list and its lookup, the header's test first
+-- its list, its lookup, and the index that they are of
+abbrev pub listOf : Sample → Listing
+listOf s = list (s .array) (s .elements)
+
+abbrev pub lookupIn : Sample → List ℕ → Outcome (Option Rec)
+lookupIn s corner = lookup (s .array) (s .elements) corner
+
+abbrev pub indexIn : Sample → Index
+indexIn s = indexOf (located (s .array) (s .elements))
+
+-- both with the header's test first
 unfoldable pub listAt : List ℕ → ℕ → ℕ → ℕ → Grid → ℕ → Listing
-listAt f pos o l g n = headerTest byteSum f pos o l yields list (callAt f pos o l g n)
+listAt f pos o l g n = headerTest byteSum f pos o l yields listOf (sampleAt f pos o l g n)
 
 unfoldable pub lookupAt : List ℕ → ℕ → ℕ → ℕ → Grid → ℕ → List ℕ → Outcome (Option Rec)
-lookupAt f pos o l g n corner = headerTest byteSum f pos o l yields lookup (callAt f pos o l g n) corner
+lookupAt f pos o l g n corner = headerTest byteSum f pos o l yields lookupIn (sampleAt f pos o l g n) corner

@@ -1,4 +1,4 @@
 pub mod Files
 pub mod Worked
 pub mod Pages
-pub mod Idle
+pub mod Lazy

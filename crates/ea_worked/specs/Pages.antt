@@ -9,9 +9,8 @@ use Rattle.refusal.specs.declared.Refusal.{Refusal}
 use Rattle.refusal.specs.Refusals.{largest64}
 use Rattle.fields.specs.LittleEndian.{leBytes}
 use Rattle.chunk_grid.specs.Grid.{Grid}
-use Rattle.ea_blocks.specs.Call.{Call}
-use Rattle.ea_elements.specs.Elements.{Rec}
-use Rattle.ea_worked.specs.Files.{undefinedBytes, callAt}
+use Rattle.index.specs.Index.{Rec}
+use Rattle.ea_worked.specs.Files.{Sample, undefinedBytes, sampleAt}
 
 -- the element of slot s: address 200 + s, size 300 + s, mask 70,000 + s
 abbrev pub stored : ℕ → List ℕ
@@ -75,27 +74,27 @@ gridIn unlimitedFirst = record {
 unfoldable pub grid : Grid
 grid = gridIn true
 
-unfoldable pub call : Call
-call = callAt file 0 2 2 grid 4
+unfoldable pub sample : Sample
+sample = sampleAt file 0 2 2 grid 4
 
 -- the record of slot s at this corner
-abbrev pub recordOf : ℕ → List ℕ → Rec
-recordOf s corner = record { entry = record { address = 200 + s; size = 300 + s; mask = 70_000 + s }; corner = corner }
+abbrev pub recordAtSlot : ℕ → List ℕ → Rec
+recordAtSlot s corner = record { entry = record { address = 200 + s; size = 300 + s; mask = 70_000 + s }; corner = corner }
 
 -- Slots 11 and 17 hold addresses too: 11 is dropped, 17 is past the count.
 unfoldable pub chunks : List Rec
 chunks =
-    recordOf 0 (0 ∷ 0 ∷ [])
-    ∷ recordOf 1 (10 ∷ 0 ∷ [])
-    ∷ recordOf 6 (20 ∷ 5 ∷ [])
-    ∷ recordOf 10 (20 ∷ 10 ∷ [])
-    ∷ recordOf 13 (10 ∷ 15 ∷ [])
-    ∷ recordOf 16 (0 ∷ 20 ∷ [])
+    recordAtSlot 0 (0 ∷ 0 ∷ [])
+    ∷ recordAtSlot 1 (10 ∷ 0 ∷ [])
+    ∷ recordAtSlot 6 (20 ∷ 5 ∷ [])
+    ∷ recordAtSlot 10 (20 ∷ 10 ∷ [])
+    ∷ recordAtSlot 13 (10 ∷ 15 ∷ [])
+    ∷ recordAtSlot 16 (0 ∷ 20 ∷ [])
     ∷ []
 
--- the call where the byte at pos is another
-unfoldable pub spoiled : ℕ → ℕ → Call
-spoiled pos byte = callAt (set file pos byte) 0 2 2 grid 4
+-- the dataset where the byte at pos is another
+unfoldable pub spoiled : ℕ → ℕ → Sample
+spoiled pos byte = sampleAt (set file pos byte) 0 2 2 grid 4
 
 -- such a byte, and the refusal that the list then gives
 pub record Spoiling : Type 0 where

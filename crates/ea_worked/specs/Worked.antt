@@ -8,9 +8,8 @@ use lib.ListN.{replicate}
 use Rattle.refusal.specs.Refusals.{largest64}
 use Rattle.fields.specs.LittleEndian.{leBytes}
 use Rattle.chunk_grid.specs.Grid.{Grid}
-use Rattle.ea_blocks.specs.Call.{Call}
-use Rattle.ea_elements.specs.Elements.{Rec}
-use Rattle.ea_worked.specs.Files.{undefinedBytes, callAt}
+use Rattle.index.specs.Index.{Rec}
+use Rattle.ea_worked.specs.Files.{Sample, undefinedBytes, sampleAt}
 
 -- 72 bytes at 0, the index block at 72
 abbrev pub header : List ℕ
@@ -36,8 +35,8 @@ unfoldable pub grid : Grid
 grid = record { rank = 1; chunk = 10 ∷ []; present = 25 ∷ []; hasMaximum = true; maximum = largest64 ∷ []; unlimitedFirst = true }
 
 -- elements of 4 bytes
-unfoldable pub call : Call
-call = callAt file 0 8 8 grid 4
+unfoldable pub sample : Sample
+sample = sampleAt file 0 8 8 grid 4
 
 unfoldable pub chunks : List Rec
 chunks =

@@ -10,7 +10,8 @@ use Rattle.element_form.specs.declared.Form.{Form}
 use Rattle.element_form.specs.Form.{filtered, sizeBytes}
 use Rattle.elements.specs.Elements.{chunkBytes}
 
--- how many of n elements from pos on, of so many bytes each, are undefined in front of the first that is defined; o is the size of an address
+-- how many of n elements from pos on, of so many bytes each, are undefined in front of the first that is defined; o is
+-- the size of an address
 unfoldable pub undefinedRun : List ℕ → ℕ → ℕ → ℕ → ℕ → ℕ
 undefinedRun file pos zero stride o = 0
 undefinedRun file pos (suc n) stride o = cond (undefinedAt file pos o) (suc (undefinedRun file (pos + stride) n stride o)) 0

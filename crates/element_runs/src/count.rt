@@ -8,7 +8,6 @@ ghost use Rattle.refusal.specs.Refusals.{figure};
 ghost use Rattle.refusal.specs.Outcome.{accepted, countedOf};
 ghost use Rattle.chunk_grid.specs.declared.Offsets.the-variants.{Inside};
 ghost use Rattle.chunk_grid.specs.Grid.{Grid, inExtent};
-ghost use Rattle.chunk_grid.specs.Values.{Numbers, Extents};
 ghost use Rattle.element_form.specs.Form.{elementSizeTest};
 ghost use Rattle.elements.specs.Elements.{chunkBytes};
 ghost use Rattle.elements.specs.Runs.{elementsFrom};
@@ -20,7 +19,6 @@ use crate::defined::undefined_run;
 use chunk_grid::Offsets;
 use chunk_slots::all_inside;
 use chunk_slots::line_from;
-use chunk_slots::offsets_in_extent;
 use elements::Element;
 use elements::ElementReader;
 use elements::read::read_defined_element;
@@ -101,8 +99,8 @@ fn sizes_fit(reader: ElementReader) -> bool
     reader.chunk_bytes <= 0xffff_ffff
 }
 
-// What the offsets of a slot come to. Where lines are asked for and the slot lies in the present extents, also how many of n slots from
-// it on lie in its line. (The array that is lent is for the offsets.)
+// What the offsets of a slot come to. Where lines are asked for and the slot lies in the present extents, also how many
+// of n slots from it on lie in its line. (The array that is lent is for the offsets.)
 fn reach_from(
     offsets: &mut [u64; 32],
     slot: u64,
@@ -113,36 +111,25 @@ fn reach_from(
     bound: &[u64; 32],
     down: &[u64; 32],
 ) -> Reach
-    requires { ⌜ ((g : Grid) × Numbers (reader .rank) (reader .rotated) (now chunk) (now down) g × Extents (reader .rank) (reader .numbers) (now bound) g) ⌝ }
+    requires { ⌜ ((grid : Grid) × (m : ℕ) × Reads reader (now chunk) (now bound) (now down) grid m) ⌝ }
     ensures { λ r. ⌜ (r .slots ≤ n) × (0 < r .slots → lines ≡ true)
-        × ((g : Grid) → Numbers (reader .rank) (reader .rotated) (now (chunk .entry)) (now (down .entry)) g
-        → Extents (reader .rank) (reader .numbers) (now (bound .entry)) g
-        → (r .reached ≡ inExtent g slot) × ((j : ℕ) → j < r .slots → inExtent g (slot + j) ≡ Inside)) ⌝ }
+        × ((grid : Grid) (m : ℕ) → Reads reader (now (chunk .entry)) (now (bound .entry)) (now (down .entry)) grid m
+        → (r .reached ≡ inExtent grid slot) × ((j : ℕ) → j < r .slots → inExtent grid (slot + j) ≡ Inside)) ⌝ }
 {
-    let rank = reader.rank as usize;
-    let rotated = reader.rotated as usize;
-    let reached = offsets_in_extent(
-        offsets,
-        slot,
-        rank,
-        rotated,
-        reader.numbers,
-        chunk,
-        bound,
-        down,
-    );
+    let reached = reader.reach(offsets, slot, chunk, bound, down);
     let mut slots = 0;
     if lines {
         if let Offsets::Inside = reached {
-            let line = line_from(slot, rank, rotated, bound, down);
+            let rank = reader.rank as usize;
+            let line = line_from(slot, rank, reader.rotated as usize, bound, down);
             slots = below_count(line.slots, 0, n);
         }
     }
     Reach { reached, slots }
 }
 
-// Tests and counts n elements below the published count, whose size has passed its test: line by line where no size can be refused, else
-// one by one.
+// Tests and counts n elements below the published count, whose size has passed its test: line by line where no size can
+// be refused, else one by one.
 fn count_each_element(
     file: &[u8],
     pos: usize,

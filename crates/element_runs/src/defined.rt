@@ -1,4 +1,5 @@
-// Runs of elements by their addresses alone. (Nothing else is looked at in these loops: most elements of a large index may be undefined.)
+// Runs of elements by their addresses alone. (Nothing else is looked at in these loops: most elements of a large index
+// may be undefined.)
 ghost use mathlib.Core.Path.{_≡_};
 ghost use mathlib.Core.Bool.{true};
 ghost use Prim.Native.Nat.{_+_, _*_, _≤_};

@@ -4,6 +4,7 @@ use mathlib.Core.Path.{_≡_, refl}
 use mathlib.Core.Bool.{Bool, true, false, cond}
 use mathlib.Core.List.{List}
 use mathlib.Core.Option.{Option, none, some}
+use native.Mathlib.Omega.{arith}
 use Rattle.refusal.specs.declared.Checked.{Checked}
 use Rattle.refusal.specs.declared.Checked.the-variants.{Passed, Refused}
 use Rattle.refusal.specs.Outcome.{Outcome, accepted}
@@ -11,9 +12,15 @@ use Rattle.refusal.proofs.Tests.{by-cond, then-inv, refuse-inv}
 use Rattle.refusal.proofs.Outcomes.{never}
 use Rattle.chunk_grid.specs.Grid.{Grid, offsets, offsetsTest, below, insideOr, inExtent, numbersNothing}
 use Rattle.chunk_grid.specs.Chunks.{chunkAt}
-use Rattle.index.specs.Index.{Rec, recordOf}
+use Rattle.chunk_grid.specs.declared.Offsets.{Offsets}
+use Rattle.chunk_grid.specs.declared.Offsets.the-variants.{Inside, Dropped, Refused as OffsetsRefused}
+use Rattle.element_form.specs.Form.{elementSizeTest}
+use Rattle.index.specs.declared.Entry.{Entry}
+use Rattle.index.specs.Index.{Rec, Listing, recordOf}
 use Rattle.elements.specs.declared.Element.{Element}
-use Rattle.elements.specs.Elements.{Elements, undefinedElement, entryAt, _gives_, insideOnly, element, answerOf}
+use Rattle.elements.specs.declared.Element.the-variants.{Chunk}
+use Rattle.elements.specs.Elements.{Elements, undefinedElement, entryAt, entryTest, _gives_, insideOnly, element, answerOf}
+use Rattle.elements.specs.Runs.{alsoElement}
 
 pub some-is : (x y : Option Rec) → _≡_ {A = Outcome (Option Rec)} (accepted x) (accepted y) → x ≡ y
 some-is x y h = cc
@@ -60,3 +67,38 @@ element-record es pos s x h =
 
     Q : Outcome (Option Rec) → Type 0
     Q a = a ≡ accepted x → recordOf (cond (undefinedElement es pos) none (some (entryAt es pos))) (chunkAt (es .grid) s) ≡ x
+
+-- an element that isn't refused has passed the test of its size; one that holds a chunk lies in the extents
+gives-listed : (t : Checked) (e : Element) (k : List ℕ) (a : Listing) (l : List Rec) → alsoElement (t gives e) k a ≡ accepted l → t ≡ Passed
+unfolding _gives_ alsoElement
+gives-listed Passed e k a l h = refl
+gives-listed (Refused r) e k a l h = absurd (never r l h)
+
+gives-chunk : (t : Checked) (e : Element) (x : Entry) → t gives e ≡ Chunk x → (t ≡ Passed) × (e ≡ Chunk x)
+unfolding _gives_
+gives-chunk Passed e x h = (refl, h)
+gives-chunk (Refused r) e x h = let z : _≡_ {A = ℕ} 0 1 = cc in absurd (omega arith)
+
+inside-chunk : (k : Offsets) (e : Element) (x : Entry) → insideOnly k e ≡ Chunk x → (k ≡ Inside) × (e ≡ Chunk x)
+unfolding insideOnly
+inside-chunk Inside e x h = (refl, h)
+inside-chunk Dropped e x h = let z : _≡_ {A = ℕ} 0 1 = cc in absurd (omega arith)
+inside-chunk (OffsetsRefused r) e x h = let z : _≡_ {A = ℕ} 0 1 = cc in absurd (omega arith)
+
+module _ (es : Elements) (pos s : ℕ) where
+  pub element-sized : (k : List ℕ) (a : Listing) (l : List Rec) → alsoElement (element es pos s) k a ≡ accepted l → elementSizeTest (es .form) ≡ Passed
+  unfolding element
+  element-sized k a l h = gives-listed _ _ k a l h
+
+  -- what an element that holds a chunk has passed, and what it holds
+  pub chunk-inv : (x : Entry) → element es pos s ≡ Chunk x
+      → (elementSizeTest (es .form) ≡ Passed) × (inExtent (es .grid) s ≡ Inside) × (entryTest es pos ≡ Passed) × (entryAt es pos ≡ x)
+  unfolding element
+  chunk-inv x h =
+      let g = gives-chunk _ _ x h in
+      let i = by-cond P (undefinedElement es pos) (λ u k. let z : _≡_ {A = ℕ} 0 1 = cc in absurd (omega arith)) (λ u k. inside-chunk _ _ x k) (g .1) in
+      let e = gives-chunk _ _ x (i .1) in
+      (g .0, i .0, e .0, cc)
+    where
+      P : Element → Type 0
+      P e = e ≡ Chunk x → (inExtent (es .grid) s ≡ Inside) × (entryTest es pos gives Chunk (entryAt es pos) ≡ Chunk x)

@@ -2,7 +2,9 @@ pub mod Elements
 pub mod Answers
 pub mod Sized
 pub mod Runs
+pub mod Induction
 pub mod Turns
 pub mod Pages
 pub mod ChunkBytes
 pub mod Numbered
+pub mod Readers

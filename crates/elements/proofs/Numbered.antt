@@ -1,25 +1,25 @@
--- Every refusal of elements, of runs and of pages has a number above 0. Assumes nothing.
-use Prim.Native.Nat.{ℕ, zero, suc, _+_, _<_}
+-- Every refusal of elements, of runs and of pages has a number above 0, where those of the tests have. Assumes nothing.
+use Prim.Native.Nat.{ℕ, _<_}
 use mathlib.Core.Path.{_≡_}
-use mathlib.Core.Bool.{Bool, true, false, not}
+use mathlib.Core.Bool.{Bool, true, false}
 use mathlib.Core.List.{List}
 use mathlib.Core.Option.{none}
 use native.Mathlib.Omega.{arith}
-use lib.Dec.{leb, ltb}
 use Rattle.refusal.specs.declared.Refusal.{Refusal}
 use Rattle.refusal.specs.declared.Checked.{Checked}
 use Rattle.refusal.specs.declared.Checked.the-variants.{Passed, Refused}
 use Rattle.refusal.proofs.Tests.{by-cond}
-use Rattle.refusal.proofs.Numbered.{Numbered, Told, numbered-refuse, numbered-then, told-yields, told-accepted, told-cond, told-also}
-use Rattle.fields.specs.Fields.{widthTest, sizeTest}
-use Rattle.chunk_grid.specs.Grid.{offsets, offsetsTest, insideOr, inExtent}
-use Rattle.structures.specs.Structures.{Pages}
-use Rattle.element_form.specs.Form.{stride, elementSizeTest}
+use Rattle.refusal.proofs.Numbered.{Numbered, Told, numbered-refuse, numbered-then, told-tested, told-accepted, told-also}
+use Rattle.fields.proofs.Numbered.{size-numbered}
+use Rattle.chunk_grid.specs.Grid.{offsets, insideOr, inExtent}
+use Rattle.chunk_grid.proofs.RefusalNumbers.{offsets-numbered}
+use Rattle.element_form.proofs.Numbered.{element-size-numbered}
 use Rattle.index.specs.Index.{Listing}
 use Rattle.elements.specs.declared.Element.{Element}
 use Rattle.elements.specs.declared.Element.the-variants.{Absent, Chunk, Refused as ElementRefused}
 use Rattle.elements.specs.Elements.{Elements, undefinedElement, entryTest, _gives_, insideOnly, element, answerOf}
-use Rattle.elements.specs.Runs.{alsoElement, elementsFrom, pagesFrom}
+use Rattle.elements.specs.Runs.{alsoElement}
+use Rattle.elements.proofs.Induction.{Steps}
 
 pub record NumberedElement (e : Element) : Type 0 where
   pub above : (r : Refusal) → e ≡ ElementRefused r → 0 < r .number
@@ -41,13 +41,17 @@ inside-numbered Passed true e p q = q
 inside-numbered Passed false e p q = absent-numbered
 inside-numbered (Refused x) b e p q = record { above = λ r h. let z : Refused x ≡ Refused r = cc in p .above r z }
 
+entry-numbered : (es : Elements) (pos : ℕ) → Numbered (entryTest es pos)
+unfolding entryTest
+entry-numbered es pos = numbered-then _ _ (numbered-refuse 29 _ _ _ (omega arith)) (size-numbered _)
+
 pub element-numbered : (es : Elements) (pos s : ℕ) → NumberedElement (element es pos s)
-unfolding element elementSizeTest widthTest inExtent offsetsTest entryTest sizeTest
+unfolding element inExtent
 element-numbered es pos s =
-    gives-numbered _ _ (numbered-then _ _ (numbered-refuse 28 _ _ _ (omega arith)) (numbered-refuse 1 _ _ _ (omega arith)))
+    gives-numbered _ _ (element-size-numbered (es .form))
     (by-cond NumberedElement (undefinedElement es pos) (λ e. absent-numbered)
-    (λ e. inside-numbered _ _ _ (numbered-then _ _ (numbered-refuse 32 _ _ _ (omega arith)) (numbered-refuse 33 _ _ _ (omega arith)))
-    (gives-numbered _ _ (numbered-then _ _ (numbered-refuse 29 _ _ _ (omega arith)) (numbered-refuse 30 _ _ _ (omega arith)))
+    (λ e. inside-numbered _ _ _ (offsets-numbered (es .grid) s)
+    (gives-numbered _ _ (entry-numbered es pos)
     (element-other _ (λ r h. let z : _≡_ {A = ℕ} 0 1 = cc in omega arith)))))
 
 -- what an element answers
@@ -63,18 +67,11 @@ also-element-told Absent k a p q = q
 also-element-told (Chunk x) k a p q = told-also _ a q
 also-element-told (ElementRefused x) k a p q = record { above = λ r h. let z : ElementRefused x ≡ ElementRefused r = cc in p .above r z }
 
-module _ (es : Elements) where
-  pub elements-told : (j pos s : ℕ) (rest : Listing) → Told rest → Told (elementsFrom es pos j s rest)
-  unfolding elementsFrom
-  elements-told zero pos s rest p = p
-  elements-told (suc j) pos s rest p =
-      told-cond (leb (es .count) s) p
-      (also-element-told _ (offsets (es .grid) s) _ (element-numbered es pos s) (elements-told j (pos + stride (es .form)) (s + 1) rest p))
-
-  pub pages-told : (g : Pages) → ((p : ℕ) → Numbered (g .test p)) → (j p s : ℕ) (rest : Listing) → Told rest → Told (pagesFrom es g j p s rest)
-  unfolding pagesFrom
-  pages-told g t zero p s rest q = q
-  pages-told g t (suc j) p s rest q =
-      let next = pages-told g t j (p + 1) (s + g .size) rest q in
-      told-cond (not (g .set p)) next
-      (told-yields _ _ (t p) (elements-told _ _ s _ (told-cond (ltb (es .count) (s + g .size)) q next)))
+-- what each step of a walk keeps
+pub told-steps : (es : Elements) (Has : ℕ → ℕ → Type 0) (Lacks : ℕ → Type 0) → Steps es Has Lacks Numbered (λ s x y. Told x)
+told-steps es Has Lacks = record {
+  past = λ s s′ x y h h′ r. r;
+  lack = λ s x y lt h r. r;
+  has = λ s pos x y lt h r. also-element-told _ (offsets (es .grid) s) x (element-numbered es pos s) r;
+  test = λ t s x y n r. told-tested t x n r;
+}

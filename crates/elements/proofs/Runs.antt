@@ -1,7 +1,7 @@
--- Runs of elements: what comes before and what is left of a list, its count, and one turn of a loop over a run. Assumes nothing.
+-- Runs of elements: what comes before and what is left of a list, its count, and one turn of a loop over a run.
+-- Assumes nothing.
 use Prim.Native.Nat.{ℕ, zero, suc, _+_, _-_, _*_, _<_, _≤_, min}
 use mathlib.Core.Path.{_≡_, refl, sym, ap, _∙_}
-use mathlib.Core.Bool.{Bool, true, false, cond}
 use mathlib.Core.List.{List, [], _∷_, _++_}
 use mathlib.Core.Logic.{⊎-elim}
 use native.Mathlib.Omega.{arith}
@@ -9,7 +9,9 @@ use borrow.Author.Tests.{le-leb, lt-leb}
 use lib.Dec.{leb}
 use lib.ListN.{length}
 use Rattle.refusal.specs.declared.Refusal.{Refusal}
-use Rattle.refusal.specs.Outcome.{refused, accepted, also, countedOf}
+use Rattle.refusal.specs.declared.Checked.{Checked}
+use Rattle.refusal.specs.declared.Checked.the-variants.{Passed, Refused}
+use Rattle.refusal.specs.Outcome.{refused, accepted, _yields_, also, countedOf}
 use Rattle.refusal.specs.Values.{plus}
 use Rattle.refusal.proofs.Tests.{by-cond, lt-or-ge}
 use Rattle.refusal.proofs.Outcomes.{never, also-inv}
@@ -22,6 +24,7 @@ use Rattle.refusal.specs.declared.Counted.the-variants.{Count, Refused as Count
 use Rattle.elements.specs.Elements.{Elements, element}
 use Rattle.elements.specs.Runs.{alsoElement, elementsFrom}
 use Rattle.index.specs.Index.{Rec, Listing}
+use Rattle.elements.proofs.Induction.{Steps, elements-kept}
 
 -- a listing, and another behind it
 unfoldable pub prepend : List Rec → Listing → Listing
@@ -43,16 +46,23 @@ element-behind Absent corner a b = refl
 element-behind (Chunk e) corner a b = also-behind _ a b
 element-behind (ElementRefused r) corner a b = refl
 
-cond-behind : (t : Bool) (x y a b rest : Listing) → x ≡ behind a rest → y ≡ behind b rest → cond t x y ≡ behind (cond t a b) rest
-cond-behind true x y a b rest e f = e
-cond-behind false x y a b rest e f = f
+tested-behind : (t : Checked) (a b rest : Listing) → (t ≡ Passed → a ≡ behind b rest) → t yields a ≡ behind (t yields b) rest
+unfolding _yields_ behind
+tested-behind Passed a b rest e = e refl
+tested-behind (Refused r) a b rest e = refl
+
+-- each step of a walk keeps what comes behind it
+pub behind-steps : (es : Elements) (Has : ℕ → ℕ → Type 0) (Lacks : ℕ → Type 0) (rest : Listing) → Steps es Has Lacks (λ t. Unit {0}) (λ s x y. x ≡ behind y rest)
+behind-steps es Has Lacks rest = record {
+  past = λ s s′ x y h h′ r. r;
+  lack = λ s x y lt h r. r;
+  has = λ s pos x y lt h r. ap (alsoElement (element es pos s) (offsets (es .grid) s)) r ∙ element-behind _ _ y rest;
+  test = λ t s x y n r. tested-behind t x y rest r;
+}
 
 pub elements-behind : (es : Elements) (pos j s : ℕ) (rest : Listing) → elementsFrom es pos j s rest ≡ behind (elementsFrom es pos j s (accepted [])) rest
-unfolding elementsFrom behind prepend
-elements-behind es pos zero s rest = refl
-elements-behind es pos (suc j) s rest =
-    cond-behind (leb (es .count) s) _ _ _ _ rest refl
-    (ap (alsoElement (element es pos s) (offsets (es .grid) s)) (elements-behind es _ j (s + 1) rest) ∙ element-behind (element es pos s) (offsets (es .grid) s) _ rest)
+unfolding behind prepend
+elements-behind es pos j s rest = elements-kept (behind-steps es (λ t p. Unit {0}) (λ t. Unit {0}) rest) j pos s rest (accepted []) (λ i h. tt) refl
 
 prepend-count : (l : List Rec) (n : ℕ) (b : Listing) → plus n (prepend l b) ≡ plus (n + length l) b
 unfolding prepend

@@ -20,8 +20,8 @@ use Rattle.index.specs.Index.{Rec}
 use Rattle.elements.specs.declared.Element.{Element}
 use Rattle.elements.specs.declared.Element.the-variants.{Absent, Chunk, Refused as ElementRefused}
 
--- What the elements of an index are read by: the file, their form, the grid that numbers their chunks, the bytes of one element of the dataset,
--- and the published count.
+-- What the elements of an index are read by: the file, their form, the grid that numbers their chunks, the bytes of one
+-- element of the dataset, and the published count.
 pub record Elements : Type 0 where
   pub file : List ℕ
   pub form : Form

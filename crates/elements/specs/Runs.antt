@@ -1,5 +1,5 @@
--- Runs of elements: the list that they are walked to. Each definition of a walk says what is left to do from here: `rest` is what comes behind
--- it, and s the slot that the walk has come to.
+-- Runs of elements: the list that they are walked to. Each definition of a walk says what is left to do from here:
+-- `rest` is what comes behind it, and s the slot that the walk has come to.
 use Prim.Native.Nat.{ℕ, zero, suc, _+_}
 use mathlib.Core.Bool.{not, cond}
 use mathlib.Core.List.{List}

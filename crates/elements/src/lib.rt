@@ -4,11 +4,14 @@ ghost use mathlib.Core.List.{List};
 ghost use Prim.Native.Nat.{ℕ, _*_, _≤_};
 ghost use lib.ListN.{length, take};
 ghost use Rattle.refusal.specs.Refusals.{figure};
-ghost use Rattle.chunk_grid.specs.Grid.{Grid};
+ghost use Rattle.chunk_grid.specs.Grid.{Grid, inExtent};
 ghost use Rattle.chunk_grid.specs.Values.{Numbers, Extents};
+ghost use Rattle.chunk_slots.specs.Values.{handed};
 ghost use Rattle.elements.specs.Elements.{product};
 ghost use Rattle.elements.specs.Values.{Reads};
 use chunk_grid::Numbering;
+use chunk_grid::Offsets;
+use chunk_slots::offsets_in_extent;
 use element_form::Form;
 use fields::convert::saturating_mul;
 use index::Entry;
@@ -58,6 +61,33 @@ impl ElementReader {
             rotated: numbering.rotated,
             numbers: numbering.numbers,
         }
+    }
+
+    // The offsets of a slot into the lent array, and whether they lie in the present extents.
+    pub fn reach(
+        self,
+        offsets: &mut [u64; 32],
+        slot: u64,
+        chunk: &[u64; 32],
+        bound: &[u64; 32],
+        down: &[u64; 32],
+    ) -> Offsets
+        requires { ⌜ ((grid : Grid) × (n : ℕ) × Reads self (now chunk) (now bound) (now down) grid n) ⌝ }
+        ensures { λ r. ⌜ ((grid : Grid) (n : ℕ) → Reads self (now (chunk .entry)) (now (bound .entry)) (now (down .entry)) grid n
+            → (r ≡ inExtent grid slot) × (now (offsets .exit) ≡ handed grid slot (now (offsets .entry)))) ⌝ }
+    {
+        let rank = self.rank as usize;
+        let rotated = self.rotated as usize;
+        offsets_in_extent(
+            offsets,
+            slot,
+            rank,
+            rotated,
+            self.numbers,
+            chunk,
+            bound,
+            down,
+        )
     }
 }
 

@@ -15,7 +15,6 @@ ghost use Rattle.elements.specs.Values.{elementsOf, Reads};
 use crate::Element;
 use crate::ElementReader;
 use chunk_grid::Offsets;
-use chunk_slots::offsets_in_extent;
 use fields::address::is_undefined_addr;
 use fields::bytes::read_address;
 use fields::bytes::read_le;
@@ -49,23 +48,13 @@ pub fn read_element(
     if is_undefined_addr(address, width) {
         return Element::Absent;
     }
-    let rank = reader.rank as usize;
-    let rotated = reader.rotated as usize;
     let mut offsets = [0u64; 32];
-    let reached = offsets_in_extent(
-        &mut offsets,
-        slot,
-        rank,
-        rotated,
-        reader.numbers,
-        chunk,
-        bound,
-        down,
-    );
+    let reached = reader.reach(&mut offsets, slot, chunk, bound, down);
     read_defined_element(file, pos, reader, reached)
 }
 
-// The element at pos of a slot whose offsets come to `reached`, where the size of elements has passed its test and the address is defined.
+// The element at pos of a slot whose offsets come to `reached`, where the size of elements has passed its test and the
+// address is defined.
 pub fn read_defined_element(
     file: &[u8],
     pos: usize,

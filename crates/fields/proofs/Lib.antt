@@ -3,3 +3,4 @@ pub mod Stored
 pub mod Numbers
 pub mod Widths
 pub mod Fields
+pub mod Numbered

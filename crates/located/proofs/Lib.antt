@@ -3,3 +3,5 @@ pub mod Walks
 pub mod Runs
 pub mod Lookups
 pub mod Numbered
+pub mod Written
+pub mod Lists

@@ -1,6 +1,6 @@
 -- Every refusal has a number above 0: of tests, and of outcomes. Assumes nothing.
 use Prim.Native.Nat.{ℕ, _<_}
-use mathlib.Core.Path.{_≡_, sym, subst}
+use mathlib.Core.Path.{_≡_, refl, sym, subst}
 use mathlib.Core.Bool.{Bool, true, false, cond}
 use mathlib.Core.List.{List}
 use native.Mathlib.Omega.{arith}
@@ -32,10 +32,13 @@ unfolding _then_
 numbered-then Passed b p q = q
 numbered-then (Refused r) b p q = p
 
-pub told-yields : {A : Type 0} (t : Checked) (a : Outcome A) → Numbered t → Told a → Told (t yields a)
+pub told-tested : {A : Type 0} (t : Checked) (a : Outcome A) → Numbered t → (t ≡ Passed → Told a) → Told (t yields a)
 unfolding _yields_
-told-yields Passed a p q = q
-told-yields (Refused x) a p q = record { above = λ r e. let z : Refused x ≡ Refused r = cc in p .above r z }
+told-tested Passed a p q = q refl
+told-tested (Refused x) a p q = record { above = λ r e. let z : Refused x ≡ Refused r = cc in p .above r z }
+
+pub told-yields : {A : Type 0} (t : Checked) (a : Outcome A) → Numbered t → Told a → Told (t yields a)
+told-yields t a p q = told-tested t a p (λ e. q)
 
 pub told-accepted : {A : Type 0} (a : A) → Told (accepted a)
 told-accepted a = record { above = λ r e. absurd (never r a (sym e)) }

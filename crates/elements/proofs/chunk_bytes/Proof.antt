@@ -18,24 +18,6 @@ Inv-loop chunk rank element-bytes bytes₀ d₀ bytes d = (d ≤ rank) × (bytes
 abbrev μ-loop : tie.MeasureT-loop
 μ-loop chunk rank element-bytes bytes₀ d₀ bytes d = rank - d
 
-loop-holds : tie.Need-loop-holds Inv-loop μ-loop
-loop-holds c = search needs
-
-mul-saturating-mul : tie.Need-mul-saturating-mul Inv-loop μ-loop
-mul-saturating-mul c = search needs
-
-element-copy-out-saturating-mul : tie.Need-element-copy-out-saturating-mul Inv-loop μ-loop
-element-copy-out-saturating-mul c = search needs
-
-saturating-mul-requires : tie.Need-saturating-mul-requires Inv-loop μ-loop
-saturating-mul-requires c κs = search needs
-
-add-d : tie.Need-add-d Inv-loop μ-loop
-add-d c = search needs
-
-loop-less : tie.Need-loop-less Inv-loop μ-loop
-loop-less c = search needs
-
 loop-again : tie.Need-loop-again Inv-loop μ-loop
 loop-again c =
     let a = c .before .before .before .before in
@@ -53,14 +35,5 @@ returns c =
 pub chunk-bytes-spec : {M : Type 1} → statement M
 chunk-bytes-spec =
     tie.close
-    (tie.spec
-    Inv-loop
-    μ-loop
-    loop-holds
-    mul-saturating-mul
-    element-copy-out-saturating-mul
-    saturating-mul-requires
-    add-d
-    loop-less
-    loop-again
-    returns)
+    (tie.spec Inv-loop μ-loop (search needs) (search needs) (search needs) (search needs) (search needs)
+    (search needs) loop-again returns)

@@ -6,14 +6,8 @@ use borrow.Author.Needs.{needs}
 use Rattle.element_form.proofs.Form.is_too_small.Statement.{statement}
 use Rattle.element_form.proofs.Form.is_too_small.Tie as tie
 
-is-filtered-requires : tie.Need-is-filtered-requires
-is-filtered-requires c κs = search needs
-
 returns : tie.Need-returns
 returns c = plain-room _ (sym (c .before .is-filtered .ensures) ∙ not-true _ (c .if1 .taken))
-
-cast-size : tie.Need-cast-size
-cast-size c = search needs
 
 returns-2 : tie.Need-returns-2
 returns-2 c = no-room _ (sym (c .before .before .before .is-filtered .ensures) ∙ not-false _ (c .before .before .if1 .left)) (c .if2 .taken)
@@ -22,4 +16,4 @@ returns-3 : tie.Need-returns-3
 returns-3 c = room-by _ (sym (c .before .before .before .before .is-filtered .ensures) ∙ not-false _ (c .before .before .before .if1 .left)) (c .before .if2 .left)
 
 pub is-too-small-spec : {M : Type 1} → statement M
-is-too-small-spec = tie.close (tie.spec is-filtered-requires returns cast-size returns-2 returns-3)
+is-too-small-spec = tie.close (tie.spec (search needs) returns (search needs) returns-2 returns-3)

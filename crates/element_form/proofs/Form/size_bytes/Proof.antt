@@ -6,9 +6,6 @@ use borrow.Author.Needs.{needs}
 use Rattle.element_form.proofs.Form.size_bytes.Statement.{statement}
 use Rattle.element_form.proofs.Form.size_bytes.Tie as tie
 
-cast-result : tie.Need-cast-result
-cast-result c = search needs
-
 sub-result : tie.Need-sub-result
 sub-result c = omega (arith, sized-filtered _ (c .before .pre .0) (c .before .pre .1))
 
@@ -20,4 +17,4 @@ unfolding sizeBytes
 returns c = omega arith
 
 pub size-bytes-spec : {M : Type 1} → statement M
-size-bytes-spec = tie.close (tie.spec cast-result sub-result sub-result-2 returns)
+size-bytes-spec = tie.close (tie.spec (search needs) sub-result sub-result-2 returns)

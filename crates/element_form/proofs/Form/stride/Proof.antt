@@ -5,12 +5,6 @@ use borrow.Author.Needs.{needs}
 use Rattle.element_form.proofs.Form.stride.Statement.{statement}
 use Rattle.element_form.proofs.Form.stride.Tie as tie
 
-is-filtered-requires : tie.Need-is-filtered-requires
-is-filtered-requires c κs = search needs
-
-cast-result : tie.Need-cast-result
-cast-result c = search needs
-
 returns : tie.Need-returns
 returns c = sym (stride-filtered _ (sym (c .before .before .is-filtered .ensures) ∙ c .before .if1 .taken))
 
@@ -18,4 +12,4 @@ returns-2 : tie.Need-returns-2
 returns-2 c = sym (stride-plain _ (sym (c .before .is-filtered .ensures) ∙ c .if1 .left))
 
 pub stride-spec : {M : Type 1} → statement M
-stride-spec = tie.close (tie.spec is-filtered-requires cast-result returns returns-2)
+stride-spec = tie.close (tie.spec (search needs) (search needs) returns returns-2)

@@ -7,24 +7,13 @@ use borrow.Author.Needs.{needs}
 use Rattle.element_form.proofs.Form.test.Statement.{statement}
 use Rattle.element_form.proofs.Form.test.Tie as tie
 
-is-too-small-requires : tie.Need-is-too-small-requires
-is-too-small-requires c κs = search needs
-
-plain-requires : tie.Need-plain-requires
-plain-requires c κs = search needs
-
 returns : tie.Need-returns
 unfolding elementSizeTest
 returns c = ap Refused (c .plain .ensures) ∙ then-first _ _ (refuse-true 28 0 0 _ (sym (c .before .before .is-too-small .ensures) ∙ c .before .if1 .taken))
-
-ensure-width-requires : tie.Need-ensure-width-requires
-ensure-width-requires c κs = search needs
 
 returns-2 : tie.Need-returns-2
 unfolding elementSizeTest
 returns-2 c = c .ensure-width .ensures ∙ then-second _ _ (refuse-false 28 0 0 _ (sym (c .before .before .is-too-small .ensures) ∙ c .before .if1 .left))
 
 pub test-spec : {M : Type 1} → statement M
-test-spec =
-    tie.close
-    (tie.spec is-too-small-requires plain-requires returns ensure-width-requires returns-2)
+test-spec = tie.close (tie.spec (search needs) (search needs) returns (search needs) returns-2)

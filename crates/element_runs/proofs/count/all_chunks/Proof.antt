@@ -7,17 +7,11 @@ use borrow.Author.Needs.{needs}
 use Rattle.element_runs.proofs.count.all_chunks.Statement.{statement}
 use Rattle.element_runs.proofs.count.all_chunks.Tie as tie
 
-sizes-fit-requires : tie.Need-sizes-fit-requires
-sizes-fit-requires c κs = search needs
-
 returns : tie.Need-returns
 unfolding allChunks
 returns c = λ grid m chunk q.
     let e : sizesFit _ grid m ≡ false = sym (c .before .sizes-fit .ensures grid m (q .chunked)) ∙ not-true _ (c .if1 .taken) in
     rw e refl
-
-all-inside-requires : tie.Need-all-inside-requires
-all-inside-requires c κs = search needs
 
 returns-2 : tie.Need-returns-2
 unfolding allChunks
@@ -26,4 +20,4 @@ returns-2 c = λ grid m chunk q.
     rw e (c .all-inside .ensures grid chunk (q .numbered) (q .extended))
 
 pub all-chunks-spec : {M : Type 1} → statement M
-all-chunks-spec = tie.close (tie.spec sizes-fit-requires returns all-inside-requires returns-2)
+all-chunks-spec = tie.close (tie.spec (λ c κs. search needs) returns (λ c κs. search needs) returns-2)

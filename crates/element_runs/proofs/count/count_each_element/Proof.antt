@@ -24,12 +24,6 @@ Inv-loop file pos n slot reader chunk bound down stride width fit offsets₀ cou
 abbrev μ-loop : tie.MeasureT-loop
 μ-loop file pos n slot reader chunk bound down stride width fit offsets₀ count₀ at₀ i₀ offsets count at i = n - i
 
-stride-requires : tie.Need-stride-requires Inv-loop μ-loop
-stride-requires c κs = search needs
-
-sizes-fit-requires : tie.Need-sizes-fit-requires Inv-loop μ-loop
-sizes-fit-requires c κs = search needs
-
 loop-holds : tie.Need-loop-holds Inv-loop μ-loop
 loop-holds c = (within-first _ _ _ _ (c .before .before .before .pre .0 .inside), omega arith, λ grid m q. counting-first _ _ _ _)
 
@@ -55,9 +49,6 @@ CountingAt c at i count = (grid : Grid) (m : ℕ) → ReadsAt c grid m → Count
 -- undefined elements are stepped over
 abbrev gapOf : tie.After-undefined-run Inv-loop μ-loop → tie.At-loop Inv-loop μ-loop
 gapOf c = c .before .before
-
-sub-undefined-run : tie.Need-sub-undefined-run Inv-loop μ-loop
-sub-undefined-run c = search needs
 
 undefined-run-requires : tie.Need-undefined-run-requires Inv-loop μ-loop
 undefined-run-requires c κs =
@@ -95,14 +86,8 @@ loop-again c =
       λ grid m q. counting-skip (l .loop .inv .2 grid m q) (g .before .loop-test .taken) (p .1) (p .2) _ (rw e at u),
     )
 
-add-reach-from : tie.Need-add-reach-from Inv-loop μ-loop
-add-reach-from c = search needs
-
-sub-reach-from : tie.Need-sub-reach-from Inv-loop μ-loop
-sub-reach-from c = search needs
-
 reach-from-requires : tie.Need-reach-from-requires Inv-loop μ-loop
-reach-from-requires c κs = let p = start (c .before .before .before .before) .pre .0 in (p .grid, p .reads .numbered, p .reads .extended)
+reach-from-requires c κs = let p = start (c .before .before .before .before) .pre .0 in (p .grid, p .elementBytes, p .reads)
 
 -- a line of elements inside the extents
 abbrev lineOf : tie.After-reach-from Inv-loop μ-loop → tie.At-loop Inv-loop μ-loop
@@ -129,7 +114,7 @@ line-counted c grid m q =
     let d = c .count-defined .ensures in
     counting-inside (l .loop .inv .2 grid m q) (e .before .before .before .before .loop-test .taken) (p .1) (p .2) (λ j. omega (arith, l .before .before .before .shared-slice-known .given j))
     (sym (l .before .sizes-fit .ensures grid m (q .chunked)) ∙ e .reach-from .ensures .1 (c .before .if2 .taken)) _ (line-passed e .1 .passed)
-    (e .reach-from .ensures .2 grid (q .numbered) (q .extended) .1) _ (rw (l .before .before .stride .ensures) at d)
+    (e .reach-from .ensures .2 grid m q .1) _ (rw (l .before .before .stride .ensures) at d)
 
 line-few : (c : tie.After-count-defined Inv-loop μ-loop)
     → lineOf (c .before .before) .loop .count + c .count-defined .result ≤ lineOf (c .before .before) .loop .i + c .before .before .reach-from .result .slots
@@ -157,7 +142,7 @@ loop-again-2 c = rw (lineOf (c .before .before) .before .before .stride .ensures
 is-element : (c : tie.After-read-defined-element Inv-loop μ-loop) (grid : Grid) (m : ℕ) → ReadsAt (lineOf (c .before .before)) grid m
     → c .read-defined-element .result
     ≡ element (elementsAt (lineOf (c .before .before)) grid m) (lineOf (c .before .before) .loop .at) (start (lineOf (c .before .before)) .args .slot + lineOf (c .before .before) .loop .i)
-is-element c grid m q = c .read-defined-element .ensures grid m _ (q .chunked) (c .before .before .reach-from .ensures .2 grid (q .numbered) (q .extended) .0)
+is-element c grid m q = c .read-defined-element .ensures grid m _ (q .chunked) (c .before .before .reach-from .ensures .2 grid m q .0)
 
 read-defined-element-requires : tie.Need-read-defined-element-requires Inv-loop μ-loop
 read-defined-element-requires c κs =
@@ -167,17 +152,8 @@ read-defined-element-requires c κs =
     let z = d .if1 .left in
     (start l .pre .1, within-here (l .loop .inv .0) t, first-defined _ _ _ _ _ _ (d .before .undefined-run .ensures .0) (omega arith) (omega (arith, t)))
 
-enum-told : tie.Need-enum-told Inv-loop μ-loop
-enum-told c = search needs
-
-enum-told-2 : tie.Need-enum-told-2 Inv-loop μ-loop
-enum-told-2 c = search needs
-
 add-count-2 : tie.Need-add-count-2 Inv-loop μ-loop
 add-count-2 c = let l = lineOf (c .before .before .before .before) in omega (arith, l .loop .inv .1, l .loop .inv .0 .passed)
-
-enum-known-r : tie.Need-enum-known-r Inv-loop μ-loop
-enum-known-r c = search needs
 
 returns : tie.Need-returns Inv-loop μ-loop
 returns c =
@@ -227,37 +203,8 @@ returns-2 c = λ grid m q. counting-done (c .before .loop .inv .2 grid m q) (c .
 pub count-each-element-spec : {M : Type 1} → statement M
 count-each-element-spec =
     tie.close
-    (tie.spec
-    Inv-loop
-    μ-loop
-    stride-requires
-    sizes-fit-requires
-    loop-holds
-    sub-undefined-run
-    undefined-run-requires
-    mul-at
-    add-at
-    add-i
-    loop-less
-    loop-again
-    add-reach-from
-    sub-reach-from
-    reach-from-requires
-    count-defined-requires
-    add-count
-    mul-at-2
-    add-at-2
-    add-i-2
-    loop-less-2
-    loop-again-2
-    read-defined-element-requires
-    enum-told
-    enum-told-2
-    add-count-2
-    enum-known-r
-    returns
-    add-at-3
-    add-i-3
-    loop-less-3
-    loop-again-3
-    returns-2)
+    (tie.spec Inv-loop μ-loop (search needs) (λ c κs. search needs) loop-holds (search needs) undefined-run-requires
+    mul-at add-at add-i loop-less loop-again (search needs) (search needs) reach-from-requires
+    count-defined-requires add-count mul-at-2 add-at-2 add-i-2 loop-less-2 loop-again-2
+    read-defined-element-requires (search needs) (search needs) add-count-2 (search needs) returns add-at-3
+    add-i-3 loop-less-3 loop-again-3 returns-2)

@@ -15,18 +15,9 @@ use Rattle.element_runs.proofs.AllChunks.{all-counted}
 use Rattle.element_runs.proofs.count.count_elements.Statement.{statement}
 use Rattle.element_runs.proofs.count.count_elements.Tie as tie
 
-below-count-requires : tie.Need-below-count-requires
-below-count-requires c κs = search needs
-
 returns : tie.Need-returns
 unfolding countedOf
 returns c = λ grid m q. sym (ap countedOf (left-none _ _ _ _ _ _ (c .before .below-count .ensures) (c .if1 .taken)))
-
-test-requires : tie.Need-test-requires
-test-requires c κs = search needs
-
-enum-known-r : tie.Need-enum-known-r
-enum-known-r c = search needs
 
 returns-2 : tie.Need-returns-2
 unfolding countedOf
@@ -34,9 +25,6 @@ returns-2 c =
     let t = c .before .before .before in
     let n = t .before .if1 .left in
     λ grid m q. sym (ap countedOf (left-refused _ _ _ _ _ _ (t .before .before .below-count .ensures) (pos-of-ne-zero n) _ (sym (t .test .ensures) ∙ c .before .r .given .1)))
-
-enum-told : tie.Need-enum-told
-enum-told c = search needs
 
 -- the size of elements has passed its test, and `left` of them lie below the count
 abbrev below : tie.After-enum-told → tie.After-below-count
@@ -55,14 +43,8 @@ left-inside : (c : tie.After-enum-told)
     → start c .args .pos + below c .below-count .result * stride (start c .args .reader .form) ≤ length (start c .args .file .now)
 left-inside c = fewer-lie _ _ _ _ _ (omega (arith, below c .below-count .ensures)) (start c .pre .inside)
 
-add-all-chunks : tie.Need-add-all-chunks
-add-all-chunks c = search needs
-
 all-chunks-requires : tie.Need-all-chunks-requires
 all-chunks-requires c κs = let p = start c .pre in (sized c, (p .grid, p .elementBytes, start c .args .chunk .now, p .reads))
-
-stride-requires : tie.Need-stride-requires
-stride-requires c κs = search needs
 
 count-defined-requires : tie.Need-count-defined-requires
 count-defined-requires c κs =
@@ -93,17 +75,5 @@ returns-4 c = λ grid m q.
 pub count-elements-spec : {M : Type 1} → statement M
 count-elements-spec =
     tie.close
-    (tie.spec
-    below-count-requires
-    returns
-    test-requires
-    enum-known-r
-    returns-2
-    enum-told
-    add-all-chunks
-    all-chunks-requires
-    stride-requires
-    count-defined-requires
-    returns-3
-    count-each-element-requires
-    returns-4)
+    (tie.spec (search needs) returns (search needs) (search needs) returns-2 (search needs) (search needs)
+    all-chunks-requires (search needs) count-defined-requires returns-3 count-each-element-requires returns-4)

@@ -5,21 +5,13 @@ use borrow.Author.Needs.{needs}
 use Rattle.element_runs.proofs.count.reach_from.Statement.{statement}
 use Rattle.element_runs.proofs.count.reach_from.Tie as tie
 
-offsets-in-extent-requires : tie.Need-offsets-in-extent-requires
-offsets-in-extent-requires c κs = search needs
-
-enum-told : tie.Need-enum-told
-enum-told c = search needs
-
 line-from-requires : tie.Need-line-from-requires
 line-from-requires c κs =
     let e = c .before .before .before in
     let s = e .before .before in
     let p = s .pre in
-    (p .0, s .args .chunk .now, s .args .reader .numbers, p .1, p .2, sym (e .offsets-in-extent .ensures (p .0) (p .1) (p .2) .0) ∙ c .enum-told .given .1)
-
-below-count-requires : tie.Need-below-count-requires
-below-count-requires c κs = search needs
+    let q = p .2 in
+    (p .0, s .args .chunk .now, s .args .reader .numbers, q .numbered, q .extended, sym (e .reach .ensures _ _ q .0) ∙ c .enum-told .given .1)
 
 returns : tie.Need-returns
 returns c =
@@ -29,27 +21,20 @@ returns c =
     let s = e .before .before in (
       omega (arith, c .below-count .ensures),
       λ h. t .if1 .taken,
-      λ g q x.
-          let o = e .offsets-in-extent .ensures g q x .0 in
-          let r = l .line-from .ensures g (s .args .chunk .now) (s .args .reader .numbers) q x (sym o ∙ l .before .enum-told .given .1) in
+      λ grid m q.
+          let o = e .reach .ensures grid m q .0 in
+          let r = l .line-from .ensures grid _ _ (q .numbered) (q .extended) (sym o ∙ l .before .enum-told .given .1) in
           (o, λ j h. r .inside j (omega (arith, c .below-count .ensures))),
     )
 
 -- no line
 returns-2 : tie.Need-returns-2
-returns-2 c = (omega arith, λ h. absurd (omega arith), λ g q x. (c .before .before .offsets-in-extent .ensures g q x .0, λ j h. absurd (omega arith)))
+returns-2 c = (omega arith, λ h. absurd (omega arith), λ grid m q. (c .before .before .reach .ensures grid m q .0, λ j h. absurd (omega arith)))
 
 returns-3 : tie.Need-returns-3
-returns-3 c = (omega arith, λ h. absurd (omega arith), λ g q x. (c .before .offsets-in-extent .ensures g q x .0, λ j h. absurd (omega arith)))
+returns-3 c = (omega arith, λ h. absurd (omega arith), λ grid m q. (c .before .reach .ensures grid m q .0, λ j h. absurd (omega arith)))
 
 pub reach-from-spec : {M : Type 1} → statement M
 reach-from-spec =
     tie.close
-    (tie.spec
-    offsets-in-extent-requires
-    enum-told
-    line-from-requires
-    below-count-requires
-    returns
-    returns-2
-    returns-3)
+    (tie.spec (λ c κs. search needs) (search needs) line-from-requires (search needs) returns returns-2 returns-3)

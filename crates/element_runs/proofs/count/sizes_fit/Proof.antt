@@ -5,9 +5,6 @@ use borrow.Author.Needs.{needs}
 use Rattle.element_runs.proofs.count.sizes_fit.Statement.{statement}
 use Rattle.element_runs.proofs.count.sizes_fit.Tie as tie
 
-is-filtered-requires : tie.Need-is-filtered-requires
-is-filtered-requires c κs = search needs
-
 size-bytes-requires : tie.Need-size-bytes-requires
 size-bytes-requires c κs = (c .before .before .before .pre, sym (c .before .is-filtered .ensures) ∙ c .if1 .taken)
 
@@ -18,4 +15,4 @@ returns-2 : tie.Need-returns-2
 returns-2 c = λ grid m e. fit-plain _ grid m (sym (c .before .before .is-filtered .ensures) ∙ c .before .if1 .left) _ e
 
 pub sizes-fit-spec : {M : Type 1} → statement M
-sizes-fit-spec = tie.close (tie.spec is-filtered-requires size-bytes-requires returns returns-2)
+sizes-fit-spec = tie.close (tie.spec (search needs) size-bytes-requires returns returns-2)

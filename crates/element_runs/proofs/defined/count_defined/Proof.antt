@@ -28,20 +28,8 @@ read-address-requires c κs =
     let p = l .before .before .pre in
     (omega (arith, p .1, within-here (l .loop .inv .lie) (c .loop-test .taken)), p .0)
 
-is-undefined-addr-requires : tie.Need-is-undefined-addr-requires Inv-loop μ-loop
-is-undefined-addr-requires c κs = search needs
-
-add-count : tie.Need-add-count Inv-loop μ-loop
-add-count c = search needs
-
 add-at : tie.Need-add-at Inv-loop μ-loop
 add-at c = let t = c .before .before .before in omega (arith, within-here (t .before .loop .inv .lie) (t .loop-test .taken))
-
-add-i : tie.Need-add-i Inv-loop μ-loop
-add-i c = search needs
-
-loop-less : tie.Need-loop-less Inv-loop μ-loop
-loop-less c = search needs
 
 loop-again : tie.Need-loop-again Inv-loop μ-loop
 loop-again c =
@@ -58,15 +46,5 @@ returns c = finding-done (c .before .loop .inv) (c .loop-test .left)
 pub count-defined-spec : {M : Type 1} → statement M
 count-defined-spec =
     tie.close
-    (tie.spec
-    Inv-loop
-    μ-loop
-    loop-holds
-    read-address-requires
-    is-undefined-addr-requires
-    add-count
-    add-at
-    add-i
-    loop-less
-    loop-again
-    returns)
+    (tie.spec Inv-loop μ-loop loop-holds read-address-requires (search needs) (search needs) add-at
+    (search needs) (search needs) loop-again returns)

@@ -27,9 +27,6 @@ read-address-requires c κs =
     let p = l .before .before .pre in
     (omega (arith, p .1, within-here (l .loop .inv .lie) (c .loop-test .taken)), p .0)
 
-is-undefined-addr-requires : tie.Need-is-undefined-addr-requires Inv-loop μ-loop
-is-undefined-addr-requires c κs = search needs
-
 returns : tie.Need-returns Inv-loop μ-loop
 returns c =
     let t = c .before .before .before in
@@ -38,12 +35,6 @@ returns c =
 
 add-at : tie.Need-add-at Inv-loop μ-loop
 add-at c = let t = c .before .before .before in omega (arith, within-here (t .before .loop .inv .lie) (t .loop-test .taken))
-
-add-i : tie.Need-add-i Inv-loop μ-loop
-add-i c = search needs
-
-loop-less : tie.Need-loop-less Inv-loop μ-loop
-loop-less c = search needs
 
 loop-again : tie.Need-loop-again Inv-loop μ-loop
 loop-again c =
@@ -57,15 +48,5 @@ returns-2 c = stepping-done (c .before .loop .inv) (c .loop-test .left)
 pub undefined-run-spec : {M : Type 1} → statement M
 undefined-run-spec =
     tie.close
-    (tie.spec
-    Inv-loop
-    μ-loop
-    loop-holds
-    read-address-requires
-    is-undefined-addr-requires
-    returns
-    add-at
-    add-i
-    loop-less
-    loop-again
-    returns-2)
+    (tie.spec Inv-loop μ-loop loop-holds read-address-requires (search needs) returns add-at (search needs)
+    (search needs) loop-again returns-2)

@@ -6,18 +6,6 @@ use Rattle.elements.proofs.Sized.{element-defined}
 use Rattle.elements.proofs.read.read_defined_element.Statement.{statement}
 use Rattle.elements.proofs.read.read_defined_element.Tie as tie
 
-enum-told : tie.Need-enum-told
-enum-told c = search needs
-
-read-inside-element-requires : tie.Need-read-inside-element-requires
-read-inside-element-requires c κs = search needs
-
-enum-told-2 : tie.Need-enum-told-2
-enum-told-2 c = search needs
-
-enum-known-reached : tie.Need-enum-known-reached
-enum-known-reached c = search needs
-
 returns : tie.Need-returns
 returns c = λ grid n s e i. c .read-inside-element .ensures grid n s e (sym i ∙ c .before .enum-told .given .1)
 
@@ -37,11 +25,4 @@ returns-3 c = λ grid n s e i.
 pub read-defined-element-spec : {M : Type 1} → statement M
 read-defined-element-spec =
     tie.close
-    (tie.spec
-    enum-told
-    read-inside-element-requires
-    enum-told-2
-    enum-known-reached
-    returns
-    returns-2
-    returns-3)
+    (tie.spec (search needs) (λ c κs. search needs) (search needs) (search needs) returns returns-2 returns-3)

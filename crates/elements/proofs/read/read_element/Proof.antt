@@ -9,17 +9,8 @@ use Rattle.elements.proofs.Sized.{tested, element-refused, element-unde
 use Rattle.elements.proofs.read.read_element.Statement.{statement}
 use Rattle.elements.proofs.read.read_element.Tie as tie
 
-test-requires : tie.Need-test-requires
-test-requires c κs = search needs
-
-enum-known-r : tie.Need-enum-known-r
-enum-known-r c = search needs
-
 returns : tie.Need-returns
 returns c = λ grid n q. element-refused _ _ _ _ (sym (c .before .before .before .test .ensures) ∙ c .before .r .given .1)
-
-enum-told : tie.Need-enum-told
-enum-told c = search needs
 
 -- the size of elements has passed its test
 abbrev start : tie.After-enum-told → tie.Start
@@ -31,16 +22,10 @@ sized c = sym (c .before .before .test .ensures) ∙ c .enum-told .given .1
 read-address-requires : tie.Need-read-address-requires
 read-address-requires c κs = (omega (arith, start c .pre .1, sized-stride _ (sized c)), sized-width _ (sized c))
 
-is-undefined-addr-requires : tie.Need-is-undefined-addr-requires
-is-undefined-addr-requires c κs = search needs
-
 returns-2 : tie.Need-returns-2
 returns-2 c = λ grid n q.
     let a = c .before .before in
     element-undefined _ _ _ (sized (a .before)) (tested _ _ _ _ _ (a .read-address .ensures) (c .before .is-undefined-addr .ensures) ∙ c .if1 .taken)
-
-offsets-in-extent-requires : tie.Need-offsets-in-extent-requires
-offsets-in-extent-requires c κs = search needs
 
 read-defined-element-requires : tie.Need-read-defined-element-requires
 read-defined-element-requires c κs =
@@ -49,19 +34,10 @@ read-defined-element-requires c κs =
     (sized (a .before), start (a .before) .pre .1, tested _ _ _ _ _ (a .read-address .ensures) (d .before .is-undefined-addr .ensures) ∙ d .if1 .left)
 
 returns-3 : tie.Need-returns-3
-returns-3 c = λ grid n q. c .read-defined-element .ensures grid n _ (q .chunked) (c .before .offsets-in-extent .ensures grid (q .numbered) (q .extended) .0)
+returns-3 c = λ grid n q. c .read-defined-element .ensures grid n _ (q .chunked) (c .before .reach .ensures grid n q .0)
 
 pub read-element-spec : {M : Type 1} → statement M
 read-element-spec =
     tie.close
-    (tie.spec
-    test-requires
-    enum-known-r
-    returns
-    enum-told
-    read-address-requires
-    is-undefined-addr-requires
-    returns-2
-    offsets-in-extent-requires
-    read-defined-element-requires
-    returns-3)
+    (tie.spec (search needs) (search needs) returns (search needs) read-address-requires (search needs)
+    returns-2 (λ c κs. search needs) read-defined-element-requires returns-3)

@@ -13,12 +13,6 @@ use Rattle.elements.proofs.Sized.{entry-plain, entry-wide, entry-filter
 use Rattle.elements.proofs.read.read_entry.Statement.{statement}
 use Rattle.elements.proofs.read.read_entry.Tie as tie
 
-is-filtered-requires : tie.Need-is-filtered-requires
-is-filtered-requires c κs = search needs
-
-entry-of-requires : tie.Need-entry-of-requires
-entry-of-requires c κs = search needs
-
 returns : tie.Need-returns
 returns c = λ grid n e.
     let t = c .before in
@@ -33,9 +27,6 @@ is-filtered c = sym (c .before .is-filtered .ensures) ∙ not-false _ (c .if1 .l
 
 size-bytes-requires : tie.Need-size-bytes-requires
 size-bytes-requires c κs = (start c .pre .0, is-filtered c)
-
-plain-requires : tie.Need-plain-requires
-plain-requires c κs = search needs
 
 returns-2 : tie.Need-returns-2
 returns-2 c = λ grid n e.
@@ -63,9 +54,6 @@ add-read-u32-le c = omega (arith, room (c .before))
 read-u32-le-requires : tie.Need-read-u32-le-requires
 read-u32-le-requires c κs = omega (arith, room (c .before))
 
-entry-of-requires-2 : tie.Need-entry-of-requires-2
-entry-of-requires-2 c κs = search needs
-
 returns-3 : tie.Need-returns-3
 returns-3 c = λ grid n e.
     let w = c .before .before .before in
@@ -76,16 +64,5 @@ returns-3 c = λ grid n e.
 pub read-entry-spec : {M : Type 1} → statement M
 read-entry-spec =
     tie.close
-    (tie.spec
-    is-filtered-requires
-    entry-of-requires
-    returns
-    size-bytes-requires
-    plain-requires
-    returns-2
-    add-at
-    read-le-requires
-    add-read-u32-le
-    read-u32-le-requires
-    entry-of-requires-2
-    returns-3)
+    (tie.spec (search needs) (search needs) returns size-bytes-requires (search needs) returns-2 add-at
+    read-le-requires add-read-u32-le read-u32-le-requires (search needs) returns-3)

@@ -13,16 +13,10 @@ read-address-requires c κs =
     let p = c .before .pre in
     (omega (arith, p .1, sized-stride _ (p .0)), sized-width _ (p .0))
 
-is-undefined-addr-requires : tie.Need-is-undefined-addr-requires
-is-undefined-addr-requires c κs = search needs
-
 returns : tie.Need-returns
 returns c = λ grid n s e i.
     let a = c .before .before in
     element-undefined _ _ s (a .before .before .pre .0) (tested _ _ _ _ _ (a .read-address .ensures) (c .before .is-undefined-addr .ensures) ∙ c .if1 .taken)
-
-read-entry-requires : tie.Need-read-entry-requires
-read-entry-requires c κs = search needs
 
 returns-2 : tie.Need-returns-2
 unfolding insideOnly
@@ -35,9 +29,4 @@ returns-2 c = λ grid n s e i.
 pub read-inside-element-spec : {M : Type 1} → statement M
 read-inside-element-spec =
     tie.close
-    (tie.spec
-    read-address-requires
-    is-undefined-addr-requires
-    returns
-    read-entry-requires
-    returns-2)
+    (tie.spec read-address-requires (search needs) returns (λ c κs. search needs) returns-2)

@@ -5,35 +5,34 @@ use mathlib.Core.List.{List, [], _∷_}
 use mathlib.Core.Option.{Option, none}
 use Rattle.refusal.specs.declared.Refusal.{Refusal}
 use Rattle.refusal.specs.Outcome.{Outcome, refused, accepted}
+use Rattle.index.specs.Index.{Rec, Listing}
+use Rattle.index.specs.ExactList.{ExactList}
+use Rattle.elements.specs.Runs.{elementsFrom}
 use Rattle.ea_geometry.specs.Sizes.{directSuperBlocks}
 use Rattle.ea_geometry.specs.Extents.{inlineElementAt}
-use Rattle.ea_blocks.specs.Call.{Call}
-use Rattle.ea_elements.specs.Elements.{Rec}
-use Rattle.ea_blocks.specs.Structures.{indexAt}
-use Rattle.ea_walk.specs.Walk.{supers}
-use Rattle.ea_elements.specs.Runs.{Listing, elements}
-use Rattle.ea_list.specs.Listing.{list}
-use Rattle.ea_list.specs.Judged.{Judged}
-use Rattle.ea_worked.specs.Pages.{recordOf}
+use Rattle.ea_walk.specs.Walk.{supersFrom}
+use Rattle.ea_worked.specs.Files.{Sample, listOf, indexIn}
+use Rattle.ea_worked.specs.Pages.{recordAtSlot}
 
--- not the list of a call, and not Judged with any count
-abbrev pub Excluded : Call → List Rec → Type 0
-Excluded c l = (list c ≡ accepted l → ⊥) × ((count : ℕ) → Judged c l count → ⊥)
+-- not the list of a dataset, and not exact with any count
+abbrev pub Excluded : Sample → List Rec → Type 0
+Excluded s l = (listOf s ≡ accepted l → ⊥) × ((count : ℕ) → ExactList (indexIn s) l count → ⊥)
 
 -- lists inline elements and direct data blocks truly, and treats super blocks as unset
-unfoldable pub supersUnset : Call → Listing
-supersUnset c =
-    elements c (indexAt c + inlineElementAt (c .header) (c .offsetSize) 0) (c .header .«idx_blk_elmts») 0
-    (supers c (directSuperBlocks (c .header)) 0 (c .header .«idx_blk_elmts»))
+unfoldable pub supersUnset : Sample → Listing
+supersUnset s =
+    let a = s .array in
+    elementsFrom (s .elements) (a .indexAt + inlineElementAt (a .parameters) (a .offsetSize) 0) (a .parameters .«idx_blk_elmts») 0
+    (supersFrom a (s .elements) (directSuperBlocks (a .parameters)) 0 (a .parameters .«idx_blk_elmts») (accepted []))
 
 -- what is listed of the file with pages where a data block ends at its first clear page: slot 10 is left out
 unfoldable pub endedAtClear : List Rec
 endedAtClear =
-    recordOf 0 (0 ∷ 0 ∷ [])
-    ∷ recordOf 1 (10 ∷ 0 ∷ [])
-    ∷ recordOf 6 (20 ∷ 5 ∷ [])
-    ∷ recordOf 13 (10 ∷ 15 ∷ [])
-    ∷ recordOf 16 (0 ∷ 20 ∷ [])
+    recordAtSlot 0 (0 ∷ 0 ∷ [])
+    ∷ recordAtSlot 1 (10 ∷ 0 ∷ [])
+    ∷ recordAtSlot 6 (20 ∷ 5 ∷ [])
+    ∷ recordAtSlot 13 (10 ∷ 15 ∷ [])
+    ∷ recordAtSlot 16 (0 ∷ 20 ∷ [])
     ∷ []
 
 -- says 9 first thing, with any count

@@ -1,4 +1,4 @@
--- Idle readers differ from the definitions: by the equation with the list or the lookup, by Judged, or by both. Assumes nothing.
+-- Lazy readers differ from the definitions: by the equation with the list or the lookup, by what an exact list is, or by both. Assumes nothing.
 use Prim.Native.Nat.{ℕ}
 use mathlib.Core.Path.{_≡_, refl, sym, ap, _∙_}
 use mathlib.Core.Bool.{false}
@@ -14,18 +14,19 @@ use Rattle.refusal.specs.Outcome.{refused, accepted}
 use Rattle.refusal.proofs.Tests.{false-true, neither}
 use Rattle.refusal.proofs.Outcomes.{never, yields-inv}
 use Rattle.chunk_grid.specs.Grid.{any}
-use Rattle.ea_elements.specs.Elements.{Rec}
-use Rattle.ea_elements.proofs.Elements.{some-is}
-use Rattle.ea_elements.specs.Runs.{Listing}
-use Rattle.ea_list.specs.Listing.{list, listInto, listContent}
-use Rattle.ea_list.specs.Judged.{Judged}
-use Rattle.ea_list.proofs.Judging.{none-some, list-judged}
-use Rattle.ea_lookup.specs.Lookup.{lookup, Answers}
+use Rattle.index.specs.Index.{Rec, Listing}
+use Rattle.index.specs.ExactList.{ExactList, Answers}
+use Rattle.index.proofs.Records.{none-some}
+use Rattle.elements.proofs.Elements.{some-is}
+use Rattle.records.specs.Records.{listContent}
+use Rattle.ea_walk.specs.Walk.{list}
+use Rattle.ea_walk.proofs.Walks.{list-exact}
+use Rattle.ea_list.specs.ListInto.{listInto}
 use Rattle.ea_lookup.proofs.Looking.{lookup-answers}
-use Rattle.ea_worked.specs.Files.{listAt, lookupAt}
+use Rattle.ea_worked.specs.Files.{listOf, lookupIn, indexIn, listAt, lookupAt}
 use Rattle.ea_worked.specs.Worked as W
 use Rattle.ea_worked.specs.Pages as P
-use Rattle.ea_worked.specs.Idle.{Excluded, supersUnset, endedAtClear, alwaysNine, alwaysAbsent, unwritten, alwaysEmpty, alwaysRefusing}
+use Rattle.ea_worked.specs.Lazy.{Excluded, supersUnset, endedAtClear, alwaysNine, alwaysAbsent, unwritten, alwaysEmpty, alwaysRefusing}
 use Rattle.ea_worked.proofs.Opened.{opened}
 use Rattle.ea_worked.proofs.Worked as Worked
 use Rattle.ea_worked.proofs.Pages as Pages
@@ -42,70 +43,70 @@ not-listed r (q ∷ l) h m =
     ⊎-elim (λ (e : r ≡ q). false-true (sym (n .0) ∙ eq-eqb _ _ (ap address e))) (λ k. not-listed r l (n .1) k) (List·Memᴰ·cases-cons m)
 
 -- the lists of the two files, behind the header's test
-worked-list : list W.call ≡ accepted W.chunks
-unfolding listAt W.call
+worked-list : listOf W.sample ≡ accepted W.chunks
+unfolding listAt W.sample
 worked-list = yields-inv _ _ _ Worked.listed .1
 
-pages-list : list P.call ≡ accepted P.chunks
-unfolding listAt P.call
+pages-list : listOf P.sample ≡ accepted P.chunks
+unfolding listAt P.sample
 pages-list = yields-inv _ _ _ Pages.listed .1
 
-pages-judged : (l : List Rec) → list P.call ≡ accepted l → Judged P.call l (length l)
-unfolding opened P.file P.grid P.call
-pages-judged l h = list-judged P.call l (omega arith) (omega arith) h
+pages-exact : (l : List Rec) → listOf P.sample ≡ accepted l → ExactList (indexIn P.sample) l (length l)
+unfolding opened P.file P.grid P.sample
+pages-exact l h = list-exact (P.sample .array) (P.sample .elements) refl l (omega arith) (omega arith) h
 
 -- the record of slot 10, which lies behind a clear page of a data block that a super block names
 abbrev ten : Rec
-ten = P.recordOf 10 (20 ∷ 10 ∷ [])
+ten = P.recordAtSlot 10 (20 ∷ 10 ∷ [])
 
 ten-listed : List·Memᴰ ten P.chunks
 unfolding P.chunks
 ten-listed = List·Memᴰ·tail (List·Memᴰ·tail (List·Memᴰ·tail (List·Memᴰ·head refl)))
 
-ten-found : lookup P.call (20 ∷ 10 ∷ []) ≡ accepted (some ten)
-unfolding lookupAt P.call
+ten-found : lookupIn P.sample (20 ∷ 10 ∷ []) ≡ accepted (some ten)
+unfolding lookupAt P.sample
 ten-found = yields-inv _ _ _ Pages.found .1
 
 -- no list without it
-without-ten : (l : List Rec) → any (eqb (address ten)) (map address l) ≡ false → Excluded P.call l
-without-ten l h = (λ e. wrong (length l) (pages-judged l e), wrong)
+without-ten : (l : List Rec) → any (eqb (address ten)) (map address l) ≡ false → Excluded P.sample l
+without-ten l h = (λ e. wrong (length l) (pages-exact l e), wrong)
   where
-    wrong : (n : ℕ) → Judged P.call l n → ⊥
+    wrong : (n : ℕ) → ExactList (indexIn P.sample) l n → ⊥
     wrong n j =
-        let s = pages-judged P.chunks pages-list .listed ten ten-listed in
+        let s = pages-exact P.chunks pages-list .listed ten ten-listed in
         not-listed ten l h (j .whole (20 ∷ 10 ∷ []) (s .0) (ten .entry) (s .1))
 
 -- Super blocks treated as unset.
-supers-are : supersUnset P.call ≡ accepted (P.recordOf 0 (0 ∷ 0 ∷ []) ∷ P.recordOf 1 (10 ∷ 0 ∷ []) ∷ [])
-unfolding opened P.file P.grid P.call supersUnset
+supers-are : supersUnset P.sample ≡ accepted (P.recordAtSlot 0 (0 ∷ 0 ∷ []) ∷ P.recordAtSlot 1 (10 ∷ 0 ∷ []) ∷ [])
+unfolding opened P.file P.grid P.sample supersUnset
 supers-are = refl
 
-pub supers-unset : (l : List Rec) → supersUnset P.call ≡ accepted l → Excluded P.call l
+pub supers-unset : (l : List Rec) → supersUnset P.sample ≡ accepted l → Excluded P.sample l
 unfolding any
 supers-unset l h =
-    let e : l ≡ P.recordOf 0 (0 ∷ 0 ∷ []) ∷ P.recordOf 1 (10 ∷ 0 ∷ []) ∷ [] = cc (supers-are) in
+    let e : l ≡ P.recordAtSlot 0 (0 ∷ 0 ∷ []) ∷ P.recordAtSlot 1 (10 ∷ 0 ∷ []) ∷ [] = cc (supers-are) in
     without-ten l (rw e refl)
 
 -- A data block ended at its first clear page.
-pub ended-at-clear : Excluded P.call endedAtClear
+pub ended-at-clear : Excluded P.sample endedAtClear
 unfolding any endedAtClear
 ended-at-clear = without-ten endedAtClear refl
 
 -- Always the empty list.
-pub always-empty : Excluded P.call alwaysEmpty
+pub always-empty : Excluded P.sample alwaysEmpty
 unfolding any
 always-empty = without-ten [] refl
 
 -- Always refusing.
-pub always-refusing : (r : Refusal) → list W.call ≡ alwaysRefusing r → ⊥
+pub always-refusing : (r : Refusal) → listOf W.sample ≡ alwaysRefusing r → ⊥
 always-refusing r h = never r W.chunks (sym h ∙ worked-list)
 
 -- 9 first thing: there is room.
-pub always-nine : (needed : ℕ) → listInto W.call 48 ≡ alwaysNine needed → ⊥
+pub always-nine : (needed : ℕ) → listInto (W.sample .array) (W.sample .elements) 48 ≡ alwaysNine needed → ⊥
 always-nine needed h = never _ W.chunks (sym h ∙ Worked.fits)
 
 -- 9 without the walk: it refuses.
-pub nine-unwalked : (needed : ℕ) → listInto (P.spoiled 146 0x2e) 0 ≡ alwaysNine needed → ⊥
+pub nine-unwalked : (needed : ℕ) → listInto (P.spoiled 146 0x2e .array) (P.spoiled 146 0x2e .elements) 0 ≡ alwaysNine needed → ⊥
 nine-unwalked needed h = let z : _≡_ {A = ℕ} 26 9 = ap number (sym Pages.walked ∙ h) in omega arith
   where
     number : Listing → ℕ
@@ -113,13 +114,13 @@ nine-unwalked needed h = let z : _≡_ {A = ℕ} 26 9 = ap number (sym Pages.wal
     number (accepted l) = 0
 
 -- Absent first thing: not the lookup, and no answer.
-pub always-absent : lookup P.call (20 ∷ 10 ∷ []) ≡ alwaysAbsent → ⊥
+pub always-absent : lookupIn P.sample (20 ∷ 10 ∷ []) ≡ alwaysAbsent → ⊥
 always-absent h = none-some ten (some-is none (some ten) (sym h ∙ ten-found))
 
-pub never-absent : Answers P.call (20 ∷ 10 ∷ []) none → ⊥
-never-absent n = let a = lookup-answers P.call (20 ∷ 10 ∷ []) (some ten) ten-found in n (a .0 .0) (ten .entry) (a .0 .1)
+pub never-absent : Answers (indexIn P.sample) (20 ∷ 10 ∷ []) none → ⊥
+never-absent n = let a = lookup-answers (P.sample .array) (P.sample .elements) (20 ∷ 10 ∷ []) (some ten) ten-found in n (a .0 .0) (ten .entry) (a .0 .1)
 
 -- A right count over an unwritten list: the second byte is another.
-pub unwritten-list : listContent (listInto W.call 48) (replicate 48 0) ≡ unwritten (replicate 48 0) → ⊥
-unfolding opened W.file W.grid W.call
+pub unwritten-list : listContent (listInto (W.sample .array) (W.sample .elements) 48) (replicate 48 0) ≡ unwritten (replicate 48 0) → ⊥
+unfolding opened W.file W.grid W.sample
 unwritten-list h = let z : _≡_ {A = ℕ} 16 0 = ap (λ (l : List ℕ). getD l 1 0) h in omega arith

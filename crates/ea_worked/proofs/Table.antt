@@ -1,4 +1,4 @@
--- The tried values, as one table: each row is what the definitions compute, and the value.
+-- Worked values, as one table: each row is what the definitions compute, and the value.
 use mathlib.Core.Path.{_≡_, refl}
 use mathlib.Core.Bool.{Bool, true, false, cond}
 use mathlib.Core.List.{List, [], _∷_, _++_}
@@ -12,12 +12,12 @@ use Rattle.refusal.specs.Refusals.{refusalOf, largest64}
 use Rattle.fields.specs.LittleEndian.{leBytes}
 use Rattle.fields.specs.Fields.{undefinedAt, inFile}
 use Rattle.chunk_grid.specs.Grid.{Grid, offsets, gridTest}
-use Rattle.ea_header.specs.Header.{sizesTest}
-use Rattle.ea_geometry.proofs.Tried.{Row, digits, truth, rows}
-use Rattle.ea_elements.specs.declared.Element.{Element}
-use Rattle.ea_elements.specs.declared.Element.the-variants.{Absent, Chunk, Refused as ElementRefused}
-use Rattle.ea_elements.specs.Elements.{element}
-use Rattle.ea_worked.specs.Files.{undefinedBytes, callOn}
+use Rattle.structures.specs.Header.{sizesTest}
+use Rattle.ea_geometry.proofs.Worked.{Row, digits, truth, rows}
+use Rattle.elements.specs.declared.Element.{Element}
+use Rattle.elements.specs.declared.Element.the-variants.{Absent, Chunk, Refused as ElementRefused}
+use Rattle.elements.specs.Elements.{element}
+use Rattle.ea_worked.specs.Files.{undefinedBytes}
 use Rattle.ea_worked.specs.Worked.{grid}
 use Rattle.ea_worked.proofs.Opened.{opened}
 
@@ -74,17 +74,13 @@ gridRows =
 
 -- the element of slot s with these bytes, filtered, with offset size o and element size n
 abbrev pub elementIn : Grid → ℕ → List ℕ → ℕ → ℕ → Element
-elementIn g s bytes o n = element (callOn bytes (record {
-  «client_id» = 1;
-  «element_size» = n;
-  «max_nelmts_bits» = 32;
-  «idx_blk_elmts» = 2;
-  «min_dblk_nelmts» = 16;
-  «super_blk_min_nelmts» = 4;
-  «max_dblk_nelmts_bits» = 10;
-  «num_elements» = 3;
-  «index_block_address» = 0;
-}) o g 4) 0 s
+elementIn g s bytes o n = element (record {
+  file = bytes;
+  form = record { «client_id» = 1; «element_size» = n; «offset_size» = o };
+  grid = g;
+  elementBytes = 4;
+  count = 3;
+}) 0 s
 
 -- of slot 0, chunk 10 with 25 elements present
 abbrev pub elementOf : List ℕ → ℕ → ℕ → Element
@@ -146,6 +142,6 @@ agree (r ∷ l) = cond (eqb (r .0) (r .1)) (agree l) false
 same : (n : ℕ) → eqb n n ≡ true
 same n = eq-eqb n n refl
 
-pub tried : T (agree table)
+pub table-agrees : T (agree table)
 unfolding opened grid refusalOf agree
-tried = simp same tt
+table-agrees = simp same tt
