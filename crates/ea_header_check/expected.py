@@ -110,7 +110,13 @@ if sys.argv[1:] == ["calls"]:
     for name, vectors in GROUPS.items():
         print(name)
         for s, *numbers in vectors:
-            print('    print_parsed(b"%s", %d, %d, %d);' % ("".join(f"\\x{b:02x}" for b in s), *numbers))
+            text = "".join(f"\\x{b:02x}" for b in s)
+            if s == A:
+                print("    print_whole(%d, %d, %d);" % tuple(numbers))
+            elif numbers == [0, 8, 8]:
+                print('    print_eight(b"%s");' % text)
+            else:
+                print('    print_parsed(b"%s", %d, %d, %d);' % (text, *numbers))
     sys.exit()
 for vectors in GROUPS.values():
     for vector in vectors:
