@@ -10,24 +10,24 @@ use Rattle.io.proofs.Counting.{counts}
 use Rattle.refusal.specs.declared.Counted.{Counted}
 use Rattle.refusal.specs.Outcome.{countedOf}
 use Rattle.ea_list.specs.Listing.{listContent}
-use Rattle.eals.specs.Line.{fileOf, readingOf, storedOf}
+use Rattle.eals.specs.Line.{fileOf, questionOf, storedOf}
 use Rattle.eals.specs.Printed.{unreadableText}
-use Rattle.eals.specs.Program.{listingOf, countedText, readingText, readingList, programText, programList}
+use Rattle.eals.specs.Program.{listingOf, countedText, parsedText, parsedList, programText, programList}
 use Rattle.eals.specs.declared.line.Question.{Question}
-use Rattle.eals.specs.declared.line.Reading.the-variants.{Asked, Unreadable}
+use Rattle.eals.specs.declared.line.Parsed.the-variants.{Asked, Unreadable}
 
-module _ (input lengths list : List ℕ) where
+module _ (input numbers list : List ℕ) where
   -- a question is answered
-  pub asked : (q : Question) → readingOf input ≡ Asked q → (stored file content : List ℕ) (counted : Counted)
-      → stored ≡ storedOf input lengths → file ≡ fileOf input
+  pub asked : (q : Question) → questionOf input ≡ Asked q → (stored file content : List ℕ) (counted : Counted)
+      → stored ≡ storedOf input numbers → file ≡ fileOf input
       → counted ≡ countedOf (listingOf q stored file (length list)) → content ≡ listContent (listingOf q stored file (length list)) list
-      → (countedText (q .rank) counted content ≡ programText input lengths list) × (content ≡ programList input lengths list)
-  unfolding programText programList readingText readingList
+      → (countedText (q .rank) counted content ≡ programText input numbers list) × (content ≡ programList input numbers list)
+  unfolding programText programList parsedText parsedList
   asked q r stored file content counted s f k l = rw (r, ← s, ← f, ← l, ← k) (refl, refl)
 
   -- the line is unreadable
-  pub unread : readingOf input ≡ Unreadable → (unreadableText ≡ programText input lengths list) × (list ≡ programList input lengths list)
-  unfolding programText programList readingText readingList
+  pub unread : questionOf input ≡ Unreadable → (unreadableText ≡ programText input numbers list) × (list ≡ programList input numbers list)
+  unfolding programText programList parsedText parsedList
   unread r = rw r (refl, refl)
 
 -- a text that is put lies in its buffer

@@ -13,35 +13,28 @@ use Rattle.eals.specs.Text.{before}
 use Rattle.eals.specs.Line.{lineOf, fileOf, fits}
 use Rattle.eals.proofs.Words.{take-before}
 
-pub before-within : (b : ℕ) (s : List ℕ) → length (before b s) ≤ length s
-before-within b s =
-    let part = ap (λ (l : List ℕ). length l) (take-before b s) in
-    omega (arith, part, length-take (length (before b s)) s)
-
 module _ (s : List ℕ) where
   pub line-within : length (lineOf s) ≤ length s
   unfolding lineOf
-  line-within = before-within 10 s
+  line-within =
+      let part = ap (λ (l : List ℕ). length l) (take-before 10 s) in
+      omega (arith, part, length-take (length (before 10 s)) s)
 
-  module _ (end : ℕ) (at : end ≡ 0 + length (before 10 s)) where
-    pub line-part : take end s ≡ lineOf s
-    unfolding lineOf
-    line-part =
-        let same : end ≡ length (before 10 s) = omega arith in
-        rw same (take-before 10 s)
-
-    pub file-part : take (length s - (end + 1)) (drop (end + 1) s) ≡ fileOf s
+  -- the line is found
+  module _ (line : List ℕ) (is : line ≡ before 10 s) where
+    pub file-part : take (length s - (length line + 1)) (drop (length line + 1) s) ≡ fileOf s
     unfolding lineOf fileOf
     file-part =
-        let next : suc (length (before 10 s)) ≡ end + 1 = omega arith in
-        rw next (take-all (length s - (end + 1)) (drop (end + 1) s) (omega (arith, length-drop (end + 1) s)))
+        let next : suc (length (before 10 s)) ≡ length line + 1 = rw is (omega arith) in
+        rw next (take-all (length s - (length line + 1)) (drop (length line + 1) s) (omega (arith, length-drop (length line + 1) s)))
 
-    pub file-none : end ≡ length s → take (length s - end) (drop end s) ≡ fileOf s
+    pub file-none : length line ≡ length s → take (length s - length line) (drop (length line) s) ≡ fileOf s
     unfolding lineOf fileOf
     file-none e =
-        let none : drop end s ≡ [] = drop-of-length-le s {i = end} (omega arith) in
+        let none : drop (length line) s ≡ [] = drop-of-length-le s {i = length line} (omega arith) in
+        let wide = ap (λ (l : List ℕ). length l) is in
         let behind : drop (suc (length (before 10 s))) s ≡ [] = drop-of-length-le s {i = suc (length (before 10 s))} (omega arith) in
-        rw (none, behind) (take-all (length s - end) [] (omega arith))
+        rw (none, behind) (take-all (length s - length line) [] (omega arith))
 
   pub line-unended : length (lineOf s) ≡ length s → fits s ≡ false
   unfolding fits

@@ -65,18 +65,3 @@ module _ (largest : ℕ) (w : List ℕ) where
         let more = v * 10 + (getD w i 0 - 48) in
         let grown = value-grows more (drop (suc i) w) in
         rw (drop-cons w i 0 h, lt-leb (valueFrom more (drop (suc i) w)) largest (omega (arith, grown))) (in-no-case (digitsOnly (getD w i 0 ∷ drop (suc i) w)) _)
-
-pub no-value : (n : ℕ) → NoNumber ≡ Value n → ⊥
-no-value n h = let z : _≡_ {A = ℕ} 0 1 = cc in omega arith
-
--- a word that is one byte, or a number, isn't empty
-pub only-has-byte : (b : ℕ) (w : List ℕ) → isOnly b w ≡ true → 0 < length w
-unfolding isOnly
-only-has-byte b w e = omega (arith, eqb-true (length w) 1 (both _ _ e .0))
-
-pub number-has-byte : (largest : ℕ) (w : List ℕ) (n : ℕ) → numberOf largest w ≡ Value n → 0 < length w
-unfolding numberOf isNumber
-number-has-byte largest w n =
-    by-cond (λ (x : Number). x ≡ Value n → 0 < length w) (isNumber largest w)
-    (λ e _. ltb-true 0 (length w) (both _ _ (both _ _ e .0) .0))
-    (λ _ h. absurd (no-value n h))

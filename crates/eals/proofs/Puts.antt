@@ -1,22 +1,21 @@
 -- Laws of texts that are stored one behind the other. Assumes nothing.
 use mathlib.Core.Path.{_≡_, refl, sym, _∙_}
-use mathlib.Core.List.{List, [], _++_}
-use Prim.Native.Nat.{ℕ, suc, _+_, _≤_, _<_}
+use mathlib.Core.List.{List, [], _++_, append-assoc, append-nil}
+use Prim.Native.Nat.{ℕ, _+_, _-_, _≤_}
 use native.Mathlib.Omega.{arith}
-use lib.ListN.{length, getD, drop, set, drop-of-length-le, length-append}
-use lib.Seq.{sets, drop-cons, length-sets}
+use lib.ListN.{length, take, drop, drop-of-length-le, length-append, length-drop}
+use lib.Seq.{sets, sets-eq, take-all, drop-drop, length-sets}
 use Rattle.ea_records.proofs.Records.{sets-append}
 
--- one byte of a text, and the end of it
-module _ (out text : List ℕ) (at i : ℕ) where
-  pub byte-put : i < length text → sets (set out (at + i) (getD text i 0)) (at + (i + 1)) (drop (i + 1) text) ≡ sets out (at + i) (drop i text)
-  byte-put h =
-      let next : at + (i + 1) ≡ suc (at + i) = omega arith in
-      let more : i + 1 ≡ suc i = omega arith in
-      rw (next, more, drop-cons text i 0 h) refl
-
-  pub all-put : length text ≤ i → sets out (at + i) (drop i text) ≡ out
-  all-put h = rw (drop-of-length-le text {i = i} h) refl
+-- a text that is copied into the part of a buffer from `at` on
+pub text-put : (out text part : List ℕ) (at : ℕ) → at + length text ≤ length out
+    → part ≡ take (length text) text ++ drop (length text) (take (length out - at) (drop at out))
+    → take at out ++ (part ++ drop (length out - at) (drop at out)) ≡ sets out at text
+text-put out text part at h e =
+    let all = take-all (length text) text (omega arith) in
+    let rest = take-all (length out - at) (drop at out) (omega (arith, length-drop at out)) in
+    let none : drop (length out - at) (drop at out) ≡ [] = drop-of-length-le (drop at out) {i = length out - at} (omega (arith, length-drop at out)) in
+    rw (e, all, rest, none, append-nil, drop-drop (length text) at out, sets-eq text out at h) (sym (append-assoc (take at out) text (drop (at + length text) out)))
 
 -- While a whole text is put at `at`, its rest goes behind what is put.
 pub record Putting (out₀ : List ℕ) (at : ℕ) (whole out : List ℕ) (now : ℕ) (rest : List ℕ) : Type 0 where

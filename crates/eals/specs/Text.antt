@@ -21,14 +21,6 @@ unfoldable pub words : List ℕ → List (List ℕ)
 words [] = [] ∷ []
 words (x ∷ s) = cond (eqb x 32) ([] ∷ words s) (onFirst x (words s))
 
--- word k, counted from 0; empty where there is none
-unfoldable pub firstWord : List (List ℕ) → List ℕ
-firstWord [] = []
-firstWord (w ∷ ws) = w
-
-unfoldable pub word : ℕ → List (List ℕ) → List ℕ
-word k ws = firstWord (drop k ws)
-
 -- the word of this one byte
 unfoldable pub isOnly : ℕ → List ℕ → Bool
 isOnly b w = eqb (length w) 1 && eqb (getD w 0 0) b

@@ -19,12 +19,7 @@ pub fn put_text(out: &mut [u8], at: usize, text: &[u8]) -> usize
     ensures { λ r. ⌜ r ≡ at + length (now (text .entry)) ⌝ }
     ensures { λ _. ⌜ now (out .exit) ≡ sets (now (out .entry)) at (now (text .entry)) ⌝ }
 {
-    let mut i = 0;
-    while i < text.len() {
-        out[at + i] = text[i];
-        i += 1;
-    }
-    at + i
+    at + bytes::copy(text, &mut out[at..])
 }
 
 // The same of a number's digits.
@@ -56,6 +51,7 @@ fn put_offsets(out: &mut [u8], at: usize, list: &[u8], from: usize, n: usize) ->
 {
     let mut to = at;
     let mut i = 0;
+    // The first i numbers stand before `to`.
     while i < n {
         to = put_spaced(out, to, read_u64_le(list, from + 8 * i));
         i += 1;
@@ -85,6 +81,7 @@ fn put_records(out: &mut [u8], list: &[u8], count: usize, rank: usize) -> usize
     let mut to = 0;
     let mut from = 0;
     let mut left = count;
+    // The lines of the records before `from` stand before `to`; so many are left.
     while 0 < left {
         to = put_record(out, to, list, from, rank);
         from += 16 + 8 * rank;

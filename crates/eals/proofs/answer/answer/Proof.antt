@@ -5,9 +5,9 @@ use Prim.Native.Nat.{ℕ}
 use native.Mathlib.Omega.{arith}
 use lib.ListN.{length}
 use lib.Seq.{sets}
-use Rattle.eals.specs.Line.{readingOf}
+use Rattle.eals.specs.Line.{questionOf}
 use Rattle.eals.specs.Program.{countedText, programText, programList}
-use Rattle.eals.specs.declared.line.Reading.the-variants.{Asked}
+use Rattle.eals.specs.declared.line.Parsed.the-variants.{Asked}
 use Rattle.eals.proofs.Bounds.{rank-small, counted-room}
 use Rattle.eals.proofs.Answers.{asked, unread, text-in}
 use borrow.Author.Needs.{needs}
@@ -15,15 +15,15 @@ use Rattle.eals.proofs.answer.answer.Statement.{statement}
 use Rattle.eals.proofs.answer.answer.Tie as tie
 
 -- what is asked
-asked-is : (c : tie.After-known-told) → readingOf (c .before .before .before .before .before .before .before .before .before .before .before .args .input .now) ≡ Asked (c .before .question .given .0 .0)
+asked-is : (c : tie.After-known-told) → questionOf (c .before .before .before .before .before .before .before .before .before .before .before .args .input .now) ≡ Asked (c .before .question .given .0 .0)
 asked-is c = sym (c .before .before .before .before .before .parse .ensures .0) ∙ c .before .question .given .1
 
 -- what the list and the text are then
 listed : (c : tie.After-list-chunks)
     → let a = c .before .before .before .before .before .before .before .before .before .before .before .before .before .before .before .args in
     let q = c .before .before .before .before .before .question .given .0 .0 in
-    (countedText (q .rank) (c .list-chunks .result) (c .list-chunks .last .0) ≡ programText (a .input .now) (a .lengths .now) (a .list .now))
-    × (c .list-chunks .last .0 ≡ programList (a .input .now) (a .lengths .now) (a .list .now))
+    (countedText (q .rank) (c .list-chunks .result) (c .list-chunks .last .0) ≡ programText (a .input .now) (a .numbers .now) (a .list .now))
+    × (c .list-chunks .last .0 ≡ programList (a .input .now) (a .numbers .now) (a .list .now))
 listed c =
     let told = c .list-chunks .ensures in
     let parsed = c .before .before .before .before .before .before .before .before .before .parse in
@@ -72,7 +72,7 @@ returns : tie.Need-returns
 returns c =
     let s = c .before .before .before .before .before .before .before .before .before .before .before .before .before .before .before .before .before .before .before .before .before .before in
     let a = s .args in
-    let text = programText (a .input .now) (a .lengths .now) (a .list .now) in
+    let text = programText (a .input .now) (a .numbers .now) (a .list .now) in
     let told = c .before .before .put-counted .ensures in
     let l = listed (c .before .before .before .before .before .before .before) in
     let put = told .1 ∙ ap (sets (a .out .now) 0) (l .0) in (
@@ -90,7 +90,7 @@ returns-2 : tie.Need-returns-2
 returns-2 c =
     let s = c .before .before .before .before .before .before .before .before .before .before .before .before .before .before .before in
     let a = s .args in
-    let text = programText (a .input .now) (a .lengths .now) (a .list .now) in
+    let text = programText (a .input .now) (a .numbers .now) (a .list .now) in
     let told = c .before .before .put-text .ensures in
     let parsed = c .before .before .before .before .before .before .before .before .before .parse in
     let u = unread _ _ _ (sym (parsed .ensures .0) ∙ c .before .before .before .before .before .enum-told .given .1) in
