@@ -29,15 +29,6 @@ listed c =
     let parsed = c .before .before .before .before .before .before .before .before .before .parse in
     asked _ _ _ _ (asked-is (c .before .before .before .before)) _ _ _ _ (parsed .ensures .1) (c .before .before .before .file-of .ensures) (told .0) (told .1)
 
-parse-requires : tie.Need-parse-requires
-parse-requires c κs = search needs
-
-enum-known-question : tie.Need-enum-known-question
-enum-known-question c = search needs
-
-file-of-requires : tie.Need-file-of-requires
-file-of-requires c κs = search needs
-
 list-chunks-requires : tie.Need-list-chunks-requires
 list-chunks-requires c κs =
     let told = c .before .before .before in
@@ -50,24 +41,6 @@ put-counted-requires c κs =
     let room = counted-room q _ _ _ _ (chunks .list-chunks .ensures .0) in
     (omega (arith, room, c .before .before .before .before .before .before .before .before .before .before .before .before .before .before .before .before .before .before .before .pre), omega (arith, c .before .before .before .before .before .before .before .before .before .before .before .before .before .before .before .before .before .before .before .pre), omega (arith, c .before .before .before .before .before .before .before .before .before .before .before .before .before .before .before .before .before .before .before .pre))
 
-enum-told : tie.Need-enum-told
-enum-told c = search needs
-
-slice-aggregate-put-text : tie.Need-slice-aggregate-put-text
-slice-aggregate-put-text c = search needs
-
-put-text-requires : tie.Need-put-text-requires
-put-text-requires c κs = search needs
-
-same-length : tie.Need-same-length
-same-length c = search needs
-
-same-length-2 : tie.Need-same-length-2
-same-length-2 c = search needs
-
-same-length-3 : tie.Need-same-length-3
-same-length-3 c = search needs
-
 returns : tie.Need-returns
 returns c =
     let s = c .before .before .before .before .before .before .before .before .before .before .before .before .before .before .before .before .before .before .before .before .before .before in
@@ -79,12 +52,6 @@ returns c =
       told .0 .0 ∙ ap (λ (s : List ℕ). length s) (l .0),
       (text-in (a .out .now) _ _ text put (omega (arith, told .0 .1, s .pre)), (put, (l .1, c .before .before .before .before .before .before .before .before .before .before .before .before .before .before .before .before .parse .ensures .1))),
     )
-
-same-length-4 : tie.Need-same-length-4
-same-length-4 c = search needs
-
-same-length-5 : tie.Need-same-length-5
-same-length-5 c = search needs
 
 returns-2 : tie.Need-returns-2
 returns-2 c =
@@ -102,19 +69,6 @@ returns-2 c =
 pub answer-spec : {M : Type 1} → statement M
 answer-spec =
     tie.close
-    (tie.spec
-    parse-requires
-    enum-known-question
-    file-of-requires
-    list-chunks-requires
-    put-counted-requires
-    enum-told
-    slice-aggregate-put-text
-    put-text-requires
-    same-length
-    same-length-2
-    same-length-3
-    returns
-    same-length-4
-    same-length-5
-    returns-2)
+    (tie.spec (λ c κs. search needs) (λ c. search needs) (λ c κs. search needs) list-chunks-requires
+    put-counted-requires (λ c. search needs) (λ c. search needs) (λ c κs. search needs) (λ c. search needs)
+    (λ c. search needs) (λ c. search needs) returns (λ c. search needs) (λ c. search needs) returns-2)

@@ -13,9 +13,6 @@ use borrow.Author.Needs.{needs}
 use Rattle.eals.proofs.answer.put_counted.Statement.{statement}
 use Rattle.eals.proofs.answer.put_counted.Tie as tie
 
-enum-known-counted : tie.Need-enum-known-counted
-enum-known-counted c = search needs
-
 -- the records that are counted have room in the list, and their text in out
 room : (c : tie.After-known-told)
     → let a = c .before .before .before .before .before .args in
@@ -31,23 +28,14 @@ room c =
 put-list-requires : tie.Need-put-list-requires
 put-list-requires c κs = let r = room (c .before) in (r .0, omega (arith, r .1, c .before .before .before .before .before .before .pre))
 
-enum-known-counted-2 : tie.Need-enum-known-counted-2
-enum-known-counted-2 c = search needs
-
 put-refusal-requires : tie.Need-put-refusal-requires
 put-refusal-requires c κs = omega (arith, c .before .before .before .before .before .before .pre, refusal-text-short (c .before .before .counted2 .given .0 .0))
-
-same-length : tie.Need-same-length
-same-length c = search needs
 
 returns : tie.Need-returns
 unfolding countedText
 returns c =
     let told = c .before .before .put-list .ensures in
     rw (c .before .before .before .before .before .counted .given .1) ((told .0, omega (arith, told .0, room (c .before .before .before .before) .1)), told .1)
-
-same-length-2 : tie.Need-same-length-2
-same-length-2 c = search needs
 
 returns-2 : tie.Need-returns-2
 unfolding countedText
@@ -59,12 +47,5 @@ returns-2 c =
 pub put-counted-spec : {M : Type 1} → statement M
 put-counted-spec =
     tie.close
-    (tie.spec
-    enum-known-counted
-    put-list-requires
-    enum-known-counted-2
-    put-refusal-requires
-    same-length
-    returns
-    same-length-2
-    returns-2)
+    (tie.spec (λ c. search needs) put-list-requires (λ c. search needs) put-refusal-requires (λ c. search needs)
+    returns (λ c. search needs) returns-2)

@@ -15,12 +15,6 @@ line : (c : tie.After-until) → length (c .until .result .now) ≡ length (line
 unfolding lineOf
 line c = ap (λ (l : List ℕ). length l) (c .until .ensures .0)
 
-until-requires : tie.Need-until-requires
-until-requires c κs = search needs
-
-file-of-requires : tie.Need-file-of-requires
-file-of-requires c κs = search needs
-
 returns : tie.Need-returns
 unfolding questionOf storedOf
 returns c =
@@ -40,12 +34,6 @@ returns-3 c =
     let told = ap (λ (l : List ℕ). length l) (c .before .before .before .file-of .ensures) in
     rw (file-long input (omega (arith, told, c .if3 .taken))) (refl, refl)
 
-parse-line-requires : tie.Need-parse-line-requires
-parse-line-requires c κs = search needs
-
-same-length : tie.Need-same-length
-same-length c = search needs
-
 returns-4 : tie.Need-returns-4
 unfolding questionOf storedOf lineOf
 returns-4 c =
@@ -59,12 +47,5 @@ returns-4 c =
 pub parse-spec : {M : Type 1} → statement M
 parse-spec =
     tie.close
-    (tie.spec
-    until-requires
-    file-of-requires
-    returns
-    returns-2
-    returns-3
-    parse-line-requires
-    same-length
-    returns-4)
+    (tie.spec (λ c κs. search needs) (λ c κs. search needs) returns returns-2 returns-3 (λ c κs. search needs)
+    (λ c. search needs) returns-4)

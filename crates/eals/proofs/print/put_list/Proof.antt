@@ -37,9 +37,6 @@ put-records-requires c κs =
     let a = s .args in
     (s .pre .0, omega (arith, put-room (recordLines (recordsIn (a .rank) (a .count) (a .list .now))) _ (start s) (omega (arith, s .pre .1))))
 
-slice-aggregate-put-text : tie.Need-slice-aggregate-put-text
-slice-aggregate-put-text c = search needs
-
 put-text-requires : tie.Need-put-text-requires
 put-text-requires c κs = put-room recordsWord _ (put1 (c .before .before .before .before)) (omega (arith, c .before .before .before .before .before .before .before .before .pre .1))
 
@@ -48,14 +45,8 @@ put-spaced-requires c κs =
     let s = c .before .before .before .before .before .before .before .before .before .before .before .before in
     put-room (spaced (s .args .count ∷ [])) (10 ∷ []) (put2 (c .before .before .before)) (omega (arith, s .pre .1))
 
-slice-aggregate-put-text-2 : tie.Need-slice-aggregate-put-text-2
-slice-aggregate-put-text-2 c = search needs
-
 put-text-requires-2 : tie.Need-put-text-requires-2
 put-text-requires-2 c κs = put-room (10 ∷ []) [] (put3 (c .before .before .before .before)) (omega (arith, c .before .before .before .before .before .before .before .before .before .before .before .before .before .before .before .before .before .pre .1))
-
-same-length : tie.Need-same-length
-same-length c = search needs
 
 returns : tie.Need-returns
 returns c =
@@ -66,12 +57,5 @@ returns c =
 pub put-list-spec : {M : Type 1} → statement M
 put-list-spec =
     tie.close
-    (tie.spec
-    put-records-requires
-    slice-aggregate-put-text
-    put-text-requires
-    put-spaced-requires
-    slice-aggregate-put-text-2
-    put-text-requires-2
-    same-length
-    returns)
+    (tie.spec put-records-requires (λ c. search needs) put-text-requires put-spaced-requires (λ c. search needs)
+    put-text-requires-2 (λ c. search needs) returns)

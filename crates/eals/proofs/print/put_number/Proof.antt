@@ -13,20 +13,8 @@ text c =
     let told = c .decimal .ensures in
     told .1 .1 ∙ decimal-digits (c .before .before .before .args .n) _ (omega arith) (told .1 .0)
 
-decimal-requires : tie.Need-decimal-requires
-decimal-requires c κs = search needs
-
-array-share-prefix-digits : tie.Need-array-share-prefix-digits
-array-share-prefix-digits c = search needs
-
-slice-aggregate-put-text : tie.Need-slice-aggregate-put-text
-slice-aggregate-put-text c = search needs
-
 put-text-requires : tie.Need-put-text-requires
 put-text-requires c κs = rw (text (c .before .before)) (c .before .before .before .before .before .pre)
-
-same-length : tie.Need-same-length
-same-length c = search needs
 
 returns : tie.Need-returns
 returns c =
@@ -36,10 +24,5 @@ returns c =
 pub put-number-spec : {M : Type 1} → statement M
 put-number-spec =
     tie.close
-    (tie.spec
-    decimal-requires
-    array-share-prefix-digits
-    slice-aggregate-put-text
-    put-text-requires
-    same-length
+    (tie.spec (λ c κs. search needs) (λ c. search needs) (λ c. search needs) put-text-requires (λ c. search needs)
     returns)

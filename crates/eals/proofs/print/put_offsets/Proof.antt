@@ -24,15 +24,6 @@ abbrev μ-loop : tie.MeasureT-loop
 loop-holds : tie.Need-loop-holds Inv-loop μ-loop
 loop-holds c = (omega arith, rw (add-zero, sub-zero) (put-none _ _ _ _ refl))
 
-mul-read-u64-le : tie.Need-mul-read-u64-le Inv-loop μ-loop
-mul-read-u64-le c = search needs
-
-add-read-u64-le : tie.Need-add-read-u64-le Inv-loop μ-loop
-add-read-u64-le c = search needs
-
-read-u64-le-requires : tie.Need-read-u64-le-requires Inv-loop μ-loop
-read-u64-le-requires c κs = search needs
-
 put-spaced-requires : tie.Need-put-spaced-requires Inv-loop μ-loop
 put-spaced-requires c κs =
     let l = c .before .before .before .loop in
@@ -41,12 +32,6 @@ put-spaced-requires c κs =
     rw (c .read-u64-le .ensures)
     (put-room (spaced (leAt (a .list .now) (a .from + 8 * l .i) 8 ∷ [])) _ (rw (offsets-on (a .list .now) (a .from) (a .n) (l .i) (c .before .before .loop-test .taken)) at (l .inv .1)) (start .pre .1))
 
-add-i : tie.Need-add-i Inv-loop μ-loop
-add-i c = search needs
-
-loop-less : tie.Need-loop-less Inv-loop μ-loop
-loop-less c = search needs
-
 loop-again : tie.Need-loop-again Inv-loop μ-loop
 loop-again c =
     let l = c .before .before .before .before .before .before .loop in
@@ -54,9 +39,6 @@ loop-again c =
     let told = rw (c .before .before .before .read-u64-le .ensures) at (c .before .before .put-spaced .ensures) in
     let rest = rw (offsets-on (a .list .now) (a .from) (a .n) (l .i) (c .before .before .before .before .before .loop-test .taken)) at (l .inv .1) in
     (omega arith, put-more (spaced (leAt (a .list .now) (a .from + 8 * l .i) 8 ∷ [])) _ rest _ _ (told .0) (told .1))
-
-same-length : tie.Need-same-length Inv-loop μ-loop
-same-length c = search needs
 
 returns : tie.Need-returns Inv-loop μ-loop
 returns c =
@@ -67,16 +49,5 @@ returns c =
 pub put-offsets-spec : {M : Type 1} → statement M
 put-offsets-spec =
     tie.close
-    (tie.spec
-    Inv-loop
-    μ-loop
-    loop-holds
-    mul-read-u64-le
-    add-read-u64-le
-    read-u64-le-requires
-    put-spaced-requires
-    add-i
-    loop-less
-    loop-again
-    same-length
-    returns)
+    (tie.spec Inv-loop μ-loop loop-holds (λ c. search needs) (λ c. search needs) (λ c κs. search needs)
+    put-spaced-requires (λ c. search needs) (λ c. search needs) loop-again (λ c. search needs) returns)

@@ -61,38 +61,23 @@ put-number-requires c κs =
     let s = c .before .before .before .before in
     rw (c .read-u64-le .ensures) (put-room (decimal (leAt (s .args .list .now) (s .args .from) 8)) _ (start s) (s .pre .1))
 
-add-read-u32-le : tie.Need-add-read-u32-le
-add-read-u32-le c = search needs
-
 read-u32-le-requires : tie.Need-read-u32-le-requires
 unfolding recordLength
 read-u32-le-requires c κs = omega (arith, c .before .before .before .before .before .before .before .before .pre .0)
-
-cast-put-spaced : tie.Need-cast-put-spaced
-cast-put-spaced c = search needs
 
 put-spaced-requires : tie.Need-put-spaced-requires
 put-spaced-requires c κs =
     let s = c .before .before .before .before .before .before .before .before .before in
     rw (c .read-u32-le .ensures) (put-room (spaced (leAt (s .args .list .now) (s .args .from + 8) 4 ∷ [])) _ (put1 (c .before .before .before .before)) (s .pre .1))
 
-add-read-u32-le-2 : tie.Need-add-read-u32-le-2
-add-read-u32-le-2 c = search needs
-
 read-u32-le-requires-2 : tie.Need-read-u32-le-requires-2
 unfolding recordLength
 read-u32-le-requires-2 c κs = omega (arith, c .before .before .before .before .before .before .before .before .before .before .before .before .before .pre .0)
-
-cast-put-spaced-2 : tie.Need-cast-put-spaced-2
-cast-put-spaced-2 c = search needs
 
 put-spaced-requires-2 : tie.Need-put-spaced-requires-2
 put-spaced-requires-2 c κs =
     let s = c .before .before .before .before .before .before .before .before .before .before .before .before .before .before in
     rw (c .read-u32-le2 .ensures) (put-room (spaced (leAt (s .args .list .now) (s .args .from + 12) 4 ∷ [])) _ (put2 (c .before .before .before .before)) (s .pre .1))
-
-add-put-offsets : tie.Need-add-put-offsets
-add-put-offsets c = search needs
 
 put-offsets-requires : tie.Need-put-offsets-requires
 unfolding recordLength
@@ -101,14 +86,8 @@ put-offsets-requires c κs =
     let a = s .args in
     (omega (arith, s .pre .0), put-room (spaced (numbersIn (a .rank) (drop (a .from + 16) (a .list .now)))) (10 ∷ []) (put3 (c .before .before .before)) (s .pre .1))
 
-slice-aggregate-put-text : tie.Need-slice-aggregate-put-text
-slice-aggregate-put-text c = search needs
-
 put-text-requires : tie.Need-put-text-requires
 put-text-requires c κs = put-room (10 ∷ []) [] (put4 (c .before .before .before .before)) (c .before .before .before .before .before .before .before .before .before .before .before .before .before .before .before .before .before .before .before .before .before .before .before .pre .1)
-
-same-length : tie.Need-same-length
-same-length c = search needs
 
 returns : tie.Need-returns
 returns c =
@@ -118,20 +97,6 @@ returns c =
 pub put-record-spec : {M : Type 1} → statement M
 put-record-spec =
     tie.close
-    (tie.spec
-    read-u64-le-requires
-    put-number-requires
-    add-read-u32-le
-    read-u32-le-requires
-    cast-put-spaced
-    put-spaced-requires
-    add-read-u32-le-2
-    read-u32-le-requires-2
-    cast-put-spaced-2
-    put-spaced-requires-2
-    add-put-offsets
-    put-offsets-requires
-    slice-aggregate-put-text
-    put-text-requires
-    same-length
-    returns)
+    (tie.spec read-u64-le-requires put-number-requires (λ c. search needs) read-u32-le-requires (λ c. search needs)
+    put-spaced-requires (λ c. search needs) read-u32-le-requires-2 (λ c. search needs) put-spaced-requires-2
+    (λ c. search needs) put-offsets-requires (λ c. search needs) put-text-requires (λ c. search needs) returns)

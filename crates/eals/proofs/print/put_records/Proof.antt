@@ -62,21 +62,12 @@ add-from-2 : tie.Need-add-from-2 Inv-loop μ-loop
 unfolding recordLength
 add-from-2 c = omega (arith, here (c .before .before .before .before))
 
-sub-left : tie.Need-sub-left Inv-loop μ-loop
-sub-left c = search needs
-
-loop-less : tie.Need-loop-less Inv-loop μ-loop
-loop-less c = search needs
-
 loop-again : tie.Need-loop-again Inv-loop μ-loop
 loop-again c =
     let l = c .before .before .before .before .before .loop in
     let a = c .before .before .before .before .before .before .before .before .args in
     let told = c .before .before .put-record .ensures in
     (here (c .before .before .before .before) .1, put-more (recordLine (recordIn (a .rank) (drop (l .from) (a .list .now)))) _ (lines (c .before .before .before .before)) _ _ (told .0) (told .1))
-
-same-length : tie.Need-same-length Inv-loop μ-loop
-same-length c = search needs
 
 returns : tie.Need-returns Inv-loop μ-loop
 returns c =
@@ -88,16 +79,5 @@ returns c =
 pub put-records-spec : {M : Type 1} → statement M
 put-records-spec =
     tie.close
-    (tie.spec
-    Inv-loop
-    μ-loop
-    loop-holds
-    put-record-requires
-    mul-from
-    add-from
-    add-from-2
-    sub-left
-    loop-less
-    loop-again
-    same-length
-    returns)
+    (tie.spec Inv-loop μ-loop loop-holds put-record-requires mul-from add-from add-from-2 (λ c. search needs)
+    (λ c. search needs) loop-again (λ c. search needs) returns)

@@ -28,9 +28,6 @@ put3 c = put-more (spaced (c .before .before .before .before .before .before .be
 put4 : (c : tie.After-put-spaced3) → Left (c .before .before .before .before .before .before .before .before .before .before .before .before .before .before .before .before) (c .put-spaced3 .last .0) (c .put-spaced3 .result) (10 ∷ [])
 put4 c = put-more (spaced (c .before .before .before .before .before .before .before .before .before .before .before .before .before .before .before .before .args .refusal .second ∷ [])) (10 ∷ []) (put3 (c .before .before .before .before)) _ _ (c .put-spaced3 .ensures .0) (c .put-spaced3 .ensures .1)
 
-slice-aggregate-put-text : tie.Need-slice-aggregate-put-text
-slice-aggregate-put-text c = search needs
-
 put-text-requires : tie.Need-put-text-requires
 put-text-requires c κs = put-room refusedWord _ (start (c .before .before .before)) (omega (arith, c .before .before .before .pre))
 
@@ -49,14 +46,8 @@ put-spaced-requires-3 c κs =
     let s = c .before .before .before .before .before .before .before .before .before .before .before .before .before .before .before in
     put-room (spaced (s .args .refusal .second ∷ [])) (10 ∷ []) (put3 (c .before .before .before)) (omega (arith, s .pre))
 
-slice-aggregate-put-text-2 : tie.Need-slice-aggregate-put-text-2
-slice-aggregate-put-text-2 c = search needs
-
 put-text-requires-2 : tie.Need-put-text-requires-2
 put-text-requires-2 c κs = put-room (10 ∷ []) [] (put4 (c .before .before .before .before)) (omega (arith, c .before .before .before .before .before .before .before .before .before .before .before .before .before .before .before .before .before .before .before .before .pre))
-
-same-length : tie.Need-same-length
-same-length c = search needs
 
 returns : tie.Need-returns
 returns c =
@@ -67,13 +58,5 @@ returns c =
 pub put-refusal-spec : {M : Type 1} → statement M
 put-refusal-spec =
     tie.close
-    (tie.spec
-    slice-aggregate-put-text
-    put-text-requires
-    put-spaced-requires
-    put-spaced-requires-2
-    put-spaced-requires-3
-    slice-aggregate-put-text-2
-    put-text-requires-2
-    same-length
-    returns)
+    (tie.spec (λ c. search needs) put-text-requires put-spaced-requires put-spaced-requires-2 put-spaced-requires-3
+    (λ c. search needs) put-text-requires-2 (λ c. search needs) returns)

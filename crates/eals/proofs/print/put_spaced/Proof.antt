@@ -16,9 +16,6 @@ put1 : (c : tie.After-put-text)
 unfolding spaced
 put1 c = put-more (32 ∷ []) _ (put-none _ _ _ _ refl) _ _ (c .put-text .ensures .0) (c .put-text .ensures .1)
 
-slice-aggregate-put-text : tie.Need-slice-aggregate-put-text
-slice-aggregate-put-text c = search needs
-
 put-text-requires : tie.Need-put-text-requires
 unfolding spaced
 put-text-requires c κs = omega (arith, c .before .before .before .pre)
@@ -27,9 +24,6 @@ put-number-requires : tie.Need-put-number-requires
 put-number-requires c κs =
     let put = c .before .before .before in
     put-room (decimal (put .before .before .before .before .args .n)) [] (put1 put) (put .before .before .before .before .pre)
-
-same-length : tie.Need-same-length
-same-length c = search needs
 
 returns : tie.Need-returns
 returns c =
@@ -41,4 +35,4 @@ returns c =
 pub put-spaced-spec : {M : Type 1} → statement M
 put-spaced-spec =
     tie.close
-    (tie.spec slice-aggregate-put-text put-text-requires put-number-requires same-length returns)
+    (tie.spec (λ c. search needs) put-text-requires put-number-requires (λ c. search needs) returns)

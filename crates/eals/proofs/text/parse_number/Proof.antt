@@ -22,12 +22,6 @@ returns c = number-empty _ _ (c .if1 .taken)
 loop-holds : tie.Need-loop-holds Inv-loop μ-loop
 loop-holds c = (omega arith, number-start _ _ (omega (arith, c .if1 .left)))
 
-shared-slice-read-wide : tie.Need-shared-slice-read-wide Inv-loop μ-loop
-shared-slice-read-wide c = search needs
-
-wide-requires : tie.Need-wide-requires Inv-loop μ-loop
-wide-requires c κs = search needs
-
 returns-2 : tie.Need-returns-2 Inv-loop μ-loop
 returns-2 c =
     let l = c .before .before .before .before .loop in
@@ -40,26 +34,11 @@ returns-3 c =
     let high = rw (c .before .before .wide .ensures .0) at (c .if3 .taken) in
     number-above _ _ _ _ (c .before .before .before .before .loop-test .taken) high ∙ l .inv .1
 
-sub-if4 : tie.Need-sub-if4 Inv-loop μ-loop
-sub-if4 c = search needs
-
 returns-4 : tie.Need-returns-4 Inv-loop μ-loop
 returns-4 c =
     let l = c .before .before .before .before .before .before .loop in
     let byte = c .before .before .before .wide .ensures .0 in
     number-over _ _ _ _ (c .before .before .before .before .before .loop-test .taken) (omega (arith, byte)) ∙ l .inv .1
-
-mul-value : tie.Need-mul-value Inv-loop μ-loop
-mul-value c = search needs
-
-add-value : tie.Need-add-value Inv-loop μ-loop
-add-value c = search needs
-
-add-i : tie.Need-add-i Inv-loop μ-loop
-add-i c = search needs
-
-loop-less : tie.Need-loop-less Inv-loop μ-loop
-loop-less c = search needs
 
 loop-again : tie.Need-loop-again Inv-loop μ-loop
 loop-again c =
@@ -84,21 +63,6 @@ returns-6 c =
 pub parse-number-spec : {M : Type 1} → statement M
 parse-number-spec =
     tie.close
-    (tie.spec
-    Inv-loop
-    μ-loop
-    returns
-    loop-holds
-    shared-slice-read-wide
-    wide-requires
-    returns-2
-    returns-3
-    sub-if4
-    returns-4
-    mul-value
-    add-value
-    add-i
-    loop-less
-    loop-again
-    returns-5
-    returns-6)
+    (tie.spec Inv-loop μ-loop returns loop-holds (λ c. search needs) (λ c κs. search needs) returns-2 returns-3
+    (λ c. search needs) returns-4 (λ c. search needs) (λ c. search needs) (λ c. search needs) (λ c. search needs)
+    loop-again returns-5 returns-6)
