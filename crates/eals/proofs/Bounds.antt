@@ -1,29 +1,26 @@
 -- How much room numbers, records and texts take. Assumes nothing.
 use mathlib.Core.Path.{_≡_, refl, ap}
 use mathlib.Core.Bool.{Bool, true, false}
-use mathlib.Core.List.{List, [], _∷_, _++_}
-use Prim.Native.Nat.{ℕ, zero, suc, _+_, _*_, _≤_}
+use mathlib.Core.List.{List, [], _∷_}
+use Prim.Native.Nat.{ℕ, suc, _+_, _*_, _≤_}
 use native.Mathlib.Nat.{le-div-iff-mul-le}
 use native.Mathlib.Omega.{arith}
 use lib.Dec.{eqb, ltb}
-use lib.ListN.{length, drop, length-append}
+use lib.ListN.{length}
 use borrow.Author.Tests.{eqb-true, ltb-false}
-use Rattle.refusal.specs.declared.Refusal.{Refusal}
 use Rattle.refusal.specs.declared.Checked.{Checked}
 use Rattle.refusal.specs.declared.Checked.the-variants.{Passed, Refused as CheckedRefused}
 use Rattle.refusal.specs.Refusals.{refuse}
 use Rattle.refusal.specs.Outcome.{refused, accepted, _yields_, inRoom, countedOf}
 use Rattle.refusal.proofs.Tests.{by-cond}
 use Rattle.chunk_grid.specs.Shapes.{givenBytes, given}
-use Rattle.chunk_grid.proofs.Shapes.{length-numbers}
 use Rattle.refusal.specs.declared.Counted.{Counted}
 use Rattle.ea_records.specs.Records.{recordLength}
 use Rattle.ea_elements.specs.Runs.{Listing}
-use Rattle.ea_list.specs.Listing.{listInto, recordIn, recordsIn}
+use Rattle.ea_list.specs.Listing.{listInto}
 use Rattle.ea_list.specs.Door.{doorGrid, callAt, listAt}
-use Rattle.eals.specs.Text.{words, onFirst, decimal}
+use Rattle.eals.specs.Text.{words, onFirst}
 use Rattle.eals.specs.Line.{lineOf, fits, wordNumber, ifNumber, noQuestion, withNumber, questionFrom, lineQuestion, questionOf}
-use Rattle.eals.specs.Printed.{spaced, recordLine, recordLines, recordsWord, listText, refusedWord, refusalText}
 use Rattle.eals.specs.Program.{listingOf, countOf}
 use Rattle.eals.specs.declared.text.Number.{Number}
 use Rattle.eals.specs.declared.text.Number.the-variants.{Value, NoNumber}
@@ -31,8 +28,6 @@ use Rattle.eals.specs.declared.line.Question.{Question}
 use Rattle.eals.specs.declared.line.Parsed.{Parsed}
 use Rattle.eals.specs.declared.line.Parsed.the-variants.{Asked, Unreadable}
 use Rattle.eals.proofs.Inputs.{line-short}
-use Rattle.eals.proofs.Digits.{length-decimal}
-use Rattle.eals.proofs.Lines.{list-parts}
 
 -- a line has at most one word more than bytes
 on-first-length : (x : ℕ) (ws : List (List ℕ)) → length (onFirst x ws) ≡ length ws
@@ -97,44 +92,3 @@ pub counted-room : (q : Question) (numbers file : List ℕ) (room : ℕ) (counte
 unfolding listingOf listAt listInto callAt doorGrid givenBytes given recordLength
 counted-room q numbers file room counted e =
     rw e (le-div-iff-mul-le {k = recordLength (q .rank)} (omega arith) .0 (passed-count _ _ _ (in-room _ _)))
-
--- texts
-length-spaced : (ns : List ℕ) → length (spaced ns) ≤ 21 * length ns
-unfolding spaced
-length-spaced [] = omega arith
-length-spaced (n ∷ ns) = omega (arith, length-decimal n, length-spaced ns, length-append (decimal n) (spaced ns))
-
-length-line : (rank : ℕ) (s : List ℕ) → length (recordLine (recordIn rank s)) ≤ 4 * recordLength rank
-unfolding recordLine recordIn recordLength
-length-line rank s =
-    let r = recordIn rank s in
-    let numbers = r .entry .size ∷ r .entry .mask ∷ r .corner in
-    let address = decimal (r .entry .address) in
-    omega (
-      arith,
-      length-append (address ++ spaced numbers) (10 ∷ []),
-      length-append address (spaced numbers),
-      length-decimal (r .entry .address),
-      length-spaced numbers,
-      length-numbers rank (drop 16 s),
-    )
-
-length-lines : (rank n : ℕ) (s : List ℕ) → length (recordLines (recordsIn rank n s)) ≤ 4 * (n * recordLength rank)
-unfolding recordsIn recordLines
-length-lines rank zero s = omega arith
-length-lines rank (suc n) s =
-    let behind = drop (recordLength rank) s in
-    omega (arith, length-append (recordLine (recordIn rank s)) (recordLines (recordsIn rank n behind)), length-line rank s, length-lines rank n behind)
-
-pub list-text-short : (rank n : ℕ) (s : List ℕ) → n * recordLength rank ≤ 65536 → length (listText (recordsIn rank n s)) ≤ 300000
-list-text-short rank n s h =
-    let lines = recordLines (recordsIn rank n s) in
-    let last = spaced (n ∷ []) ++ 10 ∷ [] in
-    rw (list-parts rank n s)
-    (omega (arith, length-append lines (recordsWord ++ last), length-append recordsWord last, length-append (spaced (n ∷ [])) (10 ∷ []), length-spaced (n ∷ []), length-lines rank n s))
-
-pub refusal-text-short : (r : Refusal) → length (refusalText r) ≤ 300000
-unfolding refusalText
-refusal-text-short r =
-    let numbers = r .number ∷ r .first ∷ r .second ∷ [] in
-    omega (arith, length-append (refusedWord ++ spaced numbers) (10 ∷ []), length-append refusedWord (spaced numbers), length-spaced numbers)

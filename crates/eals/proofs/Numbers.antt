@@ -7,9 +7,8 @@ use native.Mathlib.Omega.{arith}
 use lib.ListN.{length, getD, drop, drop-of-length-le}
 use lib.Seq.{drop-cons}
 use lib.Dec.{leb}
-use borrow.Author.Tests.{lt-ltb, le-leb, lt-leb, ltb-true, eqb-true}
-use Rattle.refusal.proofs.Tests.{by-cond, both}
-use Rattle.eals.specs.Text.{isOnly, isDigit, digitsOnly, valueFrom, valueOf, isNumber, numberOf}
+use borrow.Author.Tests.{lt-ltb, le-leb, lt-leb}
+use Rattle.eals.specs.Text.{isDigit, digitsOnly, valueFrom, valueOf, isNumber, numberOf}
 use Rattle.eals.specs.declared.text.Number.{Number}
 use Rattle.eals.specs.declared.text.Number.the-variants.{Value, NoNumber}
 

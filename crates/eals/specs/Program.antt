@@ -35,11 +35,7 @@ unfoldable pub countOf : Counted → ℕ
 countOf (Count n) = n
 countOf (Refused r) = 0
 
--- what a line comes to, with the numbers that are stored of it: the lent list, and the text
-unfoldable pub parsedList : Parsed → List ℕ → List ℕ → List ℕ → List ℕ
-parsedList Unreadable numbers file list = list
-parsedList (Asked q) numbers file list = listContent (listingOf q numbers file (length list)) list
-
+-- what a line comes to, with the numbers that are stored of it
 unfoldable pub parsedText : Parsed → List ℕ → List ℕ → List ℕ → List ℕ
 parsedText Unreadable numbers file list = unreadableText
 parsedText (Asked q) numbers file list =
@@ -47,8 +43,5 @@ parsedText (Asked q) numbers file list =
     countedText (q .rank) (countedOf a) (listContent a list)
 
 -- The program reads the line and the file behind it, lists the chunks, and prints.
-unfoldable pub programList : List ℕ → List ℕ → List ℕ → List ℕ
-programList input numbers list = parsedList (questionOf input) (storedOf input numbers) (fileOf input) list
-
 unfoldable pub programText : List ℕ → List ℕ → List ℕ → List ℕ
 programText input numbers list = parsedText (questionOf input) (storedOf input numbers) (fileOf input) list

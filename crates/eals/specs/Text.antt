@@ -1,9 +1,9 @@
 -- Text: lines, words and numbers.
 use Prim.Native.Nat.{ℕ, zero, suc, _+_, _-_, _*_, _/_, _%_}
-use mathlib.Core.Bool.{Bool, true, false, cond, _&&_}
+use mathlib.Core.Bool.{Bool, true, cond, _&&_}
 use mathlib.Core.List.{List, [], _∷_, _++_}
 use lib.Dec.{eqb, leb, ltb}
-use lib.ListN.{length, getD, drop}
+use lib.ListN.{length, getD}
 use Rattle.eals.specs.declared.text.Number.{Number}
 use Rattle.eals.specs.declared.text.Number.the-variants.{Value, NoNumber}
 

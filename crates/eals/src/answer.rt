@@ -2,13 +2,12 @@
 ghost use mathlib.Core.Path.{_≡_};
 ghost use Prim.Native.Nat.{_+_, _*_, _≤_};
 ghost use lib.ListN.{length};
-ghost use lib.Seq.{sets};
 ghost use Rattle.io.specs.Counts.{Counts};
 ghost use Rattle.refusal.specs.Outcome.{countedOf};
 ghost use Rattle.ea_records.specs.Records.{recordLength};
 ghost use Rattle.ea_list.specs.Listing.{listContent};
-ghost use Rattle.eals.specs.Line.{storedOf};
-ghost use Rattle.eals.specs.Program.{listingOf, countedText, countOf, programText, programList};
+ghost use Rattle.eals.specs.Printed.{Put};
+ghost use Rattle.eals.specs.Program.{listingOf, countedText, countOf, programText};
 use crate::line::Parsed;
 use crate::line::Question;
 use crate::line::file_of;
@@ -47,8 +46,7 @@ fn list_chunks(list: &mut [u8], numbers: &[u8], file: &[u8], question: Question)
 // Puts the text of an answer into out, and answers where it ends.
 fn put_counted(out: &mut [u8], list: &[u8], counted: Counted, rank: usize) -> usize
     requires { ⌜ (countOf counted * recordLength rank ≤ length (now list)) × (length (now list) ≡ 65536) × (300000 ≤ length (now out)) ⌝ }
-    ensures { λ r. ⌜ (r ≡ length (countedText rank counted (now (list .entry)))) × (r ≤ 300000) ⌝ }
-    ensures { λ _. ⌜ now (out .exit) ≡ sets (now (out .entry)) 0 (countedText rank counted (now (list .entry))) ⌝ }
+    ensures { λ r. ⌜ Put (now (out .entry)) 0 (countedText rank counted (now (list .entry))) (now (out .exit)) r × (r ≤ 300000) ⌝ }
 {
     match counted {
         Counted::Count(n) => put_list(out, list, n as usize, rank),
@@ -59,11 +57,8 @@ fn put_counted(out: &mut [u8], list: &[u8], counted: Counted, rank: usize) -> us
 // Puts what the program prints of an input into out, and answers where it ends.
 pub fn answer(out: &mut [u8], list: &mut [u8], numbers: &mut [u8], input: &[u8]) -> usize
     requires { ⌜ (length (now list) ≡ 65536) × (32768 ≤ length (now numbers)) × (300000 ≤ length (now out)) ⌝ }
-    ensures { λ r. ⌜ r ≡ length (programText (now (input .entry)) (now (numbers .entry)) (now (list .entry))) ⌝ }
+    ensures { λ r. ⌜ Put (now (out .entry)) 0 (programText (now (input .entry)) (now (numbers .entry)) (now (list .entry))) (now (out .exit)) r ⌝ }
     ensures { λ r. ⌜ Counts r (now (out .exit)) ⌝ }
-    ensures { λ _. ⌜ now (out .exit) ≡ sets (now (out .entry)) 0 (programText (now (input .entry)) (now (numbers .entry)) (now (list .entry))) ⌝ }
-    ensures { λ _. ⌜ now (list .exit) ≡ programList (now (input .entry)) (now (numbers .entry)) (now (list .entry)) ⌝ }
-    ensures { λ _. ⌜ now (numbers .exit) ≡ storedOf (now (input .entry)) (now (numbers .entry)) ⌝ }
 {
     match parse(numbers, input) {
         Parsed::Asked(question) => {

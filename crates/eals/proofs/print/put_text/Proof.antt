@@ -9,7 +9,7 @@ returns : tie.Need-returns
 returns c =
     let s = c .before .before .before .before .before .before in
     let told = c .before .before .copy .ensures in
-    (omega arith, text-put (s .args .out .now) (s .args .text .now) _ (s .args .at) (s .pre) (told .1))
+    record { ends = omega arith; holds = text-put (s .args .out .now) (s .args .text .now) _ (s .args .at) (s .pre) (told .1) }
 
 pub put-text-spec : {M : Type 1} → statement M
 put-text-spec =
