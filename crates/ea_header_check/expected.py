@@ -106,17 +106,30 @@ GROUPS = {
         (header(8, 8, page=33), 0, 8, 8),
     ],
 }
+
+
+def text(s):
+    return 'b"%s"' % "".join(f"\\x{b:02x}" for b in s)
+
+
+def call(s, *numbers):
+    """The call of main.rt: of the whole header, or of it with one byte and the checksum changed, where s is that."""
+    changed = [i for i in range(68) if len(s) == 72 and s[i] != A[i]]
+    if s == A:
+        return "print_whole(%d, %d, %d)" % numbers
+    if len(s) == 72 and len(changed) < 2 and numbers == (0, 8, 8):
+        place = changed[0] if changed else 4
+        return f"print_changed({place}, {s[place]}, {text(s[68:])})"
+    if numbers == (0, 8, 8):
+        return f"print_eight({text(s)})"
+    return "print_parsed(%s, %d, %d, %d)" % (text(s), *numbers)
+
+
 if sys.argv[1:] == ["calls"]:
     for name, vectors in GROUPS.items():
         print(name)
-        for s, *numbers in vectors:
-            text = "".join(f"\\x{b:02x}" for b in s)
-            if s == A:
-                print("    print_whole(%d, %d, %d);" % tuple(numbers))
-            elif numbers == [0, 8, 8]:
-                print('    print_eight(b"%s");' % text)
-            else:
-                print('    print_parsed(b"%s", %d, %d, %d);' % (text, *numbers))
+        for vector in vectors:
+            print(f"    {call(*vector)};")
     sys.exit()
 for vectors in GROUPS.values():
     for vector in vectors:
