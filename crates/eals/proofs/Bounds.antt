@@ -1,4 +1,4 @@
--- How much room numbers, records and texts take. Assumes nothing.
+-- How much room numbers and records take. Assumes nothing.
 use mathlib.Core.Path.{_≡_, refl, ap}
 use mathlib.Core.Bool.{Bool, true, false}
 use mathlib.Core.List.{List, [], _∷_}

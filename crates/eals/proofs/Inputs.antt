@@ -1,6 +1,6 @@
 -- Laws of an input's line and file. Assumes nothing.
 use mathlib.Core.Path.{_≡_, refl, ap}
-use mathlib.Core.Bool.{Bool, true, false, _&&_}
+use mathlib.Core.Bool.{true, false, _&&_, and-false}
 use mathlib.Core.List.{List, []}
 use Prim.Native.Nat.{ℕ, suc, _+_, _-_, _≤_, _<_}
 use native.Mathlib.Omega.{arith}
@@ -42,19 +42,11 @@ module _ (s : List ℕ) where
 
   pub line-long : 4095 < length (lineOf s) → fits s ≡ false
   unfolding fits
-  line-long h = rw (lt-leb (length (lineOf s)) 4095 h) (neither-of (ltb (length (lineOf s)) (length s)) (leb (length (fileOf s)) 60000))
-    where
-      neither-of : (a b : Bool) → a && false && b ≡ false
-      neither-of true b = refl
-      neither-of false b = refl
+  line-long h = rw (lt-leb (length (lineOf s)) 4095 h, and-false (ltb (length (lineOf s)) (length s))) refl
 
   pub file-long : 60000 < length (fileOf s) → fits s ≡ false
   unfolding fits
-  file-long h = rw (lt-leb (length (fileOf s)) 60000 h) (last-false (ltb (length (lineOf s)) (length s) && leb (length (lineOf s)) 4095))
-    where
-      last-false : (a : Bool) → a && false ≡ false
-      last-false true = refl
-      last-false false = refl
+  file-long h = rw (lt-leb (length (fileOf s)) 60000 h, and-false (ltb (length (lineOf s)) (length s) && leb (length (lineOf s)) 4095)) refl
 
   pub input-fits : length (lineOf s) < length s → length (lineOf s) ≤ 4095 → length (fileOf s) ≤ 60000 → fits s ≡ true
   unfolding fits

@@ -13,7 +13,7 @@ use Rattle.ea_list.specs.Listing.{recordIn, recordsIn}
 use Rattle.eals.specs.Printed.{spaced, recordLine, recordLines, recordsWord, listText}
 
 -- a number in a part of a list
-pub at-part : (s : List ℕ) (from pos w : ℕ) → leAt (drop from s) pos w ≡ leAt s (from + pos) w
+at-part : (s : List ℕ) (from pos w : ℕ) → leAt (drop from s) pos w ≡ leAt s (from + pos) w
 unfolding leAt
 at-part s from pos w = rw (drop-drop pos from s) refl
 
@@ -68,7 +68,7 @@ records-none rank left s h =
     let none : left ≡ 0 = omega arith in
     rw none refl
 
-pub length-records : (rank n : ℕ) (s : List ℕ) → length (recordsIn rank n s) ≡ n
+length-records : (rank n : ℕ) (s : List ℕ) → length (recordsIn rank n s) ≡ n
 unfolding recordsIn
 length-records rank zero s = refl
 length-records rank (suc n) s = ap suc (length-records rank n (drop (recordLength rank) s))

@@ -51,6 +51,8 @@ pub put-records-spec : {M : Type 1} → statement M
 unfolding recordLength
 put-records-spec =
     tie.close
-    (tie.spec Inv-loop μ-loop loop-holds put-record-requires (λ c. omega (arith, here (c .before .before .before .before)))
-    (λ c. omega (arith, here (c .before .before .before .before))) (λ c. omega (arith, here (c .before .before .before .before))) (λ c. search needs)
-    (λ c. search needs) loop-again (λ c. search needs) returns)
+    (tie.spec Inv-loop μ-loop loop-holds put-record-requires
+    (λ c. omega (arith, here (c .before .before .before .before)))
+    (λ c. omega (arith, here (c .before .before .before .before)))
+    (λ c. omega (arith, here (c .before .before .before .before))) (λ c. search needs) (λ c. search needs) loop-again
+    (λ c. search needs) returns)

@@ -1,11 +1,14 @@
 -- `eals::text::parse_number` meets its contract: what the digits left come to behind those read is the word's number. Assumes nothing.
+use mathlib.Core.Bool.{cond}
 use mathlib.Core.Path.{_≡_, sym, _∙_}
 use Prim.Native.Nat.{_-_, _≤_}
 use native.Mathlib.Omega.{arith}
 use borrow.Author.Needs.{needs}
 use borrow.Author.Tests.{le-leb, lt-leb}
+use lib.Dec.{leb}
 use lib.ListN.{length, drop}
 use Rattle.eals.specs.Text.{numberOf}
+use Rattle.eals.specs.declared.text.Number.the-variants.{Value, NoNumber}
 use Rattle.eals.proofs.Numbers.{numberFrom, number-empty, number-start, number-end, number-on, number-below, number-above, number-over}
 use Rattle.eals.proofs.text.parse_number.Statement.{statement}
 use Rattle.eals.proofs.text.parse_number.Tie as tie
@@ -48,17 +51,17 @@ loop-again c =
     let on = number-on (a .largest) (a .word .now) (l .value) (l .i) (c .before .before .before .before .before .loop-test .taken) (omega (arith, byte)) (omega (arith, byte)) in
     (omega arith, rw byte (on ∙ l .inv .1))
 
+-- all digits are read
+ended : (c : tie.After-loop Inv-loop μ-loop)
+    → let a = c .before .before .before .before .args in
+    cond (leb (c .before .loop .value) (a .largest)) (Value (c .before .loop .value)) NoNumber ≡ numberOf (a .largest) (a .word .now)
+ended c = sym (number-end _ _ _ _ (c .loop-test .left)) ∙ c .before .loop .inv .1
+
 returns-5 : tie.Need-returns-5 Inv-loop μ-loop
-returns-5 c =
-    let l = c .before .before .loop in
-    let a = c .before .before .before .before .before .args in
-    sym (rw (lt-leb (l .value) (a .largest) (c .if5 .taken)) at (number-end (a .largest) (a .word .now) (l .value) (l .i) (c .before .loop-test .left))) ∙ l .inv .1
+returns-5 c = rw (lt-leb _ _ (c .if5 .taken)) at (ended (c .before))
 
 returns-6 : tie.Need-returns-6 Inv-loop μ-loop
-returns-6 c =
-    let l = c .before .before .loop in
-    let a = c .before .before .before .before .before .args in
-    sym (rw (le-leb (l .value) (a .largest) (c .if5 .left)) at (number-end (a .largest) (a .word .now) (l .value) (l .i) (c .before .loop-test .left))) ∙ l .inv .1
+returns-6 c = rw (le-leb _ _ (c .if5 .left)) at (ended (c .before))
 
 pub parse-number-spec : {M : Type 1} → statement M
 parse-number-spec =
