@@ -53,15 +53,16 @@ withNumber q i n = record {
   rank = cond (eqb i 5) n (q .rank);
 }
 
+-- what is asked for before the first word
 abbrev pub noQuestion : Question
 noQuestion = record { «offset_size» = 0; «length_size» = 0; address = 0; «element_bytes» = 0; order = 0; rank = 0 }
 
--- the question of a line that has asked q before word i: a line of another form is unreadable; ..
+-- what a line asks for, where the words before word i ask for q and these follow: a line of another form is unreadable; ..
 unfoldable pub questionFrom : Question → ℕ → List (List ℕ) → Parsed
 questionFrom q i [] = cond (eqb i (6 + 3 * q .rank)) (Asked q) Unreadable
 questionFrom q i (w ∷ ws) = ifNumber (wordNumber (q .rank) i w) Unreadable (λ n. questionFrom (withNumber q i n) (suc i) ws)
 
--- .. and the numbers of its words from word i on, up to the first word that has none
+-- .. and the numbers of these words, up to the first that has none
 unfoldable pub numbersFrom : Question → ℕ → List (List ℕ) → List ℕ
 numbersFrom q i [] = []
 numbersFrom q i (w ∷ ws) = ifNumber (wordNumber (q .rank) i w) [] (λ n. n ∷ numbersFrom (withNumber q i n) (suc i) ws)
