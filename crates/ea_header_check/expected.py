@@ -112,17 +112,19 @@ def text(s):
     return 'b"%s"' % "".join(f"\\x{b:02x}" for b in s)
 
 
-def call(s, *numbers):
-    """The call of main.rt: of the whole header, or of it with one byte and the checksum changed, where s is that."""
+def call(s, pos, o, l):
+    """The call of main.rt: where s is the whole header, without its last byte, or with one byte and the checksum changed, of that."""
     changed = [i for i in range(68) if len(s) == 72 and s[i] != A[i]]
     if s == A:
-        return "print_whole(%d, %d, %d)" % numbers
-    if len(s) == 72 and len(changed) < 2 and numbers == (0, 8, 8):
+        return f"print_whole({pos}, {o}, {l})"
+    if (s, pos, l) == (A[:-1], 0, 8):
+        return f"print_short({o})"
+    if len(s) == 72 and len(changed) < 2 and pos == 0:
         place = changed[0] if changed else 4
-        return f"print_changed({place}, {s[place]}, {text(s[68:])})"
-    if numbers == (0, 8, 8):
+        return f"print_changed({place}, {s[place]}, {text(s[68:])}, {o}, {l})"
+    if (pos, o, l) == (0, 8, 8):
         return f"print_eight({text(s)})"
-    return "print_parsed(%s, %d, %d, %d)" % (text(s), *numbers)
+    return f"print_parsed({text(s)}, {pos}, {o}, {l})"
 
 
 if sys.argv[1:] == ["calls"]:

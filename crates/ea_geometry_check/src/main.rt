@@ -1,5 +1,5 @@
-// Compares the place of slots with a plain walk through the super blocks, for every served combination of least block elements, max
-// bits and page exponent; then prints sizes, places and page bits of a worked array.
+// Compares the place of slots with a plain walk through the super blocks, for every served combination of least block
+// elements, max bits and page exponent; then prints sizes, places and page bits of a worked array.
 ghost use mathlib.Core.Path.{_≡_};
 ghost use Rattle.ea_header.specs.Values.{Served};
 use ea_geometry::EaGeometry;
@@ -75,7 +75,8 @@ impl Reached {
     }
 }
 
-// What the walk knows of the array: its super blocks, how many of them the index block names the data blocks of, and a page's elements.
+// What the walk knows of the array: its super blocks, how many of them the index block names the data blocks of, and a
+// page's elements.
 struct Array {
     supers: u64,
     direct: u64,
@@ -83,7 +84,8 @@ struct Array {
 }
 
 impl Array {
-    // Whether a place is that of element i of data block k of a super block, and its bit that one: none past the last super block.
+    // Whether a place is that of element i of data block k of a super block, and its bit that one: none past the last
+    // super block.
     fn agrees(self, at: Reached, p: Place, k: u64, i: u64, bit: u64) -> bool {
         let super_block = at.super_block;
         let paged = self.direct <= super_block && self.page < at.elements;
@@ -287,6 +289,12 @@ fn end_line() {
     io::write_all(STDOUT_FILENO, b"\n");
 }
 
+fn print_element(super_block: u64, block: u64, element: u64) {
+    print_word(b" super block ", super_block);
+    print_word(b" block ", block);
+    print_word(b" element ", element);
+}
+
 fn print_place(slot: u64, p: Place) {
     print_word(b"slot ", slot);
     match p {
@@ -295,11 +303,7 @@ fn print_place(slot: u64, p: Place) {
             super_block,
             block,
             element,
-        } => {
-            print_word(b" super block ", super_block);
-            print_word(b" block ", block);
-            print_word(b" element ", element);
-        }
+        } => print_element(super_block, block, element),
         Place::Page {
             super_block,
             block,
@@ -307,9 +311,7 @@ fn print_place(slot: u64, p: Place) {
             page,
             bit,
         } => {
-            print_word(b" super block ", super_block);
-            print_word(b" block ", block);
-            print_word(b" element ", element);
+            print_element(super_block, block, element);
             print_word(b" page ", page);
             print_word(b" bit ", bit);
         }

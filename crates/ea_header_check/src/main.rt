@@ -1,5 +1,5 @@
-// Prints what parse answers: headers of each width, and each refusal with what goes before it; then which least block elements are
-// served, and the bytes of a header.
+// Prints what parse answers: headers of each width, and each refusal with what goes before it; then which least block
+// elements are served, and the bytes of a header.
 ghost use Prim.Native.Nat.{_<_};
 use ea_header::ExtensibleArrayHeader;
 use ea_header::Parsed;
@@ -105,8 +105,14 @@ fn print_whole(address: u64, offset_size: u64, length_size: u64) {
     print_parsed(&file, address, offset_size, length_size);
 }
 
-// The whole header with another byte at a place, and this checksum.
-fn print_changed(place: usize, byte: u8, sum: &[u8; 4])
+// The whole header without its last byte.
+fn print_short(offset_size: u64) {
+    let file = whole();
+    print_parsed(&file[0..71], 0, offset_size, 8);
+}
+
+// The whole header with another byte at a place and this checksum, parsed with these sizes.
+fn print_changed(place: usize, byte: u8, sum: &[u8; 4], offset_size: u64, length_size: u64)
     requires { ⌜ place < 72 ⌝ }
 {
     let mut file = whole();
@@ -115,7 +121,7 @@ fn print_changed(place: usize, byte: u8, sum: &[u8; 4])
     file[69] = sum[1];
     file[70] = sum[2];
     file[71] = sum[3];
-    print_parsed(&file, 0, 8, 8);
+    print_parsed(&file, 0, offset_size, length_size);
 }
 
 // Headers of each width.
@@ -164,9 +170,7 @@ fn print_headers() {
 
 // 20, with figures past 2^64 - 1; and a sum that just fits.
 fn print_past_end() {
-    print_eight(
-        b"EAHD\x00\x00\x08\x20\x02\x10\x04\x0a\x01\x00\x00\x00\x00\x00\x00\x00\x02\x00\x00\x00\x00\x00\x00\x00\x03\x00\x00\x00\x00\x00\x00\x00\x04\x00\x00\x00\x00\x00\x00\x00\x05\x00\x00\x00\x00\x00\x00\x00\x06\x00\x00\x00\x00\x00\x00\x00H\x00\x00\x00\x00\x00\x00\x00\x0d\x91\xb0",
-    );
+    print_short(8);
     print_whole(1, 8, 8);
     print_eight(b"");
     print_whole(0xffffffffffffffff, 8, 8);
@@ -175,12 +179,7 @@ fn print_past_end() {
     print_whole(0x8000000000000000, 0x8000000000000000, 0x1000000000000000);
     print_whole(0, 0, 0x4000000000000000);
     print_whole(0, 9, 8);
-    print_parsed(
-        b"EAHD\x00\x00\x08\x20\x02\x10\x04\x0a\x01\x00\x00\x00\x00\x00\x00\x00\x02\x00\x00\x00\x00\x00\x00\x00\x03\x00\x00\x00\x00\x00\x00\x00\x04\x00\x00\x00\x00\x00\x00\x00\x05\x00\x00\x00\x00\x00\x00\x00\x06\x00\x00\x00\x00\x00\x00\x00H\x00\x00\x00\x00\x00\x00\x00\x0d\x91\xb0",
-        0,
-        3,
-        8,
-    );
+    print_short(3);
 }
 
 // 21 and 22, and 22 before 2.
@@ -188,17 +187,12 @@ fn print_forms() {
     print_eight(
         b"EAIB\x00\x00\x08\x20\x02\x10\x04\x0a\x01\x00\x00\x00\x00\x00\x00\x00\x02\x00\x00\x00\x00\x00\x00\x00\x03\x00\x00\x00\x00\x00\x00\x00\x04\x00\x00\x00\x00\x00\x00\x00\x05\x00\x00\x00\x00\x00\x00\x00\x06\x00\x00\x00\x00\x00\x00\x00H\x00\x00\x00\x00\x00\x00\x00\xd5\x5f\x5df",
     );
-    print_changed(4, 1, b"\xc1\x02\x57\xdf");
-    print_changed(4, 255, b"\xdb\x38\x25\x51");
+    print_changed(4, 1, b"\xc1\x02\x57\xdf", 8, 8);
+    print_changed(4, 255, b"\xdb\x38\x25\x51", 8, 8);
     print_eight(
         b"EAHd\x03\x00\x08\x20\x02\x10\x04\x0a\x01\x00\x00\x00\x00\x00\x00\x00\x02\x00\x00\x00\x00\x00\x00\x00\x03\x00\x00\x00\x00\x00\x00\x00\x04\x00\x00\x00\x00\x00\x00\x00\x05\x00\x00\x00\x00\x00\x00\x00\x06\x00\x00\x00\x00\x00\x00\x00H\x00\x00\x00\x00\x00\x00\x00Sn\x05o",
     );
-    print_parsed(
-        b"EAHD\x07\x00\x08\x20\x02\x10\x04\x0a\x01\x00\x00\x00\x00\x00\x00\x00\x02\x00\x00\x00\x00\x00\x00\x00\x03\x00\x00\x00\x00\x00\x00\x00\x04\x00\x00\x00\x00\x00\x00\x00\x05\x00\x00\x00\x00\x00\x00\x00\x06\x00\x00\x00\x00\x00\x00\x00H\x00\x00\x00\x00\x00\x00\x007\xb2\x8c\x3a",
-        0,
-        7,
-        7,
-    );
+    print_changed(4, 7, b"\x37\xb2\x8c\x3a", 7, 7);
 }
 
 // 2 before 1, 1, and 2 before 26.
@@ -211,32 +205,27 @@ fn print_sizes() {
     print_whole(0, 7, 8);
     print_whole(0, 16, 6);
     print_whole(0, 1, 4);
-    print_parsed(
-        b"EAHD\x00\x00\x08\x20\x02\x10\x04\x0a\x01\x00\x00\x00\x00\x00\x00\x00\x02\x00\x00\x00\x00\x00\x00\x00\x03\x00\x00\x00\x00\x00\x00\x00\x04\x00\x00\x00\x00\x00\x00\x00\x05\x00\x00\x00\x00\x00\x00\x00\x06\x00\x00\x00\x00\x00\x00\x00H\x00\x00\x00\x00\x00\x00\x00\x0c\x91\xb0\x24",
-        0,
-        8,
-        7,
-    );
+    print_changed(4, 0, b"\x0c\x91\xb0\x24", 8, 7);
 }
 
 // 26.
 fn print_sums() {
-    print_changed(4, 0, b"\x0c\x91\xb0\x24");
-    print_changed(4, 0, b"\x0d\x91\xb0\xa4");
+    print_changed(4, 0, b"\x0c\x91\xb0\x24", 8, 8);
+    print_changed(4, 0, b"\x0d\x91\xb0\xa4", 8, 8);
     print_whole(0, 4, 8);
     print_whole(0, 8, 4);
-    print_changed(4, 0, b"\x00\x00\x00\x00");
+    print_changed(4, 0, b"\x00\x00\x00\x00", 8, 8);
 }
 
 // 27.
 fn print_not_served() {
-    print_changed(9, 0, b"\x33\xcf\x5c\x53");
-    print_changed(9, 24, b"\x1d\x41\xd9\x16");
-    print_changed(9, 255, b"\xec\x64\xa3\x8c");
-    print_changed(9, 129, b"\x5f\x30\xad\x6c");
-    print_changed(7, 63, b"\x69\x37\x4d\x4b");
-    print_changed(10, 33, b"\xc1\x21\x92\x0b");
-    print_changed(11, 33, b"\x83\xc4\xb6\xc1");
+    print_changed(9, 0, b"\x33\xcf\x5c\x53", 8, 8);
+    print_changed(9, 24, b"\x1d\x41\xd9\x16", 8, 8);
+    print_changed(9, 255, b"\xec\x64\xa3\x8c", 8, 8);
+    print_changed(9, 129, b"\x5f\x30\xad\x6c", 8, 8);
+    print_changed(7, 63, b"\x69\x37\x4d\x4b", 8, 8);
+    print_changed(10, 33, b"\xc1\x21\x92\x0b", 8, 8);
+    print_changed(11, 33, b"\x83\xc4\xb6\xc1", 8, 8);
 }
 
 fn main() {

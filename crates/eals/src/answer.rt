@@ -46,7 +46,8 @@ fn list_chunks(list: &mut [u8], numbers: &[u8], file: &[u8], question: Question)
 // Puts the text of an answer into out, and answers where it ends.
 fn put_counted(out: &mut [u8], list: &[u8], counted: Counted, rank: usize) -> usize
     requires { ⌜ (countOf counted * recordLength rank ≤ length (now list)) × (length (now list) ≡ 65536) × (300000 ≤ length (now out)) ⌝ }
-    ensures { λ r. ⌜ Put (now (out .entry)) 0 (countedText rank counted (now (list .entry))) (now (out .exit)) r × (r ≤ 300000) ⌝ }
+    ensures { λ r. ⌜ Put (now (out .entry)) 0 (countedText rank counted (now (list .entry))) (now (out .exit)) r ⌝ }
+    ensures { λ r. ⌜ r ≤ 300000 ⌝ }
 {
     match counted {
         Counted::Count(n) => put_list(out, list, n as usize, rank),

@@ -22,7 +22,8 @@ pub fn put_text(out: &mut [u8], at: usize, text: &[u8]) -> usize
 // The same of a number's digits.
 fn put_number(out: &mut [u8], at: usize, n: u64) -> usize
     requires { ⌜ at + 20 ≤ length (now out) ⌝ }
-    ensures { λ r. ⌜ Put (now (out .entry)) at (decimal n) (now (out .exit)) r × (r ≤ at + 20) ⌝ }
+    ensures { λ r. ⌜ Put (now (out .entry)) at (decimal n) (now (out .exit)) r ⌝ }
+    ensures { λ r. ⌜ r ≤ at + 20 ⌝ }
 {
     let mut digits = [0u8; 20];
     let k = io::decimal(n, &mut digits);
@@ -32,7 +33,8 @@ fn put_number(out: &mut [u8], at: usize, n: u64) -> usize
 // The same, behind a space.
 fn put_spaced(out: &mut [u8], at: usize, n: u64) -> usize
     requires { ⌜ at + 21 ≤ length (now out) ⌝ }
-    ensures { λ r. ⌜ Put (now (out .entry)) at (32 ∷ decimal n) (now (out .exit)) r × (r ≤ at + 21) ⌝ }
+    ensures { λ r. ⌜ Put (now (out .entry)) at (32 ∷ decimal n) (now (out .exit)) r ⌝ }
+    ensures { λ r. ⌜ r ≤ at + 21 ⌝ }
 {
     let next = put_text(out, at, b" ");
     put_number(out, next, n)
@@ -41,7 +43,8 @@ fn put_spaced(out: &mut [u8], at: usize, n: u64) -> usize
 // The same of n numbers of 8 bytes each, which a list holds from `from` on, each behind a space.
 fn put_offsets(out: &mut [u8], at: usize, list: &[u8], from: usize, n: usize) -> usize
     requires { ⌜ (from + 8 * n ≤ length (now list)) × (at + 21 * n ≤ length (now out)) ⌝ }
-    ensures { λ r. ⌜ Put (now (out .entry)) at (spaced (numbersIn n (drop from (now (list .entry))))) (now (out .exit)) r × (r ≤ at + 21 * n) ⌝ }
+    ensures { λ r. ⌜ Put (now (out .entry)) at (spaced (numbersIn n (drop from (now (list .entry))))) (now (out .exit)) r ⌝ }
+    ensures { λ r. ⌜ r ≤ at + 21 * n ⌝ }
 {
     let mut to = at;
     let mut i = 0;
@@ -56,7 +59,8 @@ fn put_offsets(out: &mut [u8], at: usize, list: &[u8], from: usize, n: usize) ->
 // The same of the line of the record that a list holds from `from` on.
 fn put_record(out: &mut [u8], at: usize, list: &[u8], from: usize, rank: usize) -> usize
     requires { ⌜ (from + recordLength rank ≤ length (now list)) × (at + 4 * recordLength rank ≤ length (now out)) ⌝ }
-    ensures { λ r. ⌜ Put (now (out .entry)) at (recordLine (recordIn rank (drop from (now (list .entry))))) (now (out .exit)) r × (r ≤ at + 4 * recordLength rank) ⌝ }
+    ensures { λ r. ⌜ Put (now (out .entry)) at (recordLine (recordIn rank (drop from (now (list .entry))))) (now (out .exit)) r ⌝ }
+    ensures { λ r. ⌜ r ≤ at + 4 * recordLength rank ⌝ }
 {
     let address = put_number(out, at, read_u64_le(list, from));
     let size = put_spaced(out, address, read_u32_le(list, from + 8) as u64);
@@ -68,7 +72,8 @@ fn put_record(out: &mut [u8], at: usize, list: &[u8], from: usize, rank: usize) 
 // The lines of the first `count` records of a list.
 fn put_records(out: &mut [u8], list: &[u8], count: usize, rank: usize) -> usize
     requires { ⌜ (count * recordLength rank ≤ length (now list)) × (4 * length (now list) ≤ length (now out)) ⌝ }
-    ensures { λ r. ⌜ Put (now (out .entry)) 0 (recordLines (recordsIn rank count (now (list .entry)))) (now (out .exit)) r × (r ≤ 4 * length (now (list .entry))) ⌝ }
+    ensures { λ r. ⌜ Put (now (out .entry)) 0 (recordLines (recordsIn rank count (now (list .entry)))) (now (out .exit)) r ⌝ }
+    ensures { λ r. ⌜ r ≤ 4 * length (now (list .entry)) ⌝ }
 {
     let mut to = 0;
     let mut from = 0;
@@ -85,7 +90,8 @@ fn put_records(out: &mut [u8], list: &[u8], count: usize, rank: usize) -> usize
 // The text of a list of `count` records, from the start of out on; answers where it ends.
 pub fn put_list(out: &mut [u8], list: &[u8], count: usize, rank: usize) -> usize
     requires { ⌜ (count * recordLength rank ≤ length (now list)) × (4 * length (now list) + 29 ≤ length (now out)) ⌝ }
-    ensures { λ r. ⌜ Put (now (out .entry)) 0 (listText (recordsIn rank count (now (list .entry)))) (now (out .exit)) r × (r ≤ 4 * length (now (list .entry)) + 29) ⌝ }
+    ensures { λ r. ⌜ Put (now (out .entry)) 0 (listText (recordsIn rank count (now (list .entry)))) (now (out .exit)) r ⌝ }
+    ensures { λ r. ⌜ r ≤ 4 * length (now (list .entry)) + 29 ⌝ }
 {
     let lines = put_records(out, list, count, rank);
     let word = put_text(out, lines, b"records");
@@ -96,7 +102,8 @@ pub fn put_list(out: &mut [u8], list: &[u8], count: usize, rank: usize) -> usize
 // The text of a refusal.
 pub fn put_refusal(out: &mut [u8], refusal: Refusal) -> usize
     requires { ⌜ 71 ≤ length (now out) ⌝ }
-    ensures { λ r. ⌜ Put (now (out .entry)) 0 (refusalText refusal) (now (out .exit)) r × (r ≤ 71) ⌝ }
+    ensures { λ r. ⌜ Put (now (out .entry)) 0 (refusalText refusal) (now (out .exit)) r ⌝ }
+    ensures { λ r. ⌜ r ≤ 71 ⌝ }
 {
     let word = put_text(out, 0, b"refused");
     let number = put_spaced(out, word, refusal.number);

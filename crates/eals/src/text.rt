@@ -14,7 +14,8 @@ pub enum Number {
 // The part from `from` on up to the first b, or up to the end where there is none.
 pub fn until(s: &[u8], from: usize, b: u8) -> &[u8]
     requires { ⌜ from ≤ length (now s) ⌝ }
-    ensures { λ r. ⌜ (now r ≡ before b (drop from (now (s .entry)))) × (from + length (now r) ≤ length (now (s .entry))) ⌝ }
+    ensures { λ r. ⌜ now r ≡ before b (drop from (now (s .entry))) ⌝ }
+    ensures { λ r. ⌜ from + length (now r) ≤ length (now (s .entry)) ⌝ }
 {
     let end = scan::find(s, from, s.len(), b);
     &s[from..end]
