@@ -20,7 +20,7 @@ module _ (g : Grid) (b : Accepted g) where
   chunk-at-slot s corner r l =
       by-cond (λ (x : Option (List ℕ)). x ≡ some corner → (isChunk g corner ≡ true) × (slotOf g corner ≡ At s))
       (numbersNothing g || not (below (offsets g s) (g .present)))
-      (λ t h. let z : _≡_ {A = ℕ} 0 1 = cc in absurd (omega arith))
+      (λ t h. (cc, cc))
       (λ t h.
       let z = neither (numbersNothing g) (not (below (offsets g s) (g .present))) t in
       let e = Option·some-injective _ _ h in
