@@ -16,4 +16,5 @@ pub bytes-of-spec : {M : Type 1} → statement M
 bytes-of-spec =
     tie.close
     (tie.spec Inv-loop μ-loop (search needs) (search needs) (search needs) (search needs) (search needs)
-    (search needs) (search needs) (search needs) (search needs) (λ c. search needs) (search needs) (search needs))
+    (search needs) (search needs) (search needs) (search needs) (λ c. search needs) (search needs)
+    (search needs))
