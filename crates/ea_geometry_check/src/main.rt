@@ -5,7 +5,7 @@ ghost use Rattle.ea_header.specs.Values.{Served};
 use ea_geometry::EaGeometry;
 use ea_geometry::Place;
 use ea_geometry::page_bits::page_is_initialized;
-use ea_header::ExtensibleArrayHeader;
+use ea_header::Parameters;
 use libc::STDOUT_FILENO;
 use std::num::wrapping_add_u64;
 use std::num::wrapping_sub_u64;
@@ -123,7 +123,7 @@ impl Array {
 
     // The first, the last and the one-past slot of a super block.
     fn compare(self, g: EaGeometry, at: Reached) -> Tally
-        requires { ⌜ Served (g .header) ⌝ }
+        requires { ⌜ Served (g .parameters) ⌝ }
     {
         let last = wrapping_sub_u64(wrapping_add_u64(at.first, at.slots), 1);
         let blocks = wrapping_sub_u64(at.blocks, 1);
@@ -137,7 +137,7 @@ impl Array {
     }
 
     fn compare_all(self, g: EaGeometry, start: Reached) -> Tally
-        requires { ⌜ Served (g .header) ⌝ }
+        requires { ⌜ Served (g .parameters) ⌝ }
     {
         let supers = self.supers;
         let mut t = Tally::none();
@@ -188,9 +188,9 @@ fn is_inline(p: Place, s: u64) -> bool {
 }
 
 fn compare_inline(g: EaGeometry) -> Tally
-    requires { ⌜ Served (g .header) ⌝ }
+    requires { ⌜ Served (g .parameters) ⌝ }
 {
-    let inline = g.header.idx_blk_elmts as u64;
+    let inline = g.parameters.idx_blk_elmts as u64;
     if inline == 0 {
         return Tally::none();
     }
@@ -205,11 +205,11 @@ fn power(k: u8) -> u64 {
     1u64 << (k as u64 % 64)
 }
 
-fn header_of(least: u8, bits: u8, page: u8, inline: u8, minimum: u8) -> ExtensibleArrayHeader
+fn parameters_of(least: u8, bits: u8, page: u8, inline: u8, minimum: u8) -> Parameters
     ensures { λ r. ⌜ (r .«min_dblk_nelmts» ≡ least) × (r .«max_nelmts_bits» ≡ bits) ⌝ }
     ensures { λ r. ⌜ (r .«super_blk_min_nelmts» ≡ minimum) × (r .«max_dblk_nelmts_bits» ≡ page) ⌝ }
 {
-    ExtensibleArrayHeader {
+    Parameters {
         client_id: 0,
         element_size: 8,
         max_nelmts_bits: bits,
@@ -217,19 +217,20 @@ fn header_of(least: u8, bits: u8, page: u8, inline: u8, minimum: u8) -> Extensib
         min_dblk_nelmts: least,
         super_blk_min_nelmts: minimum,
         max_dblk_nelmts_bits: page,
-        num_elements: 0,
-        index_block_address: 0,
     }
 }
 
 // An array with least block elements 2^log.
-fn compare_header(log: u8, bits: u8, page: u8, inline: u8, minimum: u8) -> Tally {
+fn compare_parameters(log: u8, bits: u8, page: u8, inline: u8, minimum: u8) -> Tally {
     let least = power(log);
-    let header = header_of((least % 256) as u8, bits, page, inline, minimum);
-    if !header.is_served() {
+    let parameters = parameters_of((least % 256) as u8, bits, page, inline, minimum);
+    if !parameters.is_served() {
         return Tally::none().with(false);
     }
-    let g = EaGeometry::from_header(header, 8);
+    let g = EaGeometry {
+        parameters,
+        offset_size: 8,
+    };
     let mut supers: u64 = 1;
     if log <= bits {
         supers = (bits - log) as u64 + 1;
@@ -258,7 +259,7 @@ fn print_comparison(inline: u8, minimum: u8) {
         let log = (n / 2079) as u8;
         let bits = (n / 33 % 63) as u8;
         let page = (n % 33) as u8;
-        t = t.plus(compare_header(log, bits, page, inline, minimum));
+        t = t.plus(compare_parameters(log, bits, page, inline, minimum));
         n += 1;
     }
     print_tally(inline, minimum, t);
@@ -324,9 +325,12 @@ fn print_place(slot: u64, p: Place) {
 
 // The array with least block elements 16, max bits 32, page exponent 10, inline 2 and minimum 4.
 fn worked(offset_size: u64) -> EaGeometry
-    ensures { λ r. ⌜ Served (r .header) ⌝ }
+    ensures { λ r. ⌜ Served (r .parameters) ⌝ }
 {
-    EaGeometry::from_header(header_of(16, 32, 10, 2, 4), offset_size)
+    EaGeometry {
+        parameters: parameters_of(16, 32, 10, 2, 4),
+        offset_size,
+    }
 }
 
 fn print_worked(offset_size: u64) {

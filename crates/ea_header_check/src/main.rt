@@ -2,6 +2,7 @@
 // elements are served, and the bytes of a header.
 ghost use Prim.Native.Nat.{_<_};
 use ea_header::ExtensibleArrayHeader;
+use ea_header::Parameters;
 use ea_header::Parsed;
 use libc::STDOUT_FILENO;
 use refusal::Refusal;
@@ -15,20 +16,24 @@ fn end_line() {
     io::write_all(STDOUT_FILENO, b"\n");
 }
 
+fn print_parameters(p: Parameters) {
+    print_word(b"header ", p.client_id as u64);
+    print_word(b" ", p.element_size as u64);
+    print_word(b" ", p.max_nelmts_bits as u64);
+    print_word(b" ", p.idx_blk_elmts as u64);
+    print_word(b" ", p.min_dblk_nelmts as u64);
+    print_word(b" ", p.super_blk_min_nelmts as u64);
+    print_word(b" ", p.max_dblk_nelmts_bits as u64);
+}
+
 fn print_header(h: ExtensibleArrayHeader) {
-    print_word(b"header ", h.client_id as u64);
-    print_word(b" ", h.element_size as u64);
-    print_word(b" ", h.max_nelmts_bits as u64);
-    print_word(b" ", h.idx_blk_elmts as u64);
-    print_word(b" ", h.min_dblk_nelmts as u64);
-    print_word(b" ", h.super_blk_min_nelmts as u64);
-    print_word(b" ", h.max_dblk_nelmts_bits as u64);
+    print_parameters(h.parameters);
     print_word(b" ", h.num_elements);
     print_word(b" ", h.index_block_address);
 }
 
-fn print_served(h: ExtensibleArrayHeader) {
-    let r = h.served_test().refusal();
+fn print_served(p: Parameters) {
+    let r = p.served_test().refusal();
     if r.number == 0 {
         io::write_all(STDOUT_FILENO, b" served");
     } else {
@@ -46,7 +51,7 @@ fn print_parsed(file: &[u8], address: u64, offset_size: u64, length_size: u64) {
     match ExtensibleArrayHeader::parse(file, address, offset_size, length_size) {
         Parsed::Header(h) => {
             print_header(h);
-            print_served(h);
+            print_served(h.parameters);
         }
         Parsed::Refused(r) => print_refusal(r),
     }
@@ -54,7 +59,7 @@ fn print_parsed(file: &[u8], address: u64, offset_size: u64, length_size: u64) {
 }
 
 fn print_if_served(least: u8) {
-    let h = ExtensibleArrayHeader {
+    let p = Parameters {
         client_id: 0,
         element_size: 8,
         max_nelmts_bits: 62,
@@ -62,10 +67,8 @@ fn print_if_served(least: u8) {
         min_dblk_nelmts: least,
         super_blk_min_nelmts: 32,
         max_dblk_nelmts_bits: 32,
-        num_elements: 0,
-        index_block_address: 0,
     };
-    if h.is_served() {
+    if p.is_served() {
         print_word(b" ", least as u64);
     }
 }

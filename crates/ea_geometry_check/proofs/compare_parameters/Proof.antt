@@ -1,11 +1,11 @@
--- `ea_geometry_check::compare_header` meets its contract. Assumes nothing.
+-- `ea_geometry_check::compare_parameters` meets its contract. Assumes nothing.
 use mathlib.Core.Path.{sym, _∙_}
 use borrow.Author.Tests.{not-false}
 use Rattle.ea_header.specs.Values.{Served}
 use Rattle.ea_header.proofs.Served.{serves}
 use borrow.Author.Needs.{needs}
-use Rattle.ea_geometry_check.proofs.compare_header.Statement.{statement}
-use Rattle.ea_geometry_check.proofs.compare_header.Tie as tie
+use Rattle.ea_geometry_check.proofs.compare_parameters.Statement.{statement}
+use Rattle.ea_geometry_check.proofs.compare_parameters.Tie as tie
 
 -- the header was tested
 tested : (c : tie.After-from-header) → Served (c .from-header .result .header)
@@ -19,8 +19,8 @@ compare-inline-requires c κs = tested (c .before .before .before)
 compare-all-requires : tie.Need-compare-all-requires
 compare-all-requires c κs = tested (c .before .before .before .before)
 
-pub compare-header-spec : {M : Type 1} → statement M
-compare-header-spec =
+pub compare-parameters-spec : {M : Type 1} → statement M
+compare-parameters-spec =
     tie.close
     (tie.spec (λ c κs. search needs) (λ c. search needs) (λ c κs. search needs) (λ c κs. search needs)
     (λ c κs. search needs) (λ c κs. search needs) (λ c. search needs) (λ c κs. search needs) (λ c. search needs)
