@@ -7,20 +7,27 @@ use native.Mathlib.Omega.{arith}
 use lib.ListN.{length}
 use borrow.Author.Tests.{lt-ltb, le-ltb}
 use Rattle.refusal.specs.declared.Checked.the-variants.{Passed}
+use Rattle.refusal.proofs.Tests.{then-inv}
 use Rattle.fields.specs.Fields.{isWidth}
 use Rattle.fields.proofs.Widths.{width-le}
 use Rattle.structures.proofs.StructureTests.{structure-inside}
 use Rattle.ea_header.specs.Values.{Served}
+use Rattle.ea_header.proofs.Served.{tested-serves}
 use Rattle.ea_geometry.specs.Sizes.{blockElements, directSuperBlocks, pageElements}
 use Rattle.ea_geometry.specs.Extents.{elementStride, elementAt, inlineElementAt, directPointersAt, indexExtent, directPointerAt, blockPointerAt, superExtent, blockElementAt, dataExtent, pagedHeadExtent, pageExtent}
 use Rattle.ea_geometry.specs.Place.{inPages}
 use Rattle.ea_geometry.proofs.Positions.{direct-pointers-inside, super-pointers-inside}
 use Rattle.ea_blocks.specs.declared.ExtensibleArray.{ExtensibleArray}
 use Rattle.ea_blocks.specs.Array.{Array, arrayOf}
-use Rattle.ea_blocks.specs.Structures.{Structure, indexBlock, superBlock, dataBlock, dataPage, startOf, extentOf, testOf, isDirect, superAt, blockNamedAt, blockAt, dataPageAt}
+use Rattle.ea_blocks.specs.Structures.{Structure, indexBlock, superBlock, dataBlock, dataPage, startOf, extentOf, testOf, arrayTest, isDirect, superAt, blockNamedAt, blockAt, dataPageAt}
 use Rattle.ea_blocks.specs.Values.{IndexInFile}
 
 module _ (a : Array) where
+  -- what the way into an array leaves
+  pub array-passed : arrayTest a ≡ Passed → Served (a .parameters) × (testOf a indexBlock ≡ Passed)
+  unfolding arrayTest
+  array-passed t = let i = then-inv _ _ t in (tested-serves _ (i .0), i .1)
+
   -- what lies in the file behind each passed test
   pub test-inside : (x : Structure) → testOf a x ≡ Passed → startOf a x + extentOf a x ≤ length (a .file)
   unfolding testOf

@@ -5,7 +5,7 @@ use mathlib.Core.Path.{_≡_, refl, sym, ap, subst, _∙_}
 use mathlib.Core.Bool.{true}
 use native.Mathlib.Omega.{arith}
 use native.Mathlib.Nat.{lt-of-not-le, div-add-mod', div-lt-iff-lt-mul, le-div-iff-mul-le, mul-comm, mod-lt}
-use borrow.Author.Tests.{ltb-true, ltb-false, lt-ltb, le-ltb}
+use borrow.Author.Tests.{ltb-true, ltb-false, leb-true, lt-ltb, le-ltb}
 use lib.Dec.{ltb, leb}
 use lib.Arith.{digits-lt, digits-div, digits-mod}
 use lib.Pow.{pow-pos}
@@ -39,6 +39,11 @@ next-slot h u = omega (arith, next-elements h u)
 pub first-slot-mono : (h : Parameters) (u n : ℕ) → u ≤ n → firstSlot h u ≤ firstSlot h n
 unfolding firstSlot
 first-slot-mono h u n le = omega (arith, elements-before-mono h u n le)
+
+-- blocks that are read by pages are named in their super block
+pub paged-behind : (h : Parameters) (u : ℕ) → inPages h u ≡ true → directSuperBlocks h ≤ u
+unfolding inPages
+paged-behind h u q = leb-true _ _ (both (leb (directSuperBlocks h) u) (overPage h u) q .0)
 
 module _ (h : Parameters) (v : Served h) where
   -- element e behind the inline ones lies in super block u if it lies between what stands before u and what stands before u + 1 ..

@@ -1,5 +1,2 @@
-pub mod Looking
-pub mod Ways
-pub mod Calls
-pub mod Doors
-pub mod Numbered
+pub mod PathEnds
+pub mod Lookups

@@ -1,3 +1,3 @@
 pub mod Lookup
-pub mod Door
 pub mod Found
+pub mod PathEnds

@@ -1,36 +1,38 @@
 // One chunk by its corner.
 ghost use mathlib.Core.Path.{_≡_};
-ghost use Prim.Native.Nat.{_+_, _≤_};
+ghost use Prim.Native.Nat.{ℕ, _+_, _≤_};
 ghost use lib.ListN.{length};
+ghost use Rattle.refusal.specs.declared.Checked.the-variants.{Passed};
 ghost use Rattle.refusal.specs.Refusals.{_then_};
-ghost use Rattle.chunk_grid.specs.Grid.{gridTest, cornerTest};
+ghost use Rattle.chunk_grid.specs.Grid.{Grid, offsets, gridTest, cornerTest};
 ghost use Rattle.chunk_grid.specs.Values.{gridOf};
-ghost use Rattle.ea_header.specs.Values.{Served};
-ghost use Rattle.ea_header.specs.Served.{servedTest};
-ghost use Rattle.ea_geometry.specs.Extents.{indexExtent};
-ghost use Rattle.ea_blocks.specs.Call.{Call, callOf};
-ghost use Rattle.ea_blocks.specs.Structures.{indexBlock, testOf};
-ghost use Rattle.ea_blocks.specs.Values.{Sees};
-ghost use Rattle.ea_list.specs.Listing.{list};
-ghost use Rattle.ea_count.specs.Values.{Walks};
-ghost use Rattle.ea_lookup.specs.Lookup.{slotPath, lookup};
-ghost use Rattle.ea_lookup.specs.Door.{foundOf};
-ghost use Rattle.ea_lookup.specs.Found.{Answered, Agreed};
+ghost use Rattle.element_form.specs.Form.{stride};
+ghost use Rattle.elements.specs.Elements.{element, answerOf};
+ghost use Rattle.elements.specs.Values.{elementsOf, Reads};
+ghost use Rattle.located.specs.Located.{indexOf, slotPath};
+ghost use Rattle.ea_blocks.specs.Array.{arrayOf};
+ghost use Rattle.ea_blocks.specs.Structures.{arrayTest};
+ghost use Rattle.ea_walk.specs.Walk.{located, list};
+ghost use Rattle.ea_walk.specs.Given.{arrayFrom, elementsIn, ReadBy};
+ghost use Rattle.ea_lookup.specs.Lookup.{lookup};
+ghost use Rattle.ea_lookup.specs.Found.{foundOf, Answered, Agreed};
 use crate::paths::path_of;
 use chunk_grid::ChunkGrid;
 use chunk_grid::Slot;
 use chunk_slots::corner_test;
 use chunk_slots::slot_of;
-use ea_blocks::structures::test_index_block;
-use ea_elements::Entry;
-use ea_elements::Reading;
+use ea_blocks::ExtensibleArray;
+use ea_blocks::enter::Entered;
+use ea_blocks::tests::test_array;
 use ea_geometry::EaGeometry;
 use ea_header::ExtensibleArrayHeader;
-use ea_list::chunk_bytes;
+use elements::Element;
+use elements::ElementReader;
+use elements::read::read_element;
+use index::Entry;
 use refusal::Checked;
 use refusal::Refusal;
 
-pub mod door;
 mod paths;
 
 // What a lookup finds: the chunk's entry, that no chunk is stored at the corner, or why there is no answer.
@@ -40,8 +42,9 @@ pub enum Found {
     Refused(Refusal),
 }
 
-// Looks up the chunk at a corner. Its refusals come in this order: 3 to 8 of the grid, 10 of the corner, 27 of the header, those of the
-// index block and, for a slot below the published count, of the structures that lead to its place, then of its element.
+// Looks up the chunk at a corner. Its refusals come in this order: 3 to 8 of the grid, 10 of the corner, 27 of the
+// header, those of the index block and, for a slot below the published count, of the structures that lead to its place,
+// then of its element.
 pub fn lookup_chunk(
     file: &[u8],
     header: ExtensibleArrayHeader,
@@ -50,47 +53,54 @@ pub fn lookup_chunk(
     offset_size: u64,
     corner: &[u64],
 ) -> Found
-    ensures { λ r. ⌜ (let call = callOf (now (file .entry)) header «offset_size» (gridOf grid) «element_bytes» in
-        let answer = lookup call (now (corner .entry)) in
+    ensures { λ r. ⌜ (let a = arrayFrom (now (file .entry)) header «offset_size» in
+        let e = elementsIn (now (file .entry)) header «offset_size» (gridOf grid) «element_bytes» in
+        let answer = lookup a e (now (corner .entry)) in
         (r ≡ foundOf answer)
-        × Answered answer call (now (corner .entry)) r
-        × Agreed (list call) (gridOf grid) (now (corner .entry)) r) ⌝ }
+        × Answered answer (indexOf (located a e)) (now (corner .entry)) r
+        × Agreed (list a e) (gridOf grid) (now (corner .entry)) r) ⌝ }
 {
+    let parameters = header.parameters;
     let geometry = EaGeometry {
-        header,
+        parameters,
         offset_size,
+    };
+    let array = ExtensibleArray {
+        geometry,
+        index_at: header.index_block_address,
     };
     let mut counts = [0u64; 32];
     let mut bound = [0u64; 32];
     let mut down = [0u64; 32];
     let numbering = grid.numbering(&mut counts, &mut bound, &mut down);
     let built = numbering.checked;
-    if let Checked::Refused(r) = lookup_test(file, geometry, grid, built, corner) {
+    if let Checked::Refused(r) = lookup_test(file, array, grid, built, corner) {
         return Found::Refused(r);
     }
     let chunk = grid.chunk;
     let slot = slot_of(corner, numbering.rotated as usize, &chunk, &counts, &down);
-    let reading = Reading {
-        geometry,
-        chunk_bytes: chunk_bytes(&chunk, grid.rank as usize, element_bytes),
-        rank: grid.rank,
-        rotated: numbering.rotated,
-        numbers: numbering.numbers,
-    };
-    slot_path(file, reading, slot, &chunk, &bound, &down)
+    let reader = ElementReader::new(
+        geometry.form(),
+        header.num_elements,
+        grid.rank,
+        &chunk,
+        numbering,
+        element_bytes,
+    );
+    slot_path(file, array, reader, slot, &chunk, &bound, &down)
 }
 
 // The tests before a path, where `built` is the grid's.
 fn lookup_test(
     file: &[u8],
-    geometry: EaGeometry,
+    array: ExtensibleArray,
     grid: ChunkGrid,
     built: Checked,
     corner: &[u64],
 ) -> Checked
     requires { ⌜ built ≡ gridTest (gridOf grid) ⌝ }
-    ensures { λ r. ⌜ ((c : Call) → Sees c (now (file .entry)) geometry
-        → r ≡ gridTest (gridOf grid) then cornerTest (gridOf grid) (now (corner .entry)) then servedTest (geometry .header) then testOf c indexBlock) ⌝ }
+    ensures { λ r. ⌜ r ≡ gridTest (gridOf grid) then cornerTest (gridOf grid) (now (corner .entry))
+        then arrayTest (arrayOf (now (file .entry)) array) ⌝ }
 {
     let Checked::Passed = built else {
         return built;
@@ -99,33 +109,59 @@ fn lookup_test(
     let Checked::Passed = cornered else {
         return cornered;
     };
-    let served = geometry.header.served_test();
-    let Checked::Passed = served else {
-        return served;
-    };
-    test_index_block(file, geometry)
+    test_array(file, array)
 }
 
-// The path of a slot below the published count; no other has one.
+// What the path of a slot below the published count finds; no other has one.
 fn slot_path(
     file: &[u8],
-    reading: Reading,
+    array: ExtensibleArray,
+    reader: ElementReader,
     slot: Slot,
     chunk: &[u64; 32],
     bound: &[u64; 32],
     down: &[u64; 32],
 ) -> Found
-    requires { ⌜ Served (reading .geometry .header)
-        × (reading .geometry .header .«index_block_address» + indexExtent (reading .geometry .header) (reading .geometry .«offset_size») ≤ length (now file))
-        × ((c : Call) × Walks c (now file) reading (now chunk) (now bound) (now down)) ⌝ }
-    ensures { λ r. ⌜ ((c : Call) → Walks c (now (file .entry)) reading (now (chunk .entry)) (now (bound .entry)) (now (down .entry))
-        → r ≡ foundOf (slotPath c slot)) ⌝ }
+    requires { ⌜ (arrayTest (arrayOf (now file) array) ≡ Passed)
+        × ReadBy array reader (now chunk) (now bound) (now down) ⌝ }
+    ensures { λ r. ⌜ ((grid : Grid) (n : ℕ)
+        → Reads reader (now (chunk .entry)) (now (bound .entry)) (now (down .entry)) grid n
+        → (let a = arrayOf (now (file .entry)) array in
+        let e = elementsOf (now (file .entry)) reader grid n in
+        r ≡ foundOf (slotPath (located a e) slot))) ⌝ }
 {
     let Slot::At(s) = slot else {
         return Found::Absent;
     };
-    if reading.geometry.header.num_elements <= s {
+    if reader.count <= s {
         return Found::Absent;
     }
-    path_of(file, reading, s, chunk, bound, down)
+    match path_of(file, array, s) {
+        Entered::Absent => Found::Absent,
+        Entered::At(pos) => found_at(file, pos, s, reader, chunk, bound, down),
+        Entered::Refused(r) => Found::Refused(r),
+    }
+}
+
+// What the element of a slot at pos says.
+fn found_at(
+    file: &[u8],
+    pos: u64,
+    slot: u64,
+    reader: ElementReader,
+    chunk: &[u64; 32],
+    bound: &[u64; 32],
+    down: &[u64; 32],
+) -> Found
+    requires { ⌜ ((grid : Grid) × (n : ℕ) × Reads reader (now chunk) (now bound) (now down) grid n)
+        × (pos + stride (reader .form) ≤ length (now file)) ⌝ }
+    ensures { λ r. ⌜ ((grid : Grid) (n : ℕ)
+        → Reads reader (now (chunk .entry)) (now (bound .entry)) (now (down .entry)) grid n
+        → r ≡ foundOf (answerOf (element (elementsOf (now (file .entry)) reader grid n) pos slot) (offsets grid slot))) ⌝ }
+{
+    match read_element(file, pos as usize, slot, reader, chunk, bound, down) {
+        Element::Absent => Found::Absent,
+        Element::Chunk(entry) => Found::Chunk(entry),
+        Element::Refused(r) => Found::Refused(r),
+    }
 }

@@ -3,3 +3,4 @@ pub mod Paths
 pub mod Induction
 pub mod Walks
 pub mod Numbered
+pub mod Given

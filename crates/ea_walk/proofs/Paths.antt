@@ -1,17 +1,21 @@
 -- Where the path to a slot of the array leads, whose super block and data block are ready. Assumes nothing.
 use Prim.Native.Nat.{ℕ, _+_, _/_}
-use mathlib.Core.Path.{_≡_, refl, ap, _∙_}
-use mathlib.Core.Bool.{Bool, true, false, not, cond}
+use mathlib.Core.Path.{_≡_, refl, sym, ap, _∙_}
+use mathlib.Core.Bool.{true, false, not, cond}
 use mathlib.Core.List.{List, [], _∷_}
 use mathlib.Core.Logic.{_⊎_, ⊎-elim}
-use Rattle.refusal.specs.declared.Checked.the-variants.{Passed}
+use Rattle.refusal.specs.declared.Refusal.{Refusal}
+use Rattle.refusal.specs.declared.Checked.{Checked}
+use Rattle.refusal.specs.declared.Checked.the-variants.{Passed, Refused}
 use Rattle.refusal.specs.Refusals.{_then_}
+use Rattle.refusal.proofs.Tests.{by-cond, then-first, then-second}
 use Rattle.fields.specs.Fields.{widthTest}
 use Rattle.elements.specs.Elements.{Elements}
 use Rattle.located.proofs.Paths.{LeadsTo, LeadsNowhere}
 use Rattle.ea_geometry.specs.Sizes.{pageElements}
 use Rattle.ea_geometry.specs.Extents.{blockElementAt, pagedElementAt}
 use Rattle.ea_geometry.specs.Place.{inPages, placeIn, place}
+use Rattle.ea_geometry.specs.declared.Place.{Place}
 use Rattle.ea_geometry.specs.declared.Place.the-variants.{Inline, Nowhere}
 use Rattle.ea_blocks.specs.Array.{Array}
 use Rattle.ea_blocks.specs.Structures.{Structure, superBlock, dataBlock, dataPage, testOf, isDirect, blockAt, superUndefined, blockUndefined, pageSet}
@@ -42,29 +46,49 @@ module _ (a : Array) (u k : ℕ) (r : Ready a u) where
   unfolding tested _then_
   tested-defined t p inner = ready-tested inner ∙ rw (t, p) refl
 
+-- a slot whose place is element i of data block k of super block u
+module _ (a : Array) (e : Elements) (u k i s : ℕ) (z : place (a .parameters) s ≡ placeIn (a .parameters) u k i) where
+  -- what leads to it: pointers, the super block and the data block, then what is in that
+  leading : (inner : List Structure) × (located a e .tests s ≡ widthTest 1 (a .offsetSize) then tested a (leadingTo a u k inner))
+  unfolding placeTest pointerTest structures placeIn
+  leading =
+      let w = by-cond
+      (λ (p : Place). (inner : List Structure) × (placeTest a p ≡ widthTest 1 (a .offsetSize) then tested a (leadingTo a u k inner)))
+      (inPages (a .parameters) u) (λ q. (_, refl)) (λ q. ([], refl)) in
+      (w .0, ap (placeTest a) z ∙ w .1)
+
+  gone : blockReached a u k ≡ false → located a e .reached s ≡ false
+  unfolding reached placeIn
+  gone g = ap (reached a) z ∙ by-cond (λ (p : Place). reached a p ≡ false) (inPages (a .parameters) u) (λ q. rw g refl) (λ q. rw g refl)
+
+  -- its pointers of no width
+  pub no-width : (r : Refusal) → widthTest 1 (a .offsetSize) ≡ Refused r → located a e .tests s ≡ Refused r
+  no-width r t = leading .1 ∙ sym (then-first _ _ (sym t))
+
+-- its pointers of a width
 module _ (a : Array) (e : Elements) (u k i s : ℕ) (wide : widthTest 1 (a .offsetSize) ≡ Passed)
     (z : place (a .parameters) s ≡ placeIn (a .parameters) u k i) where
-  -- the super block's pointer undefined
-  pub no-super : isDirect a u ≡ false → superUndefined a u ≡ true → LeadsNowhere (located a e) s
-  unfolding placeTest pointerTest structures reached leadingTo blockReached placeIn tested _then_
-  no-super d t = go (inPages (a .parameters) u) refl
-    where
-      go : (b : Bool) → inPages (a .parameters) u ≡ b → LeadsNowhere (located a e) s
-      go true q = record { reach = rw (z, q, d, t) refl; tested = rw (z, q, d, t, wide) refl }
-      go false q = record { reach = rw (z, q, d, t) refl; tested = rw (z, q, d, t, wide) refl }
+  tests-are : (t : Checked) → ((inner : List Structure) → tested a (leadingTo a u k inner) ≡ t) → located a e .tests s ≡ t
+  tests-are t h = let l = leading a e u k i s z in l .1 ∙ sym (then-second _ _ (sym wide)) ∙ h (l .0)
+
+  -- the super block: its pointer undefined, or its test refused
+  module _ (d : isDirect a u ≡ false) where
+    pub no-super : superUndefined a u ≡ true → LeadsNowhere (located a e) s
+    unfolding leadingTo blockReached tested
+    no-super t = record { reach = gone a e u k i s z (rw (d, t) refl); tested = tests-are Passed (λ inner. rw (d, t) refl) }
+
+    pub super-refused : (r : Refusal) → superUndefined a u ≡ false → testOf a (superBlock u) ≡ Refused r → located a e .tests s ≡ Refused r
+    unfolding leadingTo tested _then_
+    super-refused r t p = tests-are (Refused r) (λ inner. rw (d, t, p) refl)
 
   module _ (r : Ready a u) where
-    -- the data block's pointer undefined
+    -- the data block: its pointer undefined, or its test refused
     pub no-block : blockUndefined a u k ≡ true → LeadsNowhere (located a e) s
-    unfolding placeTest pointerTest structures reached placeIn _then_
-    no-block t = go (inPages (a .parameters) u) refl
-      where
-        gone : blockReached a u k ≡ false
-        gone = ready-reached a u k r ∙ ap not t
+    no-block t = record { reach = gone a e u k i s z (ready-reached a u k r ∙ ap not t); tested = tests-are Passed (tested-undefined a u k r t) }
 
-        go : (b : Bool) → inPages (a .parameters) u ≡ b → LeadsNowhere (located a e) s
-        go true q = record { reach = rw (z, q, gone) refl; tested = rw (z, q, wide) (tested-undefined a u k r t _) }
-        go false q = record { reach = rw (z, q, gone) refl; tested = rw (z, q, wide) (tested-undefined a u k r t _) }
+    pub block-refused : (x : Refusal) → blockUndefined a u k ≡ false → testOf a (dataBlock u k) ≡ Refused x → located a e .tests s ≡ Refused x
+    unfolding tested _then_
+    block-refused x t p = tests-are (Refused x) (λ inner. ready-tested a u k r inner ∙ rw (t, p) refl)
 
     module _ (t : blockUndefined a u k ≡ false) (p : testOf a (dataBlock u k) ≡ Passed) where
       there : blockReached a u k ≡ true
@@ -79,7 +103,7 @@ module _ (a : Array) (e : Elements) (u k i s : ℕ) (wide : widthTest 1 (a .offs
         tested = rw (z, q, wide) (tested-defined a u k r t p _);
       }
 
-      -- in a clear page, and in a set one that has passed its test
+      -- in a clear page, in a set one that has passed its test, and in one that is refused
       pub in-clear : inPages (a .parameters) u ≡ true → pageSet a u k (i / pageElements (a .parameters)) ≡ false → LeadsNowhere (located a e) s
       unfolding placeTest pointerTest structures reached placeIn pageSet tested _then_
       in-clear q b = record { reach = rw (z, q, there, b) refl; tested = rw (z, q, b, wide) (tested-defined a u k r t p _) }
@@ -93,6 +117,11 @@ module _ (a : Array) (e : Elements) (u k i s : ℕ) (wide : widthTest 1 (a .offs
         position = rw (z, q) refl;
         tested = rw (z, q, b, wide) (tested-defined a u k r t p _ ∙ rw d refl);
       }
+
+      pub page-refused : (x : Refusal) → inPages (a .parameters) u ≡ true → pageSet a u k (i / pageElements (a .parameters)) ≡ true
+          → testOf a (dataPage u k (i / pageElements (a .parameters))) ≡ Refused x → located a e .tests s ≡ Refused x
+      unfolding placeTest pointerTest structures placeIn pageSet tested _then_
+      page-refused x q b d = rw (z, q, b, wide) (tested-defined a u k r t p _ ∙ rw d refl)
 
 -- an inline slot, and one that has no place
 pub in-index : (a : Array) (e : Elements) (i : ℕ) → place (a .parameters) i ≡ Inline i → LeadsTo (located a e) i (positionOf a (Inline i))

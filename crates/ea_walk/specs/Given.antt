@@ -28,7 +28,8 @@ elementsIn file h o grid n = record {
   count = h .«num_elements»;
 }
 
--- What an array's elements are read by: a reader of their form, and the arrays of its numbering, made of some grid and element size.
+-- What an array's elements are read by: a reader of their form, and the arrays of its numbering, made of some grid and
+-- element size.
 pub record ReadBy (a : ExtensibleArray) (r : ElementReader) (chunk bound down : List ℕ) : Type 0 where
   pub form : formOf (a .geometry .parameters) (a .geometry .«offset_size») ≡ r .form
   pub grid : Grid

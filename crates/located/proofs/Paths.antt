@@ -5,10 +5,11 @@ use mathlib.Core.Bool.{Bool, true, false, not, cond}
 use mathlib.Core.Option.{Option, none}
 use borrow.Author.Tests.{ltb-true}
 use lib.Dec.{ltb}
-use Rattle.refusal.specs.declared.Checked.the-variants.{Passed}
-use Rattle.refusal.specs.Outcome.{Outcome, accepted}
+use Rattle.refusal.specs.declared.Refusal.{Refusal}
+use Rattle.refusal.specs.declared.Checked.the-variants.{Passed, Refused}
+use Rattle.refusal.specs.Outcome.{Outcome, refused, accepted}
 use Rattle.refusal.proofs.Tests.{by-cond}
-use Rattle.refusal.proofs.Outcomes.{yields-inv, yields-passed}
+use Rattle.refusal.proofs.Outcomes.{yields-inv, yields-passed, yields-refused}
 use Rattle.chunk_grid.specs.Grid.{offsets}
 use Rattle.chunk_grid.specs.Chunks.{chunkAt}
 use Rattle.chunk_grid.specs.declared.Slot.{Slot}
@@ -45,6 +46,10 @@ module _ (x : Located) (s : ℕ) where
   pub way-nowhere : LeadsNowhere x s → path x s ≡ accepted none
   unfolding path
   way-nowhere h = rw (h .reach) (yields-passed _ _ (h .tested))
+
+  pub way-refused : (r : Refusal) → x .tests s ≡ Refused r → path x s ≡ refused r
+  unfolding path
+  way-refused r t = yields-refused _ _ r t
 
   -- the record of a slot that isn't reached, and of one that is
   pub unreached : x .reached s ≡ false → recordAt (indexOf x) s ≡ none

@@ -1,48 +1,43 @@
 -- `ea_lookup::lookup_chunk` meets its contract. Assumes nothing.
-use Prim.Native.Nat.{_≤_}
-use mathlib.Core.Path.{_≡_, sym, _∙_}
+use Prim.Native.Nat.{ℕ, _≤_}
+use mathlib.Core.Path.{_≡_, refl, sym, ap, subst, _∙_}
 use lib.ListN.{length}
 use Rattle.refusal.specs.declared.Checked.the-variants.{Passed}
 use Rattle.refusal.specs.Refusals.{largest64}
-use Rattle.chunk_grid.specs.Shapes.{given}
+use Rattle.chunk_grid.specs.Grid.{gridTest}
 use Rattle.chunk_grid.specs.Values.{gridOf, Numbers, Counted, Extents}
-use Rattle.ea_geometry.specs.declared.EaGeometry.{EaGeometry}
-use Rattle.ea_blocks.specs.Call.{Call, callOf}
-use Rattle.ea_blocks.proofs.StructureTests.{index-seen}
-use Rattle.ea_elements.specs.Elements.{chunkBytes}
-use Rattle.ea_count.specs.Values.{Walks}
-use Rattle.ea_list.proofs.Rooms.{walks-by}
-use Rattle.ea_lookup.proofs.Calls.{tests, Tested, passed-all, lookup-refused, lookup-passed, all-of, rank-small, chunk-ranked, corner-numbers, corner-counted, call-seen}
+use Rattle.elements.specs.Elements.{Elements}
+use Rattle.elements.specs.Values.{Reads}
+use Rattle.located.specs.Located.{slotPath}
+use Rattle.ea_blocks.specs.Array.{Array}
+use Rattle.ea_blocks.specs.Structures.{arrayTest}
+use Rattle.ea_walk.specs.Walk.{located}
+use Rattle.ea_walk.specs.Given.{arrayFrom, elementsIn}
+use Rattle.ea_walk.proofs.Given.{elements-read}
+use Rattle.ea_lookup.specs.Found.{foundOf}
+use Rattle.ea_lookup.proofs.Lookups.{tests, tests-passed, lookup-refused, lookup-passed, found-by}
 use borrow.Author.Needs.{needs}
 use Rattle.ea_lookup.proofs.lookup_chunk.Statement.{statement}
 use Rattle.ea_lookup.proofs.lookup_chunk.Tie as tie
 
-slice-aggregate-numbering : tie.Need-slice-aggregate-numbering
-slice-aggregate-numbering c = search needs
-
-slice-aggregate-numbering-2 : tie.Need-slice-aggregate-numbering-2
-slice-aggregate-numbering-2 c = search needs
-
-slice-aggregate-numbering-3 : tie.Need-slice-aggregate-numbering-3
-slice-aggregate-numbering-3 c = search needs
-
-numbering-requires : tie.Need-numbering-requires
-numbering-requires c κs = search needs
-
 lookup-test-requires : tie.Need-lookup-test-requires
 lookup-test-requires c κs = search needs
 
--- the call
-abbrev call : tie.Start → Call
-call c = callOf (c .args .file .now) (c .args .header) (c .args .offset-size) (gridOf (c .args .grid)) (c .args .element-bytes)
+abbrev array : tie.Start → Array
+array c = arrayFrom (c .args .file .now) (c .args .header) (c .args .offset-size)
 
-made : (c : tie.After-lookup-test)
-    → let s = c .before .before .before .before .before .before .before .before .before .before in
-    c .lookup-test .result ≡ tests (call s) (s .args .corner .now)
-made c = c .lookup-test .ensures _ (call-seen _ _ _ _)
+abbrev elements : tie.Start → Elements
+elements c = elementsIn (c .args .file .now) (c .args .header) (c .args .offset-size) (gridOf (c .args .grid)) (c .args .element-bytes)
 
-enum-known-r : tie.Need-enum-known-r
-enum-known-r c = search needs
+-- where the function begins
+abbrev start : tie.After-numbering → tie.Start
+start n = n .before .before .before .before .before .before .before
+
+abbrev begin : tie.After-lookup-test → tie.Start
+begin c = start (c .before .before .before .before)
+
+made : (c : tie.After-lookup-test) → c .lookup-test .result ≡ tests (array (begin c)) (elements (begin c)) (begin c .args .corner .now)
+made c = c .lookup-test .ensures
 
 -- the published count is a 64-bit number
 fits : (c : tie.Start) → c .args .header .«num_elements» ≤ largest64
@@ -51,90 +46,93 @@ fits c = search needs
 returns : tie.Need-returns
 returns c =
     let n = c .before .before .before in
-    all-of _ _ _ (fits (n .before .before .before .before .before .before .before .before .before .before)) (lookup-refused _ _ _ (sym (made n) ∙ c .before .r .given .1))
+    found-by _ _ _ _ refl (fits (begin n)) (lookup-refused _ _ _ _ (sym (made n) ∙ c .before .r .given .1))
 
-enum-told : tie.Need-enum-told
-enum-told c = search needs
-
-passed : (c : tie.After-enum-told)
-    → let s = c .before .before .before .before .before .before .before .before .before .before .before .before in
-    tests (call s) (s .args .corner .now) ≡ Passed
+passed : (c : tie.After-enum-told) → let s = begin (c .before .before) in tests (array s) (elements s) (s .args .corner .now) ≡ Passed
 passed c = sym (made (c .before .before)) ∙ c .enum-told .given .1
 
 tested : (c : tie.After-enum-told)
-    → let s = c .before .before .before .before .before .before .before .before .before .before .before .before in
-    Tested (call s) (s .args .corner .now)
-tested c = passed-all _ _ (passed c)
+    → let s = begin (c .before .before) in
+    (gridTest (gridOf (s .args .grid)) ≡ Passed) × (length (s .args .corner .now) ≡ gridOf (s .args .grid) .rank) × (arrayTest (array s) ≡ Passed)
+tested c = let s = begin (c .before .before) in tests-passed (array s) (elements s) (s .args .corner .now) (passed c)
 
 -- what the grid's slots are numbered by
 numbered : (c : tie.After-enum-told)
     → let n = c .before .before .before .before .before .before in
-    let g = n .before .before .before .before .before .before .args .grid in
+    let g = start n .args .grid in
     let r = n .numbering in
     Numbers (g .rank) (r .result .rotated) (g .chunk) (r .last .1 .1 .1 .0) (gridOf g)
     × Counted (g .rank) (r .last .1 .0) (gridOf g) × Extents (g .rank) (r .result .numbers) (r .last .1 .1 .0) (gridOf g)
-numbered c =
-    let n = c .before .before .before .before .before .before in
-    n .numbering .ensures .1 (n .numbering .ensures .0 ∙ tested c .built)
+numbered c = let n = c .before .before .before .before .before .before in n .numbering .ensures .1 (n .numbering .ensures .0 ∙ tested c .0)
 
-corner-numbered : (c : tie.After-enum-told)
+-- the corner has the grid's rank
+cornered : (c : tie.After-enum-told)
     → let n = c .before .before .before .before .before .before in
-    let a = n .before .before .before .before .before .before .args in
+    let a = start n .args in
     let r = n .numbering in
     Numbers (length (a .corner .now)) (r .result .rotated) (a .grid .chunk) (r .last .1 .1 .1 .0) (gridOf (a .grid))
     × Counted (length (a .corner .now)) (r .last .1 .0) (gridOf (a .grid))
-corner-numbered c =
+cornered c =
     let x = numbered c in
-    let k = c .before .before .before .before .before .before .before .before .before .before .before .before .args .corner .now in
-    (corner-numbers _ k (tested c .ranked) _ _ (x .0), corner-counted _ k (tested c .ranked) _ (x .1))
+    let e = x .0 .ranked ∙ sym (tested c .1) in
+    let n = c .before .before .before .before .before .before in
+    let g = start n .args .grid in
+    let r = n .numbering in (
+      subst (λ (n : ℕ). Numbers n (r .result .rotated) (g .chunk) (r .last .1 .1 .1 .0) (gridOf g)) e (x .0),
+      subst (λ (n : ℕ). Counted n (r .last .1 .0) (gridOf g)) e (x .1),
+    )
 
 slot-of-requires : tie.Need-slot-of-requires
-slot-of-requires c κs = let x = corner-numbered (c .before .before .before .before) in (_, x .0, x .1)
+slot-of-requires c κs = let x = cornered (c .before .before .before .before) in (_, x .0, x .1)
 
-chunk-bytes-requires : tie.Need-chunk-bytes-requires
-chunk-bytes-requires c κs =
-    let t = tested (c .before .before .before .before .before .before) .built in
-    (rank-small _ t, chunk-ranked _ t)
+new-requires : tie.Need-new-requires
+new-requires c κs = (_, _, numbered (c .before .before .before .before .before .before .before) .0)
 
--- the call is walked by what was made
-walks : (c : tie.After-chunk-bytes)
-    → let n = c .before .before .before .before .before .before .before in
-    let s = n .before .before .before .before .before .before .before .before .before .before .before .before in
-    let r = n .before .before .before .before .before .before .numbering in
-    let g : EaGeometry = record { header = s .args .header; «offset_size» = s .args .offset-size } in
-    Walks (call s) (s .args .file .now)
-    (record { geometry = g; «chunk_bytes» = c .chunk-bytes .result; rank = s .args .grid .rank; rotated = r .result .rotated; numbers = r .result .numbers })
-    (s .args .grid .chunk) (r .last .1 .1 .0) (r .last .1 .1 .1 .0)
-unfolding gridOf given chunkBytes
-walks c =
-    let x = numbered (c .before .before .before .before .before .before .before) in
-    walks-by _ _ _ _ _ _ _ _ _ _ _ _ (x .0) (x .2) (c .chunk-bytes .ensures)
+-- the reader reads the array's elements
+reads : (c : tie.After-new)
+    → let n = c .before .before .before .before .before .before .before .before .before .before .before .before .before .before in
+    let a = start n .args in
+    let r = n .numbering in
+    Reads (c .new .result) (a .grid .chunk) (r .last .1 .1 .0) (r .last .1 .1 .1 .0) (gridOf (a .grid)) (a .element-bytes)
+reads c =
+    let x = numbered (c .before .before .before .before .before .before .before .before) in
+    c .new .ensures .2 _ _ _ (x .0) (x .2)
 
 slot-path-requires : tie.Need-slot-path-requires
 slot-path-requires c κs =
-    let t = tested (c .before .before .before .before .before .before .before .before .before .before) in
-    (t .served, index-seen _ _ _ (call-seen _ _ _ _) (t .index), (_, walks (c .before .before .before)))
+    let n = c .before .before .before in
+    let f = n .before .before in (
+      tested (f .before .before .before .before .before .before) .2,
+      record { form = sym (n .new .ensures .0 ∙ f .form .ensures); grid = _; elementBytes = _; reads = reads n },
+    )
 
 returns-2 : tie.Need-returns-2
 returns-2 c =
-    let n = c .before .before .before .before .before .before .before .before .before .before .before in
-    let x = corner-numbered n in
-    let e = c .before .before .before .before .before .before .slot-of .ensures _ (x .0) (x .1) in
-    all-of _ _ _ (fits (n .before .before .before .before .before .before .before .before .before .before .before .before)) (c .slot-path .ensures _ (walks (c .before .before .before .before)) ∙ lookup-passed _ _ _ e (passed n))
+    let n = c .before .before .before .before in
+    let f = n .before .before in
+    let t = f .before .before .before .before .before .before in
+    let s = begin (t .before .before) in
+    let x = cornered t in
+    let e = elements-read (s .args .file .now) (s .args .header) (s .args .offset-size) (n .new .result) (gridOf (s .args .grid)) (s .args .element-bytes)
+    (n .new .ensures .0 ∙ f .form .ensures) (n .new .ensures .1) in
+    found-by _ _ _ _ refl (fits s)
+    (c .slot-path .ensures _ _ (reads n) ∙ ap (λ (y : Elements). foundOf (slotPath (located (array s) y) (f .before .slot-of .result))) e
+    ∙ lookup-passed _ _ _ _ (f .before .slot-of .ensures _ (x .0) (x .1)) (passed t))
 
 pub lookup-chunk-spec : {M : Type 1} → statement M
 lookup-chunk-spec =
     tie.close
     (tie.spec
-    slice-aggregate-numbering
-    slice-aggregate-numbering-2
-    slice-aggregate-numbering-3
-    numbering-requires
+    (search needs)
+    (search needs)
+    (search needs)
+    (search needs)
     lookup-test-requires
-    enum-known-r
+    (search needs)
     returns
-    enum-told
+    (search needs)
     slot-of-requires
-    chunk-bytes-requires
+    (search needs)
+    new-requires
     slot-path-requires
     returns-2)

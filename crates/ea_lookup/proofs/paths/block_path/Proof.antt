@@ -1,97 +1,96 @@
 -- `ea_lookup::paths::block_path` meets its contract. Assumes nothing.
-use mathlib.Core.Path.{_≡_, refl, subst, _∙_}
-use Prim.Native.Nat.{_+_, _≤_}
+use mathlib.Core.Path.{_≡_, sym, subst, _∙_}
+use mathlib.Core.Logic.{⊎-elim}
 use native.Mathlib.Omega.{arith}
-use lib.ListN.{length}
-use Rattle.ea_geometry.specs.Extents.{elementStride, blockElementAt}
-use Rattle.ea_geometry.proofs.Counts.{elements-few}
-use Rattle.ea_blocks.specs.Call.{Call}
-use Rattle.ea_count.specs.Values.{Walks}
-use Rattle.ea_count.proofs.WalkStates.{sees}
-use Rattle.ea_lookup.specs.declared.paths.Way.{Way}
-use Rattle.ea_lookup.specs.Found.{WayTo}
-use Rattle.ea_lookup.proofs.Ways.{absent-path, refused-path, bounded-by, block-room, block-found}
+use Rattle.refusal.specs.declared.Checked.the-variants.{Passed}
+use Rattle.fields.specs.Fields.{widthTest}
+use Rattle.fields.proofs.Fields.{width-is}
+use Rattle.ea_header.specs.Values.{Served}
+use Rattle.ea_blocks.specs.declared.enter.Entered.the-variants.{At}
+use Rattle.ea_blocks.specs.Array.{arrayOf}
+use Rattle.ea_blocks.specs.Values.{IndexInFile}
+use Rattle.ea_blocks.specs.Entered.{EnteredSuper, EnteredBlock}
+use Rattle.ea_blocks.proofs.StructureTests.{array-passed, index-in-file}
+use Rattle.ea_blocks.proofs.Entering.{entered-at, entered-super-room}
+use Rattle.ea_lookup.proofs.PathEnds.{narrow-ends, super-ends, block-ends}
 use borrow.Author.Needs.{needs}
 use Rattle.ea_lookup.proofs.paths.block_path.Statement.{statement}
 use Rattle.ea_lookup.proofs.paths.block_path.Tie as tie
 
-way-to-block-requires : tie.Need-way-to-block-requires
-way-to-block-requires c κs =
-    let a = c .before .before in
-    let p = a .pre .4 in
-    (a .pre .0 .super, a .pre .0 .block, a .pre .2, a .pre .3, (p .0, sees _ _ 0 _ _ _ (p .0) (p .1)))
-
--- what the way to the data block has come to
-way : (c : tie.After-way-to-block) (k : Call) {e : Way}
-    → let a = c .before .before .before .args in
-    Walks k (a .file .now) (a .reading) (a .chunk .now) (a .bound .now) (a .down .now) → c .way-to-block .result ≡ e → WayTo k (a .u) (a .k) e
-way c k w q = subst (WayTo k _ _) q (c .way-to-block .ensures k (sees _ _ 0 _ _ _ k w))
-
-enum-told : tie.Need-enum-told
-enum-told c = search needs
-
-enum-known-at : tie.Need-enum-known-at
-enum-known-at c = search needs
-
-block-element-at-requires : tie.Need-block-element-at-requires
-block-element-at-requires c κs =
-    let a = c .before .before .before .before .before .before in
-    let p = a .pre .4 in
-    let t = way (c .before .before .before) (p .0) (p .1) (c .before .at .given .1) in
-    (omega (arith, elements-few _ (a .pre .2) _ (a .pre .0 .super), a .pre .0 .element), bounded-by (p .1) (a .pre .2) _ _ _ _ (a .pre .0) _ _ t)
-
--- the element lies in the file
-room : (c : tie.After-block-element-at)
-    → let a = c .before .before .before .before .before .before .before .args in
-    c .before .before .at .given .0 .1 .0 + blockElementAt (a .reading .geometry .header) (a .reading .geometry .«offset_size») (a .i)
-    + elementStride (a .reading .geometry .header) (a .reading .geometry .«offset_size»)
-    ≤ length (a .file .now)
-room c =
-    let a = c .before .before .before .before .before .before .before in
-    let p = a .pre .4 in
-    block-room (p .1) (a .pre .2) _ _ _ _ (a .pre .0) _ _ (way (c .before .before .before .before) (p .0) (p .1) (c .before .before .at .given .1)) (a .pre .1)
-
-add-pos : tie.Need-add-pos
-add-pos c =
-    let x = room c in
-    rw (c .block-element-at .ensures) (omega arith)
-
-found-at-requires : tie.Need-found-at-requires
-found-at-requires c κs =
-    let p = c .before .before .before .before .before .before .before .pre .4 in
-    ((p .0, p .1 .reads), rw (c .block-element-at .ensures) (room c))
-
-enum-known-r : tie.Need-enum-known-r
-enum-known-r c = search needs
+served : (c : tie.Start) → Served (c .args .array .geometry .parameters)
+served c = array-passed (arrayOf (c .args .file .now) (c .args .array)) (c .pre .0) .0
 
 returns : tie.Need-returns
-returns c = λ k w.
-    let a = c .before .before .before .before .before in
-    absent-path w (a .pre .2) _ _ _ _ (a .pre .0) (way (c .before .before) k w (c .enum-told .given .1))
+returns c = λ s b.
+    let a = c .before .before .before in
+    narrow-ends _ (served (a .before .before)) s _ _ _ b _ (sym (a .ensure-width .ensures) ∙ c .before .r .given .1)
+
+-- the offset size is a width, and the index block lies in the file
+wide : (c : tie.After-enum-told) → widthTest 1 (c .before .before .before .before .args .array .geometry .«offset_size») ≡ Passed
+wide c = sym (c .before .before .ensure-width .ensures) ∙ c .enum-told .given .1
+
+index : (c : tie.After-enum-told) → IndexInFile (c .before .before .before .before .args .file .now) (c .before .before .before .before .args .array)
+index c =
+    let a = c .before .before .before .before in
+    let t = array-passed (arrayOf (a .args .file .now) (a .args .array)) (a .pre .0) in
+    index-in-file _ _ (t .0) (width-is _ _ (wide c)) (t .1)
+
+enter-super-requires : tie.Need-enter-super-requires
+enter-super-requires c κs = (c .before .before .before .before .pre .1 .1 .super, index c)
 
 returns-2 : tie.Need-returns-2
-returns-2 c = λ k w.
-    let a = c .before .before .before .before .before .before .before .before in
-    let t = way (c .before .before .before .before .before) k w (c .before .before .before .at .given .1) in
-    c .found-at .ensures k (w .reads)
-    ∙ block-found w (a .pre .2) _ _ _ _ (a .pre .0) _ _ t (a .pre .1) _ (rw (c .before .block-element-at .ensures) refl)
+returns-2 c = λ s b.
+    let d = c .before .before in
+    super-ends _ (served (d .before .before .before .before)) s _ _ _ b (wide d) _ (c .before .enter-super .ensures)
+    (λ at q. ⊎-elim (λ z. omega arith) (λ z. omega arith) (rw q at (c .match2 .keys2)))
+
+-- what stepping into the super block and into the data block has found
+super : (c : tie.After-known-told2)
+    → let a = c .before .before .before .before .before .before .before .before .args in
+    EnteredSuper (arrayOf (a .file .now) (a .array)) (a .u) (At (c .before .super-block .given .0 .0))
+super c = subst (EnteredSuper _ _) (c .before .super-block .given .1) (c .before .before .before .enter-super .ensures)
+
+enter-block-requires : tie.Need-enter-block-requires
+enter-block-requires c κs =
+    let d = c .before .before .before .before in
+    let b = d .before .before .before .before .pre .1 .1 in
+    record { super = b .super; block = b .block; index = index d; inside = entered-super-room _ _ _ (super c) }
 
 returns-3 : tie.Need-returns-3
-returns-3 c = λ k w.
-    let a = c .before .before .before .before .before .before in
-    refused-path w (a .pre .2) _ _ _ _ (a .pre .0) _ (way (c .before .before .before) k w (c .before .r .given .1))
+returns-3 c = λ s b.
+    let e = c .before in
+    let d = e .before .before .before .before .before in
+    block-ends _ (served (d .before .before .before .before)) s _ _ _ b (wide d) _ (super (e .before)) _
+    (e .enter-block .ensures (entered-at _ _ _ (super (e .before))))
+    (λ at q. ⊎-elim (λ z. omega arith) (λ z. omega arith) (rw q at (c .match3 .keys2)))
+
+element-in-block-requires : tie.Need-element-in-block-requires
+element-in-block-requires c κs =
+    let e = c .before .before .before in
+    let d = e .before .before .before .before .before in
+    let a = d .before .before .before .before in (
+      served a,
+      a .pre .1,
+      record {
+        wide = wide d;
+        super = super (e .before);
+        block = subst (EnteredBlock _ _ _) (c .before .data-block .given .1) (e .enter-block .ensures (entered-at _ _ _ (super (e .before))));
+      },
+    )
 
 pub block-path-spec : {M : Type 1} → statement M
 block-path-spec =
     tie.close
     (tie.spec
-    way-to-block-requires
-    enum-told
-    enum-known-at
-    block-element-at-requires
-    add-pos
-    found-at-requires
-    enum-known-r
+    (search needs)
+    (search needs)
     returns
+    (search needs)
+    enter-super-requires
+    (search needs)
     returns-2
-    returns-3)
+    enter-block-requires
+    (search needs)
+    returns-3
+    element-in-block-requires
+    (λ c. c .element-in-block .ensures))
