@@ -7,11 +7,9 @@ use borrow.Author.Needs.{needs}
 use Rattle.ea_geometry_check.proofs.compare_parameters.Statement.{statement}
 use Rattle.ea_geometry_check.proofs.compare_parameters.Tie as tie
 
--- the header was tested
-tested : (c : tie.After-from-header) → Served (c .from-header .result .header)
-tested c =
-    rw (c .from-header .ensures .0)
-    (serves _ (sym (c .before .before .is-served .ensures) ∙ not-false _ (c .before .if1 .left)))
+-- the parameters were tested
+tested : (c : tie.Else1) → Served (c .before .before .parameters-of .result)
+tested c = serves _ (sym (c .before .is-served .ensures) ∙ not-false _ (c .if1 .left))
 
 compare-inline-requires : tie.Need-compare-inline-requires
 compare-inline-requires c κs = tested (c .before .before .before)

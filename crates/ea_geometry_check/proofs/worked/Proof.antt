@@ -9,8 +9,7 @@ use Rattle.ea_geometry_check.proofs.worked.Tie as tie
 returns : tie.Need-returns
 unfolding log2In
 returns c =
-    let made = c .before .parameters-of .ensures in
-    rw (c .from-header .ensures .0)
+    let made = c .parameters-of .ensures in
     (record { power = rw (made .0 .0) refl; least = omega arith; bits = omega arith; minimum = omega arith; page = omega arith })
 
 pub worked-spec : {M : Type 1} → statement M
