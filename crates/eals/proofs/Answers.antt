@@ -8,7 +8,7 @@ use Rattle.io.specs.Counts.{Counts}
 use Rattle.io.proofs.Counting.{counts}
 use Rattle.refusal.specs.declared.Counted.{Counted}
 use Rattle.refusal.specs.Outcome.{countedOf}
-use Rattle.ea_list.specs.Listing.{listContent}
+use Rattle.records.specs.Records.{listContent}
 use Rattle.eals.specs.Line.{fileOf, questionOf, storedOf}
 use Rattle.eals.specs.Printed.{Put, unreadableText}
 use Rattle.eals.specs.Program.{listingOf, countedText, parsedText, programText}

@@ -15,10 +15,11 @@ use Rattle.refusal.specs.Outcome.{refused, accepted, _yields_, inRoom, countedO
 use Rattle.refusal.proofs.Tests.{by-cond}
 use Rattle.chunk_grid.specs.Shapes.{givenBytes, given}
 use Rattle.refusal.specs.declared.Counted.{Counted}
-use Rattle.ea_records.specs.Records.{recordLength}
-use Rattle.ea_elements.specs.Runs.{Listing}
-use Rattle.ea_list.specs.Listing.{listInto}
-use Rattle.ea_list.specs.Door.{doorGrid, callAt, listAt}
+use Rattle.records.specs.Records.{recordLength}
+use Rattle.index.specs.Index.{Listing}
+use Rattle.ea_list.specs.ListInto.{listInto, listAt}
+use Rattle.calls.specs.Call.{gridGiven}
+use Rattle.ea_calls.specs.Call.{callElements, callAnswer}
 use Rattle.eals.specs.Text.{words, onFirst}
 use Rattle.eals.specs.Line.{lineOf, fits, wordNumber, ifNumber, noQuestion, withNumber, questionFrom, lineQuestion, questionOf}
 use Rattle.eals.specs.Program.{listingOf, countOf}
@@ -89,6 +90,6 @@ passed-count (CheckedRefused r) a n h = omega arith
 
 pub counted-room : (q : Question) (numbers file : List ℕ) (room : ℕ) (counted : Counted) → counted ≡ countedOf (listingOf q numbers file room)
     → countOf counted * recordLength (q .rank) ≤ room
-unfolding listingOf listAt listInto callAt doorGrid givenBytes given recordLength
+unfolding listingOf listAt listInto callAnswer callElements gridGiven givenBytes given recordLength
 counted-room q numbers file room counted e =
     rw e (le-div-iff-mul-le {k = recordLength (q .rank)} (omega arith) .0 (passed-count _ _ _ (in-room _ _)))

@@ -7,9 +7,9 @@ use lib.ListN.{length, drop}
 use lib.Seq.{drop-drop}
 use Rattle.fields.specs.LittleEndian.{leAt}
 use Rattle.chunk_grid.specs.Shapes.{numbersIn}
-use Rattle.ea_records.specs.Records.{recordLength}
+use Rattle.records.specs.Records.{recordLength}
 use Rattle.eals.specs.Text.{decimal}
-use Rattle.ea_list.specs.Listing.{recordIn, recordsIn}
+use Rattle.records.specs.Records.{recordIn, recordsIn}
 use Rattle.eals.specs.Printed.{spaced, recordLine, recordLines, recordsWord, listText}
 
 -- a number in a part of a list

@@ -5,7 +5,7 @@ use Prim.Native.Nat.{ℕ, _+_, _-_, _≤_}
 use native.Mathlib.Omega.{arith}
 use lib.ListN.{length, take, drop, drop-of-length-le, length-append, length-drop}
 use lib.Seq.{sets, sets-eq, take-all, drop-drop, length-sets}
-use Rattle.ea_records.proofs.Records.{sets-append}
+use Rattle.records.proofs.Records.{sets-append}
 use Rattle.eals.specs.Printed.{Put}
 
 -- a text that is copied into the part of a buffer from `at` on

@@ -8,8 +8,8 @@ use lib.Dec.{eqb}
 use lib.ListN.{length, drop}
 use lib.Seq.{sets, length-sets}
 use Rattle.fields.specs.LittleEndian.{leBytes}
-use Rattle.ea_records.specs.Records.{offsetBytes}
-use Rattle.ea_records.proofs.Records.{sets-bytes}
+use Rattle.records.specs.Records.{offsetBytes}
+use Rattle.records.proofs.Records.{sets-bytes}
 use Rattle.eals.specs.Text.{before, words}
 use Rattle.eals.specs.Line.{wordNumber, ifNumber, noQuestion, withNumber, questionFrom, numbersFrom, lineQuestion, lineStored}
 use Rattle.eals.specs.declared.text.Number.the-variants.{Value, NoNumber}

@@ -6,7 +6,7 @@ use lib.Dec.{eqb, leb, ltb}
 use lib.ListN.{length, drop}
 use lib.Seq.{sets}
 use Rattle.refusal.specs.Refusals.{largest64}
-use Rattle.ea_records.specs.Records.{offsetBytes}
+use Rattle.records.specs.Records.{offsetBytes}
 use Rattle.eals.specs.Text.{before, words, isOnly, numberOf}
 use Rattle.eals.specs.declared.text.Number.{Number}
 use Rattle.eals.specs.declared.text.Number.the-variants.{Value, NoNumber}

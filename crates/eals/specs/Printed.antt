@@ -5,7 +5,7 @@ use mathlib.Core.List.{List, [], _∷_, _++_}
 use lib.ListN.{length}
 use lib.Seq.{sets}
 use Rattle.refusal.specs.declared.Refusal.{Refusal}
-use Rattle.ea_elements.specs.Elements.{Rec}
+use Rattle.index.specs.Index.{Rec}
 use Rattle.eals.specs.Text.{decimal}
 
 -- A text is put into a buffer at a place: where it ends, and what the buffer holds then.

@@ -4,11 +4,12 @@ use mathlib.Core.List.{List}
 use lib.ListN.{length, take, drop}
 use Rattle.refusal.specs.declared.Counted.{Counted}
 use Rattle.refusal.specs.declared.Counted.the-variants.{Count, Refused}
-use Rattle.ea_elements.specs.Runs.{Listing}
+use Rattle.index.specs.Index.{Listing}
 use Rattle.refusal.specs.Outcome.{countedOf}
-use Rattle.ea_list.specs.Door.{doorGrid, listAt}
+use Rattle.calls.specs.Call.{callOf}
+use Rattle.ea_list.specs.ListInto.{listAt}
 use Rattle.eals.specs.Line.{fileOf, questionOf, storedOf}
-use Rattle.ea_list.specs.Listing.{listContent, recordsIn}
+use Rattle.records.specs.Records.{listContent, recordsIn}
 use Rattle.eals.specs.Printed.{listText, refusalText, unreadableText}
 use Rattle.eals.specs.declared.line.Question.{Question}
 use Rattle.eals.specs.declared.line.Parsed.{Parsed}
@@ -22,8 +23,8 @@ shapeAt rank from numbers = take (8 * rank) (drop from numbers)
 unfoldable pub listingOf : Question → List ℕ → List ℕ → ℕ → Listing
 listingOf q numbers file room =
     let rank = q .rank in
-    let grid = doorGrid (q .order) rank (shapeAt rank 48 numbers) (shapeAt rank (48 + 8 * rank) numbers) 1 (shapeAt rank (48 + 16 * rank) numbers) in
-    listAt file (q .address) (q .«offset_size») (q .«length_size») grid (q .«element_bytes») room
+    listAt (callOf file (q .«offset_size») (q .«length_size») (q .address) (q .«element_bytes») (q .order) rank
+    (shapeAt rank 48 numbers) (shapeAt rank (48 + 8 * rank) numbers) 1 (shapeAt rank (48 + 16 * rank) numbers)) room
 
 -- the text of an answer: of the records that the lent list holds, or of the refusal
 unfoldable pub countedText : ℕ → Counted → List ℕ → List ℕ

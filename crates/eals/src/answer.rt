@@ -4,8 +4,8 @@ ghost use Prim.Native.Nat.{_+_, _*_, _≤_};
 ghost use lib.ListN.{length};
 ghost use Rattle.io.specs.Counts.{Counts};
 ghost use Rattle.refusal.specs.Outcome.{countedOf};
-ghost use Rattle.ea_records.specs.Records.{recordLength};
-ghost use Rattle.ea_list.specs.Listing.{listContent};
+ghost use Rattle.records.specs.Records.{recordLength};
+ghost use Rattle.records.specs.Records.{listContent};
 ghost use Rattle.eals.specs.Printed.{Put};
 ghost use Rattle.eals.specs.Program.{listingOf, countedText, countOf, programText};
 use crate::line::Parsed;
@@ -15,7 +15,7 @@ use crate::line::parse;
 use crate::print::put_list;
 use crate::print::put_refusal;
 use crate::print::put_text;
-use ea_list::door::list_at;
+use ea_list::call::list_at;
 use refusal::Counted;
 
 // Lists the chunks that a question asks for.

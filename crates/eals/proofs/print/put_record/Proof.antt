@@ -1,6 +1,6 @@
 -- `eals::print::put_record` meets its contract: address, size, mask, offsets and line end, one behind the other. Assumes nothing.
 use native.Mathlib.Omega.{arith}
-use Rattle.ea_records.specs.Records.{recordLength}
+use Rattle.records.specs.Records.{recordLength}
 use Rattle.eals.proofs.Puts.{put-then, put-as}
 use Rattle.eals.proofs.Lines.{record-parts}
 use borrow.Author.Needs.{needs}

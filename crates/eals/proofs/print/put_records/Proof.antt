@@ -3,8 +3,8 @@ use borrow.Author.Needs.{needs}
 use Prim.Native.Nat.{_+_, _-_, _*_, _≤_}
 use native.Mathlib.Omega.{arith}
 use lib.ListN.{length, drop}
-use Rattle.ea_records.specs.Records.{recordLength}
-use Rattle.ea_list.specs.Listing.{recordsIn}
+use Rattle.records.specs.Records.{recordLength}
+use Rattle.records.specs.Records.{recordsIn}
 use Rattle.eals.specs.Printed.{recordLines}
 use Rattle.eals.proofs.Puts.{Putting, put-none, put-more, put-all}
 use Rattle.eals.proofs.Lines.{records-on, records-none, room-on}
