@@ -1,4 +1,4 @@
--- The span listing: its answer, and the two lists that it fills.
+-- The list of spans: its answer, and the two lists that it fills.
 use Prim.Native.Nat.{ℕ, min}
 use mathlib.Core.List.{List, [], _∷_}
 use lib.ListN.{length}

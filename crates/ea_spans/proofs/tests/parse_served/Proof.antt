@@ -1,9 +1,10 @@
--- `ea_spans::enter::parse_served` meets its contract. Assumes nothing.
+-- `ea_spans::tests::parse_served` meets its contract. Assumes nothing.
 use mathlib.Core.Path.{_≡_, sym, ap, _∙_}
 use Rattle.refusal.specs.declared.Checked.the-variants.{Passed}
 use Rattle.refusal.proofs.Tests.{then-second, then-first}
 use Rattle.checksum.specs.Lookup3.{lookup3}
 use Rattle.ea_header.specs.declared.Parsed.the-variants.{Header}
+use Rattle.ea_header.specs.declared.ExtensibleArrayHeader.{ExtensibleArrayHeader}
 use Rattle.ea_header.specs.Served.{servedTest}
 use Rattle.ea_header.specs.Header.{headerAt, headerTest}
 use Rattle.ea_header.specs.Values.{parsedAt}
@@ -11,14 +12,8 @@ use Rattle.ea_header.proofs.Header.{header-after, refused-after, header-is, ref
 use Rattle.span_walk.specs.Spans.{spanTest, headerSpan}
 use Rattle.span_walk.specs.Walk.{headTest}
 use borrow.Author.Needs.{needs}
-use Rattle.ea_spans.proofs.enter.parse_served.Statement.{statement}
-use Rattle.ea_spans.proofs.enter.parse_served.Tie as tie
-
-test-header-span-requires : tie.Need-test-header-span-requires
-test-header-span-requires c κs = search needs
-
-enum-known-r : tie.Need-enum-known-r
-enum-known-r c = search needs
+use Rattle.ea_spans.proofs.tests.parse_served.Statement.{statement}
+use Rattle.ea_spans.proofs.tests.parse_served.Tie as tie
 
 returns : tie.Need-returns
 unfolding headTest
@@ -29,27 +24,6 @@ fits : (c : tie.After-enum-told)
     → let a = c .before .before .before .before .args in
     Passed ≡ spanTest (headerSpan (a .address) (a .offset-size) (a .length-size))
 fits c = sym (c .enum-told .given .1) ∙ c .before .before .test-header-span .ensures
-
-enum-told : tie.Need-enum-told
-enum-told c = search needs
-
-parse-requires : tie.Need-parse-requires
-parse-requires c κs = search needs
-
-enum-known-r-2 : tie.Need-enum-known-r-2
-enum-known-r-2 c = search needs
-
-enum-known-header : tie.Need-enum-known-header
-enum-known-header c = search needs
-
-served-test-requires : tie.Need-served-test-requires
-served-test-requires c κs = search needs
-
-enum-told-2 : tie.Need-enum-told-2
-enum-told-2 c = search needs
-
-enum-known-r-3 : tie.Need-enum-known-r-3
-enum-known-r-3 c = search needs
 
 returns-2 : tie.Need-returns-2
 unfolding headTest parsedAt
@@ -71,7 +45,7 @@ unfolding headTest
 returns-3 c =
     let t = c .before .before in
     let r = read t in
-    let e = sym (c .enum-told2 .given .1) ∙ t .served-test .ensures ∙ ap servedTest (r .1) in
+    let e = sym (c .enum-told2 .given .1) ∙ t .served-test .ensures ∙ ap (λ (h : ExtensibleArrayHeader). servedTest (h .parameters)) (r .1) in
     ap Header (r .1) ∙ header-after _ _ (e ∙ then-second _ _ (r .0) ∙ then-second _ _ (fits (t .before .before .before .before .before)))
 
 returns-4 : tie.Need-returns-4
@@ -79,23 +53,11 @@ unfolding headTest
 returns-4 c =
     let t = c .before .before .before in
     let r = read t in
-    let e = sym (c .before .r3 .given .1) ∙ t .served-test .ensures ∙ ap servedTest (r .1) in
+    let e = sym (c .before .r3 .given .1) ∙ t .served-test .ensures ∙ ap (λ (h : ExtensibleArrayHeader). servedTest (h .parameters)) (r .1) in
     refused-after _ _ (e ∙ then-second _ _ (r .0) ∙ then-second _ _ (fits (t .before .before .before .before .before)))
 
 pub parse-served-spec : {M : Type 1} → statement M
 parse-served-spec =
     tie.close
-    (tie.spec
-    test-header-span-requires
-    enum-known-r
-    returns
-    enum-told
-    parse-requires
-    enum-known-r-2
-    enum-known-header
-    served-test-requires
-    enum-told-2
-    enum-known-r-3
-    returns-2
-    returns-3
-    returns-4)
+    (tie.spec (search needs) (search needs) returns (search needs) (search needs) (search needs) (search needs)
+    (search needs) (search needs) (search needs) returns-2 returns-3 returns-4)

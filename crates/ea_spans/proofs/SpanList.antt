@@ -1,4 +1,4 @@
--- The listing's answer and lists, one law for each way that it ends. Assumes nothing.
+-- The list's answer and its two lists, one law for each way that it ends. Assumes nothing.
 use Prim.Native.Nat.{ℕ, _^_, _<_}
 use mathlib.Core.Path.{_≡_, refl, sym}
 use mathlib.Core.List.{List}
@@ -6,42 +6,38 @@ use native.Mathlib.Omega.{arith}
 use lib.ListN.{length}
 use Rattle.refusal.specs.declared.Refusal.{Refusal}
 use Rattle.refusal.specs.declared.Checked.the-variants.{Passed, Refused}
-use Rattle.refusal.specs.Refusals.{figure}
-use Rattle.refusal.specs.Outcome.{refused, _yields_, also, countedOf}
-use Rattle.ea_header.specs.declared.ExtensibleArrayHeader.{ExtensibleArrayHeader}
-use Rattle.ea_header.specs.Header.{headerBytes, headerAt}
-use Rattle.ea_geometry.specs.declared.EaGeometry.{EaGeometry}
 use Rattle.refusal.specs.declared.Counted.{Counted}
 use Rattle.refusal.specs.declared.Counted.the-variants.{Refused as CountedRefused}
+use Rattle.refusal.specs.Refusals.{figure}
+use Rattle.refusal.specs.Outcome.{refused, _yields_, also, countedOf}
+use Rattle.ea_header.specs.Header.{headerBytes, headerAt}
+use Rattle.ea_blocks.specs.declared.ExtensibleArray.{ExtensibleArray}
+use Rattle.ea_blocks.specs.Array.{arrayOf}
 use Rattle.span_walk.specs.Spans.{headerSpan}
-use Rattle.span_walk.specs.Walk.{Spanning, indexSpans, headTest, spans}
+use Rattle.span_walk.specs.Walk.{Spanning, arrayFrom, indexSpans, headTest, spans}
 use Rattle.span_walk.proofs.Heads.{head-passed}
-use Rattle.ea_spans.specs.Values.{callAt}
-use Rattle.ea_spans.specs.Listing.{filled, addressOf, lengthOf}
+use Rattle.ea_spans.specs.SpanList.{filled, addressOf, lengthOf}
 
 -- what is answered, and what two lists are then
 abbrev pub Answers : Spanning → Counted → List ℕ → List ℕ → List ℕ → List ℕ → Type 0
-Answers a r addresses lengths A L = (r ≡ countedOf a) × ((A ≡ filled addressOf a 0 addresses) × (L ≡ filled lengthOf a 0 lengths))
+Answers a r addresses lengths A L = (r ≡ countedOf a) × (A ≡ filled addressOf a 0 addresses) × (L ≡ filled lengthOf a 0 lengths)
 
 -- a refusal leaves both lists
 pub answers-refused : (a : Spanning) (r : Refusal) (addresses lengths : List ℕ) → a ≡ refused r → Answers a (CountedRefused r) addresses lengths addresses lengths
 unfolding countedOf filled
-answers-refused a r addresses lengths e = rw e (refl, (refl, refl))
+answers-refused a r addresses lengths e = rw e (refl, refl, refl)
 
 -- the header's tests
 module _ (f : List ℕ) (address o l : ℕ) where
-  abbrev h : ExtensibleArrayHeader
-  h = headerAt f address o l
-
   pub spans-refused : (r : Refusal) → Refused r ≡ headTest f address o l → spans f address o l ≡ refused r
   unfolding spans _yields_
   spans-refused r e = rw (sym e) refl
 
   -- behind them, the header's span and those of its index
-  pub spans-are : Passed ≡ headTest f address o l → length f < 2 ^ 63 → (x : ExtensibleArrayHeader) → x ≡ h → (g : EaGeometry) → g .header ≡ x → g .«offset_size» ≡ o
-      → (n : ℕ) → n ≡ figure (headerBytes o l) → also (record { address = address; length = n }) (indexSpans (callAt f g)) ≡ spans f address o l
+  pub spans-are : Passed ≡ headTest f address o l → length f < 2 ^ 63 → (array : ExtensibleArray) → arrayOf f array ≡ arrayFrom f (headerAt f address o l) o
+      → (n : ℕ) → n ≡ figure (headerBytes o l) → also (record { address = address; length = n }) (indexSpans (arrayOf f array)) ≡ spans f address o l
   unfolding spans _yields_ headerSpan figure
-  spans-are e short x q g i j n s =
+  spans-are e short array q n s =
       let p = head-passed f address o l e in
       let z : n ≡ headerBytes o l = omega (arith, p .0) in
-      rw (sym e, z, i, j, q) refl
+      rw (sym e, z, q) refl
