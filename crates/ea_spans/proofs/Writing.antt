@@ -26,7 +26,8 @@ sets-each part (s ∷ l) m out n =
     let z : n + suc (length l) ≡ suc n + length l = omega arith in
     rw z (sets-each part l m (set out n (part s)) (suc n))
 
-length-filled : (part : Span → ℕ) (a : Spanning) (n : ℕ) (out : List ℕ) → length (filled part a n out) ≡ length out
+-- a list that is written into keeps its length
+pub length-filled : (part : Span → ℕ) (a : Spanning) (n : ℕ) (out : List ℕ) → length (filled part a n out) ≡ length out
 unfolding filled
 length-filled part (refused r) n out = refl
 length-filled part (accepted l) n out = length-sets out n (each part l)

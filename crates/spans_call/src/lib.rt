@@ -1,8 +1,8 @@
-// The span listing as C calls it. It is built for tests, and is no part of the library.
+// The list of spans as C calls it. It is built for tests, and is no part of the library.
 ghost use mathlib.Core.Path.{_≡_};
 ghost use Rattle.refusal.specs.Outcome.{countedOf};
-ghost use Rattle.ea_spans.specs.Listing.{spansInto, filled, addressOf, lengthOf};
-ghost use Rattle.spans_door.specs.Door.{pickedOf, picked};
+ghost use Rattle.ea_spans.specs.SpanList.{spansInto, filled, addressOf, lengthOf};
+ghost use Rattle.spans_call.specs.Answer.{pickedOf, picked};
 use ea_spans::extensible_array_index_spans;
 use refusal::Counted;
 use refusal::Refusal;
@@ -18,14 +18,9 @@ pub extern "C" fn cellumaq_test_spans(
     lengths: &mut [u64],
     which: u64,
 ) -> u64
-    ensures number { λ r. ⌜ r ≡ picked which (countedOf (spansInto (now (file .entry)) address «offset_size» «length_size»
-        (now (addresses .entry)) (now (lengths .entry)))) ⌝ }
-    ensures first { λ _. ⌜ now (addresses .exit)
-        ≡ filled addressOf (spansInto (now (file .entry)) address «offset_size» «length_size»
-        (now (addresses .entry)) (now (lengths .entry))) 0 (now (addresses .entry)) ⌝ }
-    ensures second { λ _. ⌜ now (lengths .exit)
-        ≡ filled lengthOf (spansInto (now (file .entry)) address «offset_size» «length_size»
-        (now (addresses .entry)) (now (lengths .entry))) 0 (now (lengths .entry)) ⌝ }
+    ensures { λ r. ⌜ (let s = spansInto (now (file .entry)) address «offset_size» «length_size» (now (addresses .entry)) (now (lengths .entry)) in
+        (r ≡ picked which (countedOf s)) × (now (addresses .exit) ≡ filled addressOf s 0 (now (addresses .entry)))
+        × (now (lengths .exit) ≡ filled lengthOf s 0 (now (lengths .entry)))) ⌝ }
 {
     let counted = extensible_array_index_spans(
         file,

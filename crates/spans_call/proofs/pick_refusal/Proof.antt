@@ -1,9 +1,9 @@
--- `spans_door::pick_refusal` meets its contract. Assumes nothing.
+-- `spans_call::pick_refusal` meets its contract. Assumes nothing.
 use mathlib.Core.Path.{refl}
 use borrow.Author.Tests.{ne-eqb}
-use Rattle.spans_door.specs.Door.{pickedOf}
-use Rattle.spans_door.proofs.pick_refusal.Statement.{statement}
-use Rattle.spans_door.proofs.pick_refusal.Tie as tie
+use Rattle.spans_call.specs.Answer.{pickedOf}
+use Rattle.spans_call.proofs.pick_refusal.Statement.{statement}
+use Rattle.spans_call.proofs.pick_refusal.Tie as tie
 
 returns : tie.Need-returns
 unfolding pickedOf
