@@ -67,13 +67,13 @@ build/fuzz: $(wildcard tests/fuzz/*) $(wildcard tests/c/*.h) build/libcellumaq.a
 	@$(CC) $(CFLAGS) -g -fsanitize=address,undefined -fno-sanitize-recover=all -Ibuild -Itests/c -o $@ tests/fuzz/fuzz.c build/libcellumaq.a
 
 # The span listing is called from C in its test only.
-build/libspans_door.a: crates.txt $(shell find crates -name '*.rt' -o -name '*.antt') | tools
+build/libspans_call.a: crates.txt $(shell find crates -name '*.rt' -o -name '*.antt') | tools
 	@mkdir -p build
-	rt staticlib spans_door >build/spans_door.log 2>&1 || { cat build/spans_door.log; exit 1; }
-	@cp target/staticlib/libspans_door.a $@
+	rt staticlib spans_call >build/spans_call.log 2>&1 || { cat build/spans_call.log; exit 1; }
+	@cp target/staticlib/libspans_call.a $@
 
-build/test_spans: tests/c/test_spans.c tests/c/test.h build/libspans_door.a
-	@$(CC) $(CFLAGS) -Itests/c -o $@ $< build/libspans_door.a
+build/test_spans: tests/c/test_spans.c tests/c/test.h build/libspans_call.a
+	@$(CC) $(CFLAGS) -Itests/c -o $@ $< build/libspans_call.a
 
 build/bench_%: bench/bench_%.c $(wildcard bench/*.h tests/c/*.h) build/libcellumaq.a build/cellumaq.h
 	@$(CC) $(CFLAGS) -Ibuild -Itests/c -o $@ $< build/libcellumaq.a

@@ -190,7 +190,7 @@ def shape(rank, data):
 
 
 def from_bytes(rank, chunk, present, has_maximum, maximum, corner):
-    case(1, rank, chunk, present, int(has_maximum), maximum, corner)
+    case(1, rank, chunk, present, int(has_maximum), maximum, 0, 0, corner)
     head = "bytes"
     c, p, m = (shape(rank, s) for s in (chunk, present, maximum))
     number = 3 if rank > 32 or c is None else 4 if p is None else 5 if has_maximum and m is None else 0

@@ -106,11 +106,32 @@ GROUPS = {
         (header(8, 8, page=33), 0, 8, 8),
     ],
 }
+
+
+def text(s):
+    return 'b"%s"' % "".join(f"\\x{b:02x}" for b in s)
+
+
+def call(s, pos, o, l):
+    """The call of main.rt: where s is the whole header, without its last byte, or with one byte and the checksum changed, of that."""
+    changed = [i for i in range(68) if len(s) == 72 and s[i] != A[i]]
+    if s == A:
+        return f"print_whole({pos}, {o}, {l})"
+    if (s, pos, l) == (A[:-1], 0, 8):
+        return f"print_short({o})"
+    if len(s) == 72 and len(changed) < 2 and pos == 0:
+        place = changed[0] if changed else 4
+        return f"print_changed({place}, {s[place]}, {text(s[68:])}, {o}, {l})"
+    if (pos, o, l) == (0, 8, 8):
+        return f"print_eight({text(s)})"
+    return f"print_parsed({text(s)}, {pos}, {o}, {l})"
+
+
 if sys.argv[1:] == ["calls"]:
     for name, vectors in GROUPS.items():
         print(name)
-        for s, *numbers in vectors:
-            print('    print_parsed(b"%s", %d, %d, %d);' % ("".join(f"\\x{b:02x}" for b in s), *numbers))
+        for vector in vectors:
+            print(f"    {call(*vector)};")
     sys.exit()
 for vectors in GROUPS.values():
     for vector in vectors:

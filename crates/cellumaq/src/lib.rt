@@ -1,26 +1,28 @@
-// The doors for C: each passes on to the library.
+// The calls from C: each passes on to the library.
 ghost use mathlib.Core.Path.{_≡_};
 ghost use mathlib.Core.Bool.{true};
 ghost use mathlib.Core.List.{List};
 ghost use mathlib.Core.Option.{Option};
 ghost use Prim.Native.Nat.{ℕ, _<_};
 ghost use lib.ListN.{length};
+ghost use Rattle.refusal.specs.declared.Counted.the-variants.{Count};
+ghost use Rattle.refusal.specs.Outcome.{accepted, countedOf};
 ghost use Rattle.checksum.specs.Lookup3.{lookup3};
-ghost use Rattle.refusal.specs.Outcome.{accepted};
 ghost use Rattle.chunk_grid.specs.Grid.{isChunk};
 ghost use Rattle.chunk_grid.specs.Shapes.{shapeOf};
-ghost use Rattle.refusal.specs.declared.Counted.the-variants.{Count};
-ghost use Rattle.ea_elements.specs.Elements.{Rec};
-ghost use Rattle.refusal.specs.Outcome.{countedOf};
-ghost use Rattle.ea_list.specs.Listing.{listContent, recordsIn};
-ghost use Rattle.ea_list.specs.Judged.{Judged};
-ghost use Rattle.ea_list.specs.Door.{doorGrid, callAt, listAt, listNumbers, picked};
-ghost use Rattle.ea_lookup.specs.Lookup.{Answers, Agrees};
-ghost use Rattle.ea_lookup.specs.Door.{lookupAt, lookupNumbers};
-use ea_list::door::list_at;
-use ea_list::door::list_number;
-use ea_lookup::door::found_number;
-use ea_lookup::door::lookup_at;
+ghost use Rattle.index.specs.Index.{Rec};
+ghost use Rattle.index.specs.ExactList.{ExactList, Answers, Agrees};
+ghost use Rattle.records.specs.Records.{listContent, recordsIn};
+ghost use Rattle.calls.specs.Call.{callOf};
+ghost use Rattle.calls.specs.Answer.{picked, countedAnswer, chunkNames, ZeroAccepts};
+ghost use Rattle.ea_calls.specs.Call.{callIndex};
+ghost use Rattle.ea_list.specs.ListInto.{listAt};
+ghost use Rattle.ea_lookup.specs.Call.{lookupAt, lookupAnswer};
+use calls::CHUNK_NAMES;
+use calls::counted_number;
+use ea_list::call::list_at;
+use ea_lookup::call::found_number;
+use ea_lookup::call::lookup_at;
 
 // HDF5's metadata checksum of some bytes.
 #[no_mangle]
@@ -31,7 +33,7 @@ pub extern "C" fn cellumaq_checksum(bytes: &[u8]) -> u32
 }
 
 // The chunk list of a dataset, into a lent list. Answers the number that `which` asks for: 0, where the refusal is asked for, says that
-// the call is accepted. The list holds what it says, and for rank 1 to 32 an accepted list can be judged chunk by chunk.
+// the call is accepted. The list holds what it says, and for rank 1 to 32 an accepted list is complete and exact.
 #[no_mangle]
 pub extern "C" fn cellumaq_list(
     file: &[u8],
@@ -48,13 +50,13 @@ pub extern "C" fn cellumaq_list(
     list: &mut [u8],
     which: u64,
 ) -> u64
-    ensures { λ r. ⌜ (let grid = doorGrid order rank (now (chunk .entry)) (now (present .entry)) «has_maximum» (now (maximum .entry)) in
-        let call = callAt (now (file .entry)) address «offset_size» «length_size» grid «element_bytes» in
-        let answer = listAt (now (file .entry)) address «offset_size» «length_size» grid «element_bytes» (length (now (list .entry))) in
-        (r ≡ picked which (listNumbers answer))
-        × (which ≡ 0 → r ≡ 0 → (n : ℕ) × (countedOf answer ≡ Count n))
+    ensures { λ r. ⌜ (let call = callOf (now (file .entry)) «offset_size» «length_size» address «element_bytes» order rank
+        (now (chunk .entry)) (now (present .entry)) «has_maximum» (now (maximum .entry)) in
+        let answer = listAt call (length (now (list .entry))) in
+        (r ≡ picked which (countedAnswer chunkNames (countedOf answer)))
+        × ZeroAccepts answer which r
         × (now (list .exit) ≡ listContent answer (now (list .entry)))
-        × ((n : ℕ) → countedOf answer ≡ Count n → 0 < rank → Judged call (recordsIn rank n (now (list .exit))) n)) ⌝ }
+        × ((n : ℕ) → countedOf answer ≡ Count n → 0 < rank → ExactList (callIndex call) (recordsIn rank n (now (list .exit))) n)) ⌝ }
 {
     let counted = list_at(
         file,
@@ -70,7 +72,7 @@ pub extern "C" fn cellumaq_list(
         maximum,
         list,
     );
-    list_number(counted, which)
+    counted_number(which, counted, CHUNK_NAMES)
 }
 
 // One chunk of a dataset by its corner. Answers the number that `which` asks for: 0, where the refusal is asked for, says that the call
@@ -91,15 +93,15 @@ pub extern "C" fn cellumaq_lookup(
     corner: &[u8],
     which: u64,
 ) -> u64
-    ensures { λ r. ⌜ (let grid = doorGrid order rank (now (chunk .entry)) (now (present .entry)) «has_maximum» (now (maximum .entry)) in
+    ensures { λ r. ⌜ (let call = callOf (now (file .entry)) «offset_size» «length_size» address «element_bytes» order rank
+        (now (chunk .entry)) (now (present .entry)) «has_maximum» (now (maximum .entry)) in
         let at = shapeOf rank (now (corner .entry)) in
-        let call = callAt (now (file .entry)) address «offset_size» «length_size» grid «element_bytes» in
-        let answer = lookupAt (now (file .entry)) address «offset_size» «length_size» grid «element_bytes» at in
-        (r ≡ picked which (lookupNumbers answer))
-        × (which ≡ 0 → r ≡ 0 → (x : Option Rec) × (answer ≡ accepted x))
-        × ((x : Option Rec) → answer ≡ accepted x → Answers call at x)
-        × ((room : ℕ) (l : List Rec) → 0 < rank → listAt (now (file .entry)) address «offset_size» «length_size» grid «element_bytes» room ≡ accepted l
-        → isChunk grid at ≡ true → (x : Option Rec) × (r ≡ picked which (lookupNumbers (accepted x))) × Agrees l at x)) ⌝ }
+        let answer = lookupAt call at in
+        (r ≡ picked which (lookupAnswer answer))
+        × ZeroAccepts answer which r
+        × ((x : Option Rec) → answer ≡ accepted x → Answers (callIndex call) at x)
+        × ((room : ℕ) (l : List Rec) → 0 < rank → listAt call room ≡ accepted l → isChunk (call .grid) at ≡ true
+        → (x : Option Rec) × (r ≡ picked which (lookupAnswer (accepted x))) × Agrees l at x)) ⌝ }
 {
     let found = lookup_at(
         file,

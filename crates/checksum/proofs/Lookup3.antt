@@ -28,27 +28,31 @@ unfolding hashlittle
 begun [] i h = absurd (not-suc-le-zero h)
 begun (x ∷ s) i h = ap (λ (n : ℕ). blocks (n / 12) (seeded (seed (length (x ∷ s)) i)) (x ∷ s)) (omega arith)
 
+-- the hash from the words w and the bytes of s from `at` on
+abbrev pub hashFrom : List ℕ → ℕ → Words → ℕ
+hashFrom s at w = blocks ((length s - at - 1) / 12) w (drop at s)
+
 -- nothing of s is behind
-pub from-first : (s : List ℕ) (w : Words) → blocks ((length s - 0 - 1) / 12) w (drop 0 s) ≡ blocks ((length s - 1) / 12) w s
+pub from-first : (s : List ℕ) (w : Words) → hashFrom s 0 w ≡ blocks ((length s - 1) / 12) w s
 from-first s w = ap (λ (n : ℕ). blocks (n / 12) w s) (omega arith)
 
-pub opened : (s : List ℕ) (i : ℕ) → 0 < length s → (w : Words) → w ≡ seeded (seed (length s) i) → blocks ((length s - 0 - 1) / 12) w (drop 0 s) ≡ hashlittle s i
+pub opened : (s : List ℕ) (i : ℕ) → 0 < length s → (w : Words) → w ≡ seeded (seed (length s) i) → hashFrom s 0 w ≡ hashlittle s i
 opened s i h w is = rw is (from-first s (seeded (seed (length s) i)) ∙ begun s i h)
 
 module _ (s : List ℕ) (at : ℕ) (w : Words) where
   -- the hash of the part of s that is left
-  pub of-part : blocks ((length (take (length s - at) (drop at s)) - 1) / 12) w (take (length s - at) (drop at s)) ≡ blocks ((length s - at - 1) / 12) w (drop at s)
+  pub of-part : blocks ((length (take (length s - at) (drop at s)) - 1) / 12) w (take (length s - at) (drop at s)) ≡ hashFrom s at w
   of-part = rw (take-rest s at, length-drop)
 
   -- one block more
-  pub turned : 12 < length s - at → (v : Words) → v ≡ mixed (added w (take (length s - at) (drop at s))) → blocks ((length s - (at + 12) - 1) / 12) v (drop (at + 12) s) ≡ blocks ((length s - at - 1) / 12) w (drop at s)
+  pub turned : 12 < length s - at → (v : Words) → v ≡ mixed (added w (take (length s - at) (drop at s))) → hashFrom s (at + 12) v ≡ hashFrom s at w
   unfolding blocks
   turned h v is =
       let e : (length s - at - 1) / 12 ≡ suc ((length s - (at + 12) - 1) / 12) = omega arith in
       rw (is, take-rest s at, e) (ap (λ (l : List ℕ). blocks ((length s - (at + 12) - 1) / 12) (mixed (added w (drop at s))) l) (sym (drop-drop 12 at s)))
 
   -- the tail
-  pub ended : length s - at ≤ 12 → (v : Words) → v ≡ finalMixed (added w (take (length s - at) (drop at s))) → v .c ≡ blocks ((length s - at - 1) / 12) w (drop at s)
+  pub ended : length s - at ≤ 12 → (v : Words) → v ≡ finalMixed (added w (take (length s - at) (drop at s))) → v .c ≡ hashFrom s at w
   unfolding blocks
   ended h v is =
       let e : (length s - at - 1) / 12 ≡ 0 = omega arith in

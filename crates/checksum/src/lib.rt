@@ -181,6 +181,7 @@ fn hash_from(from: Words, s: &[u8]) -> u32
     let n = s.len();
     let mut w = from;
     let mut at = 0;
+    // The blocks before `at` are in w, and at least one byte is left: the rest, from w, gives the hash.
     while 12 < n - at {
         w = mix(add_block(w, &s[at..]));
         at += 12;
@@ -222,6 +223,7 @@ fn hashlittle_two(s: &[u8], t: &[u8], initval: u32) -> TwoHashes
     let mut v = start(s.len(), initval);
     let mut w = start(t.len(), initval);
     let mut at = 0;
+    // The blocks of s before `at` are in v, those of t in w, and at least one byte of each is left.
     while 12 < both - at {
         v = mix(add_block(v, &s[at..]));
         w = mix(add_block(w, &t[at..]));

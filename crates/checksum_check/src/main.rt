@@ -10,6 +10,7 @@ fn print_checksum(s: &[u8]) {
 // The checksum of every part of s that begins where s does, from 1 byte on.
 fn print_prefixes(s: &[u8]) {
     let mut n = 0;
+    // The parts of up to n bytes are printed.
     while n < s.len() {
         n += 1;
         print_checksum(&s[..n]);

@@ -73,17 +73,13 @@ sum-below (q ∷ qs) (c ∷ cs) h b =
     let e : max c 1 ≡ c = omega arith in
     rw e (digits-lt lt (sum-below qs cs (omega arith) (t .1)))
 
-quotients-sum : (qs cs : List ℕ) → length qs ≡ length cs → below qs cs ≡ true → quotients (slotSum qs cs) (multipliers cs) ≡ qs
-unfolding below every total pairwise multipliers quotients
-quotients-sum [] [] h b = refl
-quotients-sum [] (c ∷ cs) h b = absurd (omega arith)
-quotients-sum (q ∷ qs) [] h b = absurd (omega arith)
-quotients-sum (q ∷ qs) (c ∷ cs) h b =
-    let t = both (ltb q c) (below qs cs) b in
-    let lt = sum-below qs cs (omega arith) (t .1) in
-    rw (digits-div q lt, digits-mod q lt) (ap (λ (k : List ℕ). q ∷ k) (quotients-sum qs cs (omega arith) (t .1)))
+below-behind : (qs cs : List ℕ) → below qs cs ≡ true → below (drop 1 qs) (drop 1 cs) ≡ true
+unfolding below every
+below-behind [] cs b = refl
+below-behind (q ∷ qs) [] b = absurd (false-true b)
+below-behind (q ∷ qs) (c ∷ cs) b = both (ltb q c) (below qs cs) b .1
 
--- the leading quotient has no limit of its own
+-- the quotients of such a sum; the leading one has no limit of its own
 quotients-lead : (qs cs : List ℕ) → length qs ≡ length cs → below (drop 1 qs) (drop 1 cs) ≡ true → quotients (slotSum qs cs) (multipliers cs) ≡ qs
 unfolding total pairwise multipliers quotients
 quotients-lead [] [] h b = refl
@@ -91,7 +87,7 @@ quotients-lead [] (c ∷ cs) h b = absurd (omega arith)
 quotients-lead (q ∷ qs) [] h b = absurd (omega arith)
 quotients-lead (q ∷ qs) (c ∷ cs) h b =
     let lt = sum-below qs cs (omega arith) b in
-    rw (digits-div q lt, digits-mod q lt) (ap (λ (k : List ℕ). q ∷ k) (quotients-sum qs cs (omega arith) b))
+    rw (digits-div q lt, digits-mod q lt) (ap (λ (k : List ℕ). q ∷ k) (quotients-lead qs cs (omega arith) (below-behind qs cs b)))
 
 -- counts that have a quotient below them are not 0
 below-zero : (qs cs : List ℕ) → length qs ≡ length cs → below qs cs ≡ true → hasZero cs ≡ false

@@ -1,11 +1,16 @@
 // Prints what the grids of its input answer: refusals, the numbers of a grid, the offsets of slots, and the slot of a corner. The
-// input is numbers in decimal: how many cases, and each case. It begins with 0 where its shapes are numbers, else they are bytes; a
+// input is numbers in decimal: how many cases, and each case. A case begins with 0 where its shapes are numbers, else they are bytes; a
 // list is its length and its members.
+ghost use mathlib.Core.Path.{_≡_};
 ghost use Prim.Native.Nat.{_≤_};
 ghost use lib.ListN.{length};
+ghost use Rattle.refusal.specs.declared.Checked.the-variants.{Passed};
+ghost use Rattle.chunk_grid.specs.Grid.{Grid, gridTest};
+ghost use Rattle.chunk_grid.specs.Values.{gridOf, Numbers, Counted, Extents};
 use chunk_grid::Built;
 use chunk_grid::ChunkGrid;
 use chunk_grid::GridOrder;
+use chunk_grid::Numbering;
 use chunk_grid::Offsets;
 use chunk_grid::Slot;
 use chunk_grid::read_shape;
@@ -27,6 +32,7 @@ fn print_number(n: u64) {
 
 fn print_numbers(s: &[u64]) {
     let mut i = 0;
+    // The first i numbers are printed.
     while i < s.len() {
         print_number(s[i]);
         i += 1;
@@ -34,14 +40,10 @@ fn print_numbers(s: &[u64]) {
 }
 
 // The first n numbers of an array.
-fn print_first(s: &[u64; 32], n: u64) {
-    let mut i = 0;
-    while i < 32 {
-        if n <= i as u64 {
-            return;
-        }
-        print_number(s[i]);
-        i += 1;
+fn print_first(s: [u64; 32], n: u64) {
+    if n <= 32 {
+        let end = n as usize;
+        print_numbers(&s[..end]);
     }
 }
 
@@ -52,22 +54,100 @@ fn print_refusal(r: Refusal) {
     print_number(r.second);
 }
 
+// A grid's numbers, in the grid's order where they are multipliers, in dimension order elsewhere.
+fn print_numbering(
+    rank: u64,
+    numbering: Numbering,
+    counts: [u64; 32],
+    bound: [u64; 32],
+    down: [u64; 32],
+) {
+    print_text(b" leads");
+    print_number(numbering.rotated);
+    if numbering.numbers {
+        print_text(b" numbers");
+    } else {
+        print_text(b" numbers nothing");
+    }
+    print_text(b" counts");
+    print_first(counts, rank);
+    print_text(b" bounds");
+    print_first(bound, rank);
+    print_text(b" multipliers");
+    print_first(down, rank);
+    print_text(b"\n");
+}
+
+// What a slot's offsets come to, and the offsets.
+fn print_slot(
+    slot: u64,
+    rank: u64,
+    numbering: Numbering,
+    chunk: &[u64; 32],
+    bound: &[u64; 32],
+    down: &[u64; 32],
+)
+    requires { ⌜ ((g : Grid) × (Numbers rank (numbering .rotated) (now chunk) (now down) g) × (Extents rank (numbering .numbers) (now bound) g)) ⌝ }
+{
+    print_text(b"  slot");
+    print_number(slot);
+    print_text(b":");
+    let places = rank as usize;
+    let rotated = numbering.rotated as usize;
+    let numbers = numbering.numbers;
+    let mut offsets = [7u64; 32];
+    let found = offsets_in_extent(
+        &mut offsets,
+        slot,
+        places,
+        rotated,
+        numbers,
+        chunk,
+        bound,
+        down,
+    );
+    match found {
+        Offsets::Inside => {}
+        Offsets::Dropped => print_text(b" dropped"),
+        Offsets::Refused(r) => print_refusal(r),
+    }
+    print_first(offsets, rank);
+    print_text(b"\n");
+}
+
+fn print_slots(
+    from: u64,
+    to: u64,
+    rank: u64,
+    numbering: Numbering,
+    chunk: &[u64; 32],
+    bound: &[u64; 32],
+    down: &[u64; 32],
+)
+    requires { ⌜ ((g : Grid) × (Numbers rank (numbering .rotated) (now chunk) (now down) g) × (Extents rank (numbering .numbers) (now bound) g)) ⌝ }
+{
+    let mut s = from;
+    // The slots before s are printed.
+    while s < to {
+        print_slot(s, rank, numbering, chunk, bound, down);
+        s += 1;
+    }
+}
+
 // A corner's refusal, its slot, or none.
-fn print_corner(grid: ChunkGrid, corner: &[u64]) {
+fn print_corner(
+    grid: ChunkGrid,
+    corner: &[u64],
+    numbering: Numbering,
+    counts: &[u64; 32],
+    down: &[u64; 32],
+)
+    requires { ⌜ (gridTest (gridOf grid) ≡ Passed) × (Numbers (grid .rank) (numbering .rotated) (grid .chunk) (now down) (gridOf grid)) × (Counted (grid .rank) (now counts) (gridOf grid)) ⌝ }
+{
     print_text(b"  corner");
     print_numbers(corner);
     print_text(b":");
-    let mut counts = [0u64; 32];
-    let mut bound = [0u64; 32];
-    let mut down = [0u64; 32];
-    let numbering = grid.numbering(&mut counts, &mut bound, &mut down);
-    let checked = numbering.checked;
-    if let Checked::Refused(r) = checked {
-        print_refusal(r);
-        return;
-    }
-    let tested = corner_test(grid, corner);
-    if let Checked::Refused(r) = tested {
+    if let Checked::Refused(r) = corner_test(grid, corner) {
         print_refusal(r);
         return;
     }
@@ -76,60 +156,14 @@ fn print_corner(grid: ChunkGrid, corner: &[u64]) {
     }
     let chunk = grid.chunk;
     let rotated = numbering.rotated as usize;
-    match slot_of(corner, rotated, &chunk, &counts, &down) {
+    match slot_of(corner, rotated, &chunk, counts, down) {
         Slot::At(s) => print_number(s),
         Slot::NoSlot => print_text(b" none"),
     }
 }
 
-// What a slot's offsets come to, and the offsets.
-fn print_slot(grid: ChunkGrid, slot: u64) {
-    print_text(b"  slot");
-    print_number(slot);
-    print_text(b":");
-    let mut counts = [0u64; 32];
-    let mut bound = [0u64; 32];
-    let mut down = [0u64; 32];
-    let numbering = grid.numbering(&mut counts, &mut bound, &mut down);
-    let checked = numbering.checked;
-    if let Checked::Refused(r) = checked {
-        print_refusal(r);
-        return;
-    }
-    let rank = grid.rank as usize;
-    let rotated = numbering.rotated as usize;
-    let numbers = numbering.numbers;
-    let chunk = grid.chunk;
-    let mut offsets = [7u64; 32];
-    let found = offsets_in_extent(
-        &mut offsets,
-        slot,
-        rank,
-        rotated,
-        numbers,
-        &chunk,
-        &bound,
-        &down,
-    );
-    match found {
-        Offsets::Inside => {}
-        Offsets::Dropped => print_text(b" dropped"),
-        Offsets::Refused(r) => print_refusal(r),
-    }
-    print_first(&offsets, grid.rank);
-    print_text(b"\n");
-}
-
-fn print_slots(grid: ChunkGrid, from: u64, to: u64) {
-    let mut s = from;
-    while s < to {
-        print_slot(grid, s);
-        s += 1;
-    }
-}
-
-// A grid's numbers, in the grid's order where they are multipliers, in dimension order elsewhere.
-fn print_built(built: Built) {
+// A built grid's numbers, what the slots from `from` to `to` come to, and a corner.
+fn print_built(built: Built, from: u64, to: u64, corner: &[u64]) {
     let checked = built.checked;
     if let Checked::Refused(r) = checked {
         print_refusal(r);
@@ -141,115 +175,72 @@ fn print_built(built: Built) {
     let mut bound = [0u64; 32];
     let mut down = [0u64; 32];
     let numbering = grid.numbering(&mut counts, &mut bound, &mut down);
-    let checked = numbering.checked;
-    if let Checked::Refused(r) = checked {
+    let tested = numbering.checked;
+    if let Checked::Refused(r) = tested {
         print_refusal(r);
         return;
     }
-    let rank = grid.rank;
-    print_text(b" leads");
-    print_number(numbering.rotated);
-    if numbering.numbers {
-        print_text(b" numbers");
-    } else {
-        print_text(b" numbers nothing");
-    }
-    print_text(b" counts");
-    print_first(&counts, rank);
-    print_text(b" bounds");
-    print_first(&bound, rank);
-    print_text(b" multipliers");
-    print_first(&down, rank);
+    let chunk = grid.chunk;
+    print_numbering(grid.rank, numbering, counts, bound, down);
+    print_slots(from, to, grid.rank, numbering, &chunk, &bound, &down);
+    print_corner(grid, corner, numbering, &counts, &down);
     print_text(b"\n");
 }
 
-fn print_corner_line(grid: ChunkGrid, corner: &[u64]) {
-    print_corner(grid, corner);
-    print_text(b"\n");
-}
-
-// A grid's numbers, what some slots come to, and a corner.
-fn print_order(built: Built, from: u64, to: u64, corner: &[u64]) {
-    print_built(built);
-    let checked = built.checked;
-    if let Checked::Refused(_) = checked {
-        return;
+// The numbers as bytes, at most as many as `out` has; how many they are.
+fn bytes_of(out: &mut [u8], numbers: &[u64]) -> usize
+    ensures { λ r. ⌜ r ≤ length (now (out .entry)) ⌝ }
+{
+    let mut i = 0;
+    // The first i numbers are stored.
+    while i < out.len() {
+        if numbers.len() <= i {
+            return i;
+        }
+        out[i] = (numbers[i] % 256) as u8;
+        i += 1;
     }
-    let grid = built.grid;
-    print_slots(grid, from, to);
-    print_corner_line(grid, corner);
+    i
 }
 
-// The grid of these shapes in both orders.
-fn print_grid(
+// A grid whose shapes and corner are given as bytes, without slots.
+fn print_bytes(
     rank: u64,
     chunk: &[u64],
     present: &[u64],
     has_maximum: bool,
     maximum: &[u64],
-    from: u64,
-    to: u64,
     corner: &[u64],
 ) {
-    print_text(b"R");
-    let rows = ChunkGrid::new(
-        rank,
-        chunk,
-        present,
-        has_maximum,
-        maximum,
-        GridOrder::RowMajor,
-    );
-    print_order(rows, from, to, corner);
-    print_text(b"U");
-    let first = ChunkGrid::new(
-        rank,
-        chunk,
-        present,
-        has_maximum,
-        maximum,
-        GridOrder::UnlimitedFirst,
-    );
-    print_order(first, from, to, corner);
-}
-
-// A grid of shapes that are given as bytes, and the test of a corner.
-fn print_bytes(
-    rank: u64,
-    chunk: &[u8],
-    present: &[u8],
-    has_maximum: bool,
-    maximum: &[u8],
-    corner: &[u8],
-) {
-    print_text(b"bytes");
+    let mut lengths = [0u8; 34];
+    let mut extents = [0u8; 34];
+    let mut limits = [0u8; 34];
+    let mut place = [0u8; 34];
+    let c = bytes_of(&mut lengths, chunk);
+    let p = bytes_of(&mut extents, present);
+    let m = bytes_of(&mut limits, maximum);
+    let k = bytes_of(&mut place, corner);
     let built = ChunkGrid::from_bytes(
         rank,
-        chunk,
-        present,
+        &lengths[..c],
+        &extents[..p],
         has_maximum,
-        maximum,
+        &limits[..m],
         GridOrder::UnlimitedFirst,
     );
-    print_built(built);
-    let checked = built.checked;
-    if let Checked::Refused(_) = checked {
-        return;
-    }
-    if 32 < rank {
-        return;
-    }
-    let grid = built.grid;
     let mut shape = [0u64; 32];
-    let n = read_shape(&mut shape, rank, corner);
-    print_shape(grid, shape, n);
+    let mut n = 0;
+    if rank <= 32 {
+        n = read_shape(&mut shape, rank, &place[..k]);
+    }
+    print_shape(built, shape, n);
 }
 
 // The corner of the first n numbers.
-fn print_shape(grid: ChunkGrid, shape: [u64; 32], n: u64) {
+fn print_shape(built: Built, shape: [u64; 32], n: u64) {
     if n <= 32 {
         let end = n as usize;
-        print_corner_line(grid, &shape[..end]);
+        print_built(built, 0, 0, &shape[..end]);
     }
 }
 
@@ -272,6 +263,7 @@ fn digit(b: u8) -> u64
 // The number that begins at the first digit from `from` on; 0 where there is none, or one that 64 bits don't hold.
 fn number(s: &[u8], from: usize) -> Item {
     let mut at = from;
+    // No digit lies between `from` and `at`.
     while at < s.len() {
         if is_digit(s[at]) {
             break;
@@ -279,6 +271,7 @@ fn number(s: &[u8], from: usize) -> Item {
         at += 1;
     }
     let mut value = 0u64;
+    // `value` is the number of the digits before `at`.
     while at < s.len() {
         if !is_digit(s[at]) {
             break;
@@ -300,6 +293,7 @@ fn list(out: &mut [u64], s: &[u8], from: usize) -> Item
     let n = number(s, from);
     let mut at = n.at;
     let mut i = 0usize;
+    // The first i members are read, and the input goes on at `at`.
     while i < out.len() {
         if n.value <= i as u64 {
             break;
@@ -315,26 +309,10 @@ fn list(out: &mut [u64], s: &[u8], from: usize) -> Item
     }
 }
 
-// The same of bytes.
-fn byte_list(out: &mut [u8], s: &[u8], from: usize) -> Item
-    ensures { λ r. ⌜ r .value ≤ 24 ⌝ }
-{
-    let mut numbers = [0u64; 24];
-    let item = list(&mut numbers, s, from);
-    let mut i = 0;
-    while i < out.len() {
-        if 24 <= i {
-            break;
-        }
-        out[i] = (numbers[i] % 256) as u8;
-        i += 1;
-    }
-    item
-}
-
-// Shapes of numbers, a range of slots, and a corner.
-fn run_grid(s: &[u8], from: usize) -> usize {
-    let rank = number(s, from);
+// A case: its kind, its shapes, a range of slots, and a corner.
+fn run_case(s: &[u8], from: usize) -> usize {
+    let kind = number(s, from);
+    let rank = number(s, kind.at);
     let mut chunk = [0u64; 34];
     let mut present = [0u64; 34];
     let mut maximum = [0u64; 34];
@@ -350,7 +328,8 @@ fn run_grid(s: &[u8], from: usize) -> usize {
     let y = p.value as usize;
     let z = m.value as usize;
     let w = k.value as usize;
-    print_grid(
+    print_case(
+        kind.value,
         rank.value,
         &chunk[..x],
         &present[..y],
@@ -363,46 +342,50 @@ fn run_grid(s: &[u8], from: usize) -> usize {
     k.at
 }
 
-// Shapes and a corner of bytes.
-fn run_bytes(s: &[u8], from: usize) -> usize {
-    let rank = number(s, from);
-    let mut chunk = [0u8; 24];
-    let mut present = [0u8; 24];
-    let mut maximum = [0u8; 24];
-    let mut corner = [0u8; 24];
-    let c = byte_list(&mut chunk, s, rank.at);
-    let p = byte_list(&mut present, s, c.at);
-    let has = number(s, p.at);
-    let m = byte_list(&mut maximum, s, has.at);
-    let k = byte_list(&mut corner, s, m.at);
-    let x = c.value as usize;
-    let y = p.value as usize;
-    let z = m.value as usize;
-    let w = k.value as usize;
-    print_bytes(
-        rank.value,
-        &chunk[..x],
-        &present[..y],
-        has.value != 0,
-        &maximum[..z],
-        &corner[..w],
-    );
-    k.at
-}
-
-fn run_case(s: &[u8], from: usize) -> usize {
-    let kind = number(s, from);
-    if kind.value == 0 {
-        run_grid(s, kind.at)
-    } else {
-        run_bytes(s, kind.at)
+// The grid of these shapes in both orders, or of these bytes.
+fn print_case(
+    kind: u64,
+    rank: u64,
+    chunk: &[u64],
+    present: &[u64],
+    has_maximum: bool,
+    maximum: &[u64],
+    from: u64,
+    to: u64,
+    corner: &[u64],
+) {
+    if kind != 0 {
+        print_text(b"bytes");
+        print_bytes(rank, chunk, present, has_maximum, maximum, corner);
+        return;
     }
+    print_text(b"R");
+    let rows = ChunkGrid::new(
+        rank,
+        chunk,
+        present,
+        has_maximum,
+        maximum,
+        GridOrder::RowMajor,
+    );
+    print_built(rows, from, to, corner);
+    print_text(b"U");
+    let first = ChunkGrid::new(
+        rank,
+        chunk,
+        present,
+        has_maximum,
+        maximum,
+        GridOrder::UnlimitedFirst,
+    );
+    print_built(first, from, to, corner);
 }
 
 // `count` cases.
 fn run(s: &[u8], count: u64, from: usize) {
     let mut at = from;
     let mut i = 0;
+    // The first i cases are done, and the next one begins at `at`.
     while i < count {
         at = run_case(s, at);
         i += 1;

@@ -1,10 +1,11 @@
-// Compares the place of slots with a plain walk through the super blocks, for every served combination of least block elements, max
-// bits and page exponent; then prints sizes, places and page bits of a worked array.
+// Compares the place of slots with a plain walk through the super blocks, for every served combination of least block
+// elements, max bits and page exponent; then prints sizes, places and page bits of a worked array.
+ghost use mathlib.Core.Path.{_≡_};
 ghost use Rattle.ea_header.specs.Values.{Served};
 use ea_geometry::EaGeometry;
 use ea_geometry::Place;
 use ea_geometry::page_bits::page_is_initialized;
-use ea_header::ExtensibleArrayHeader;
+use ea_header::Parameters;
 use libc::STDOUT_FILENO;
 use std::num::wrapping_add_u64;
 use std::num::wrapping_sub_u64;
@@ -74,7 +75,8 @@ impl Reached {
     }
 }
 
-// What the walk knows of the array: its super blocks, how many of them the index block names the data blocks of, and a page's elements.
+// What the walk knows of the array: its super blocks, how many of them the index block names the data blocks of, and a
+// page's elements.
 struct Array {
     supers: u64,
     direct: u64,
@@ -82,7 +84,8 @@ struct Array {
 }
 
 impl Array {
-    // Whether a place is that of element i of data block k of a super block, and its bit that one: none past the last super block.
+    // Whether a place is that of element i of data block k of a super block, and its bit that one: none past the last
+    // super block.
     fn agrees(self, at: Reached, p: Place, k: u64, i: u64, bit: u64) -> bool {
         let super_block = at.super_block;
         let paged = self.direct <= super_block && self.page < at.elements;
@@ -120,7 +123,7 @@ impl Array {
 
     // The first, the last and the one-past slot of a super block.
     fn compare(self, g: EaGeometry, at: Reached) -> Tally
-        requires { ⌜ Served (g .header) ⌝ }
+        requires { ⌜ Served (g .parameters) ⌝ }
     {
         let last = wrapping_sub_u64(wrapping_add_u64(at.first, at.slots), 1);
         let blocks = wrapping_sub_u64(at.blocks, 1);
@@ -134,12 +137,13 @@ impl Array {
     }
 
     fn compare_all(self, g: EaGeometry, start: Reached) -> Tally
-        requires { ⌜ Served (g .header) ⌝ }
+        requires { ⌜ Served (g .parameters) ⌝ }
     {
         let supers = self.supers;
         let mut t = Tally::none();
         let mut at = start;
         let mut u: u64 = 0;
+        // The first u super blocks are compared, and `at` is super block u.
         while u < supers {
             t = t.plus(self.compare(g, at));
             at = at.next();
@@ -184,9 +188,9 @@ fn is_inline(p: Place, s: u64) -> bool {
 }
 
 fn compare_inline(g: EaGeometry) -> Tally
-    requires { ⌜ Served (g .header) ⌝ }
+    requires { ⌜ Served (g .parameters) ⌝ }
 {
-    let inline = g.header.idx_blk_elmts as u64;
+    let inline = g.parameters.idx_blk_elmts as u64;
     if inline == 0 {
         return Tally::none();
     }
@@ -196,38 +200,37 @@ fn compare_inline(g: EaGeometry) -> Tally
         .with(is_inline(g.place_of(last), last))
 }
 
-// 2^k, by doubling.
-fn power(k: u64) -> u64 {
-    let mut n: u64 = 1;
-    let mut i: u64 = 0;
-    while i < k {
-        n = wrapping_add_u64(n, n);
-        i += 1;
-    }
-    n
+// 2^k, for k below 64.
+fn power(k: u8) -> u64 {
+    1u64 << (k as u64 % 64)
 }
 
-// A header with least block elements 2^log.
-fn header_of(log: u8, bits: u8, page: u8, inline: u8, minimum: u8) -> ExtensibleArrayHeader {
-    ExtensibleArrayHeader {
+fn parameters_of(least: u8, bits: u8, page: u8, inline: u8, minimum: u8) -> Parameters
+    ensures { λ r. ⌜ (r .«min_dblk_nelmts» ≡ least) × (r .«max_nelmts_bits» ≡ bits) ⌝ }
+    ensures { λ r. ⌜ (r .«super_blk_min_nelmts» ≡ minimum) × (r .«max_dblk_nelmts_bits» ≡ page) ⌝ }
+{
+    Parameters {
         client_id: 0,
         element_size: 8,
         max_nelmts_bits: bits,
         idx_blk_elmts: inline,
-        min_dblk_nelmts: (power(log as u64) % 256) as u8,
+        min_dblk_nelmts: least,
         super_blk_min_nelmts: minimum,
         max_dblk_nelmts_bits: page,
-        num_elements: 0,
-        index_block_address: 0,
     }
 }
 
-fn compare_header(log: u8, bits: u8, page: u8, inline: u8, minimum: u8) -> Tally {
-    let header = header_of(log, bits, page, inline, minimum);
-    if !header.is_served() {
+// An array with least block elements 2^log.
+fn compare_parameters(log: u8, bits: u8, page: u8, inline: u8, minimum: u8) -> Tally {
+    let least = power(log);
+    let parameters = parameters_of((least % 256) as u8, bits, page, inline, minimum);
+    if !parameters.is_served() {
         return Tally::none().with(false);
     }
-    let g = EaGeometry::from_header(header, 8);
+    let g = EaGeometry {
+        parameters,
+        offset_size: 8,
+    };
     let mut supers: u64 = 1;
     if log <= bits {
         supers = (bits - log) as u64 + 1;
@@ -235,9 +238,8 @@ fn compare_header(log: u8, bits: u8, page: u8, inline: u8, minimum: u8) -> Tally
     let array = Array {
         supers,
         direct: minimum_of(minimum as u64, supers),
-        page: power(page as u64),
+        page: power(page),
     };
-    let least = power(log as u64);
     let start = Reached {
         super_block: 0,
         blocks: 1,
@@ -248,32 +250,17 @@ fn compare_header(log: u8, bits: u8, page: u8, inline: u8, minimum: u8) -> Tally
     compare_inline(g).plus(array.compare_all(g, start))
 }
 
-fn compare_pages(log: u8, bits: u8, inline: u8, minimum: u8) -> Tally {
-    let mut t = Tally::none();
-    let mut page: u8 = 0;
-    while page <= 32 {
-        t = t.plus(compare_header(log, bits, page, inline, minimum));
-        page += 1;
-    }
-    t
-}
-
-fn compare_bits(log: u8, inline: u8, minimum: u8) -> Tally {
-    let mut t = Tally::none();
-    let mut bits: u8 = 0;
-    while bits <= 62 {
-        t = t.plus(compare_pages(log, bits, inline, minimum));
-        bits += 1;
-    }
-    t
-}
-
+// Every page exponent to 32, within all max bits to 62, within all least block elements to 2^7.
 fn print_comparison(inline: u8, minimum: u8) {
     let mut t = Tally::none();
-    let mut log: u8 = 0;
-    while log <= 7 {
-        t = t.plus(compare_bits(log, inline, minimum));
-        log += 1;
+    let mut n: u64 = 0;
+    // The first n of the 8 × 63 × 33 combinations are compared.
+    while n < 16632 {
+        let log = (n / 2079) as u8;
+        let bits = (n / 33 % 63) as u8;
+        let page = (n % 33) as u8;
+        t = t.plus(compare_parameters(log, bits, page, inline, minimum));
+        n += 1;
     }
     print_tally(inline, minimum, t);
 }
@@ -303,6 +290,12 @@ fn end_line() {
     io::write_all(STDOUT_FILENO, b"\n");
 }
 
+fn print_element(super_block: u64, block: u64, element: u64) {
+    print_word(b" super block ", super_block);
+    print_word(b" block ", block);
+    print_word(b" element ", element);
+}
+
 fn print_place(slot: u64, p: Place) {
     print_word(b"slot ", slot);
     match p {
@@ -311,11 +304,7 @@ fn print_place(slot: u64, p: Place) {
             super_block,
             block,
             element,
-        } => {
-            print_word(b" super block ", super_block);
-            print_word(b" block ", block);
-            print_word(b" element ", element);
-        }
+        } => print_element(super_block, block, element),
         Place::Page {
             super_block,
             block,
@@ -323,9 +312,7 @@ fn print_place(slot: u64, p: Place) {
             page,
             bit,
         } => {
-            print_word(b" super block ", super_block);
-            print_word(b" block ", block);
-            print_word(b" element ", element);
+            print_element(super_block, block, element);
             print_word(b" page ", page);
             print_word(b" bit ", bit);
         }
@@ -336,13 +323,18 @@ fn print_place(slot: u64, p: Place) {
     end_line();
 }
 
-// The array with max bits 32, least block elements 16, minimum 4, inline 2 and page exponent 10.
-fn print_worked(offset_size: u64) {
-    let header = header_of(4, 32, 10, 2, 4);
-    if !header.is_served() {
-        return;
+// The array with least block elements 16, max bits 32, page exponent 10, inline 2 and minimum 4.
+fn worked(offset_size: u64) -> EaGeometry
+    ensures { λ r. ⌜ Served (r .parameters) ⌝ }
+{
+    EaGeometry {
+        parameters: parameters_of(16, 32, 10, 2, 4),
+        offset_size,
     }
-    let g = EaGeometry::from_header(header, offset_size);
+}
+
+fn print_worked(offset_size: u64) {
+    let g = worked(offset_size);
     print_word(b"offset size ", offset_size);
     print_word(b" direct ", g.direct_pointers());
     print_word(b" super ", g.super_pointers());
@@ -351,11 +343,7 @@ fn print_worked(offset_size: u64) {
 }
 
 fn print_worked_place(slot: u64) {
-    let header = header_of(4, 32, 10, 2, 4);
-    if !header.is_served() {
-        return;
-    }
-    print_place(slot, EaGeometry::from_header(header, 8).place_of(slot));
+    print_place(slot, worked(8).place_of(slot));
 }
 
 // Every bit of some page bits that begin at byte 1.
@@ -364,6 +352,7 @@ fn print_bits(s: &[u8]) {
         return;
     }
     let mut bit = 0;
+    // The bits before this one are printed.
     while bit < 16 {
         print_bit(page_is_initialized(s, 1, bit));
         bit += 1;

@@ -1,141 +1,137 @@
--- What the counting walk has come to, and each step from there. Assumes nothing.
-use Prim.Native.Nat.{ℕ, suc, _+_, _-_, _^_, _<_, _≤_}
-use mathlib.Core.Path.{_≡_, sym, ap, _∙_}
+-- How many spans there are, step by step, and that they are few. Assumes nothing.
+use Prim.Native.Nat.{ℕ, zero, suc, _+_, _-_, _^_, _<_, _≤_}
+use mathlib.Core.Path.{_≡_, refl, sym, ap, _∙_}
 use mathlib.Core.Bool.{true, false}
-use mathlib.Core.List.{List}
-use mathlib.Core.Logic.{⊎-elim}
+use mathlib.Core.List.{List, []}
 use native.Mathlib.Omega.{arith}
 use native.Mathlib.Nat.{sub-zero}
 use native.Mathlib.Numerals.{add-one}
-use lib.ListN.{length}
+use lib.ListN.{length, length-append}
 use Rattle.refusal.specs.declared.Refusal.{Refusal}
-use Rattle.refusal.specs.declared.Checked.{Checked}
-use Rattle.refusal.specs.declared.Checked.the-variants.{Passed, Refused}
-use Rattle.refusal.proofs.Tests.{false-true, then-inv}
-use Rattle.ea_header.specs.declared.ExtensibleArrayHeader.{ExtensibleArrayHeader}
-use Rattle.ea_header.specs.Values.{Served}
-use Rattle.ea_geometry.specs.declared.EaGeometry.{EaGeometry}
-use Rattle.ea_geometry.specs.Sizes.{superBlocks, blocks, directSuperBlocks, blocksBefore}
-use Rattle.ea_geometry.specs.Extents.{superExtent}
-use Rattle.ea_geometry.proofs.Counts.{supers-few, blocks-before-few}
-use Rattle.refusal.specs.declared.Counted.{Counted}
-use Rattle.ea_blocks.specs.declared.enter.Entered.the-variants.{Absent, At, Refused as EnteredRefused}
-use Rattle.ea_blocks.specs.Call.{Call}
-use Rattle.ea_blocks.specs.Structures.{isDirect, superAt, blockUndefined}
-use Rattle.ea_blocks.specs.Values.{IndexInFile}
-use Rattle.refusal.specs.Outcome.{countedOf}
+use Rattle.refusal.specs.declared.Counted.the-variants.{Count, Refused as CountedRefused}
+use Rattle.refusal.specs.Outcome.{accepted, also, countedOf}
 use Rattle.refusal.specs.Values.{plus}
-use Rattle.refusal.proofs.Counts.{answered, plus-zero, plus-none, plus-also}
-use Rattle.ea_blocks.proofs.StructureTests.{super-seen, not-direct}
-use Rattle.span_walk.specs.Spans.{superSpan, blockSpan}
-use Rattle.span_walk.specs.Walk.{superTest, blocksFrom, supersFrom}
-use Rattle.ea_spans.specs.Values.{callAt, EnteredSpan}
-use Rattle.ea_spans.proofs.Tests.{seen}
-use Rattle.span_walk.proofs.Turns.{behindSuper, supers-none, supers-direct, supers-undefined, supers-refused, supers-tested, blocks-none, blocks-undefined, blocks-defined}
+use Rattle.refusal.proofs.Tests.{by-cond}
+use Rattle.refusal.proofs.Outcomes.{yields-inv, also-inv}
+use Rattle.refusal.proofs.Counts.{counted-inv, refused-inv, plus-zero, plus-none}
+use Rattle.fields.specs.Fields.{undefined}
+use Rattle.ea_header.specs.Values.{Served}
+use Rattle.ea_geometry.specs.Sizes.{superBlocks, blocks, blocksBefore}
+use Rattle.ea_geometry.proofs.Counts.{supers-few, blocks-before-few}
+use Rattle.ea_blocks.specs.Array.{Array}
+use Rattle.ea_blocks.specs.Structures.{isDirect, superUndefined, blockUndefined}
+use Rattle.span_walk.specs.declared.Span.{Span}
+use Rattle.span_walk.specs.Walk.{Spanning, blockSpans, superSpans, supersFrom, indexSpans}
+use Rattle.span_walk.proofs.Joined.{joined-inv, plus-joined, plus-refused}
+use Rattle.span_walk.proofs.Turns.{supers-none, supers-next, blocks-none, blocks-undefined, blocks-defined}
 
--- the data blocks up to data block k of super block u, and the super blocks up to u, are few
-pub few-enough : (h : ExtensibleArrayHeader) → Served h → (u k : ℕ) → u < superBlocks h → k ≤ blocks u → u + 1 + (blocksBefore u + k) < 2 ^ 34
+-- a count, or a refusal, with one span more
+pub counted-more : (s : Span) (a : Spanning) (n : ℕ) → Count n ≡ countedOf a → Count (n + 1) ≡ countedOf (also s a)
+unfolding countedOf also
+counted-more s a n h = let i = counted-inv a n h in rw (i .1) (ap Count (let z : n + 1 ≡ suc (length (i .0)) = omega (arith, i .2) in z))
+
+pub refused-more : (s : Span) (a : Spanning) (r : Refusal) → CountedRefused r ≡ countedOf a → CountedRefused r ≡ countedOf (also s a)
+unfolding countedOf also
+refused-more s a r h = rw (refused-inv a r h) refl
+
+-- There are no more spans than super blocks and data blocks.
+pub block-spans-few : (a : Array) (u j k : ℕ) → length (blockSpans a u j k) ≤ j
+unfolding blockSpans
+block-spans-few a u zero k = omega arith
+block-spans-few a u (suc j) k =
+    let i = block-spans-few a u j (k + 1) in
+    by-cond (λ (l : List Span). length l ≤ suc j) (blockUndefined a u k) (λ t. omega arith) (λ t. omega arith)
+
+super-few : (a : Array) (u : ℕ) (l : List Span) → superSpans a u ≡ accepted l → length l ≤ blocks u + 1
+unfolding superSpans
+super-few a u l h =
+    let i = block-spans-few a u (blocks u) 0 in
+    by-cond P (isDirect a u) (λ d e. let z : blockSpans a u (blocks u) 0 ≡ l = cc in omega (arith, ap length z))
+    (λ d. by-cond P (superUndefined a u) (λ w e. let z : l ≡ [] = cc in omega (arith, ap length z))
+    (λ w e.
+    let o = also-inv _ _ l (yields-inv _ _ l e .1) in
+    let z : blockSpans a u (blocks u) 0 ≡ o .0 = cc in
+    omega (arith, ap length z, ap length (o .2)))) h
+  where
+    P : Spanning → Type 0
+    P b = b ≡ accepted l → length l ≤ blocks u + 1
+
+before-next : (u : ℕ) → blocksBefore (u + 1) ≡ blocksBefore u + blocks u
 unfolding blocksBefore
-few-enough h v u k lt le = let a = blocks-before-few h v (suc u) (omega arith) in let b = supers-few h v in omega arith
+before-next u = rw (add-one u) refl
 
--- a super block that was stepped into: its position, and its place in the file
-pub entered-at : (c : Call) (u at : ℕ) → EnteredSpan c u (At at) → isDirect c u ≡ false → at ≡ superAt c u
-entered-at c u at e d = ⊎-elim (λ (x : isDirect c u ≡ true). absurd (false-true (sym d ∙ x))) (λ x. x .3) e
+supers-length : (a : Array) (j u : ℕ) (l : List Span) → supersFrom a j u ≡ accepted l → length l + blocksBefore u ≤ j + blocksBefore (u + j)
+unfolding supersFrom
+supers-length a zero u l h =
+    let e : l ≡ [] = cc in
+    let z : u + 0 ≡ u = omega arith in
+    rw (z, e) (omega arith)
+supers-length a (suc j) u l h =
+    let p = joined-inv _ _ l h in
+    let z : u + suc j ≡ u + 1 + j = omega arith in
+    rw z (omega (arith, super-few a u (p .first) (p .first-is), supers-length a j (u + 1) (p .second) (p .second-is), before-next u, ap length (p .is), length-append (p .first) (p .second)))
 
-pub entered-room : (f : List ℕ) (g : EaGeometry) (u at : ℕ) → EnteredSpan (callAt f g) u (At at) → directSuperBlocks (g .header) ≤ u
-    → at + superExtent (g .header) (g .«offset_size») u ≤ length f
-unfolding superTest
-entered-room f g u at e le =
-    ⊎-elim (λ (x : isDirect (callAt f g) u ≡ true). absurd (false-true (sym (not-direct (callAt f g) f g (seen f g) u le) ∙ x)))
-    (λ x. rw (x .3) (super-seen (callAt f g) f g (seen f g) u (then-inv _ _ (x .2) .1))) e
+-- so they are few
+supers-bound : (a : Array) (l : List Span) → Served (a .parameters) → supersFrom a (superBlocks (a .parameters)) 0 ≡ accepted l → length l < 2 ^ 34
+supers-bound a l v h =
+    let n = superBlocks (a .parameters) in
+    let z : 0 + n ≡ n = omega arith in
+    omega (arith, rw z at (supers-length a n 0 l h), blocks-before-few (a .parameters) v n (omega arith), supers-few (a .parameters) v)
 
--- what stays the same
-pub record Fixed (f : List ℕ) (g : EaGeometry) (supers directs : ℕ) : Type 0 where
-  pub super-blocks : supers ≡ superBlocks (g .header)
-  pub direct-ones : directs ≡ directSuperBlocks (g .header)
-  pub index : IndexInFile f g
+pub supers-bounded : (a : Array) (n : ℕ) → Served (a .parameters) → Count n ≡ countedOf (supersFrom a (superBlocks (a .parameters)) 0) → n < 2 ^ 34
+supers-bounded a n v h = let i = counted-inv _ n h in omega (arith, i .2, supers-bound a (i .0) v (i .1))
 
-module _ (c : Call) where
-  abbrev all : ℕ
-  all = superBlocks (c .header)
+pub index-bounded : (a : Array) (n : ℕ) → Served (a .parameters) → Count n ≡ countedOf (indexSpans a) → n < 2 ^ 35
+unfolding indexSpans
+index-bounded a n v h =
+    by-cond (λ (b : Spanning). Count n ≡ countedOf b → n < 2 ^ 35) (undefined (a .offsetSize) (a .indexAt))
+    (λ t e. let i = counted-inv _ n e in let z : i .0 ≡ [] = cc in omega (arith, i .2, ap length z))
+    (λ t e.
+    let i = counted-inv _ n e in
+    let o = also-inv _ _ (i .0) (yields-inv _ _ (i .0) (i .1) .1) in
+    omega (arith, i .2, ap length (o .2), supers-bound a (o .0) v (o .1))) h
 
-  abbrev whole : Counted
-  whole = countedOf (supersFrom c all 0)
+-- At data block k of n of super block u: of those before it `total` are pointed to.
+module _ (a : Array) (u n : ℕ) where
+  pub record AtBlock (total k : ℕ) : Type 0 where
+    pub few : total ≤ k
+    pub rest : total + length (blockSpans a u (n - k) k) ≡ length (blockSpans a u n 0)
 
-  -- done, with this refusal or count
-  abbrev pub Done : Checked → ℕ → Type 0
-  Done refusal total = answered refusal total ≡ whole
+  pub block-first : AtBlock 0 0
+  block-first = record { few = omega arith; rest = rw sub-zero (omega arith) }
 
-  -- at super block u, `total` spans counted
+  module _ {total k : ℕ} (s : AtBlock total k) where
+    pub blocks-done : n ≤ k → total ≡ length (blockSpans a u n 0)
+    blocks-done le = omega (arith, s .rest, ap length (blocks-none a u n k le))
+
+    pub block-skip : k < n → blockUndefined a u k ≡ true → AtBlock total (k + 1)
+    block-skip lt e = record { few = let x = s .few in omega arith; rest = omega (arith, s .rest, ap length (blocks-undefined a u n k lt e)) }
+
+    pub block-counted : k < n → blockUndefined a u k ≡ false → AtBlock (total + 1) (k + 1)
+    block-counted lt e = record { few = let x = s .few in omega arith; rest = omega (arith, s .rest, ap length (blocks-defined a u n k lt e)) }
+
+-- At super block u of n: those before it are accepted, and have `total` spans.
+module _ (a : Array) (n : ℕ) where
   pub record AtSuper (total u : ℕ) : Type 0 where
     pub few : total ≤ u + blocksBefore u
-    pub rest : plus total (supersFrom c (all - u) u) ≡ whole
+    pub rest : plus total (supersFrom a (n - u) u) ≡ countedOf (supersFrom a n 0)
 
-  -- at its data block k
-  pub record AtBlock (total u super k : ℕ) : Type 0 where
-    pub few : total ≤ u + 1 + (blocksBefore u + k)
-    pub entered : EnteredSpan c u (At super)
-    pub rest : plus total (blocksFrom c u (blocks u - k) k (behindSuper c all u)) ≡ whole
+  pub super-first : AtSuper 0 0
+  super-first = record { few = omega arith; rest = rw sub-zero (plus-zero (supersFrom a n 0)) }
 
-  pub at-first : AtSuper 0 0
-  at-first = record { few = omega arith; rest = rw sub-zero (plus-zero (supersFrom c all 0)) }
+  module _ {total u : ℕ} (s : AtSuper total u) where
+    pub few-counted : Served (a .parameters) → u ≤ superBlocks (a .parameters) → total < 2 ^ 34
+    few-counted v le = let x = s .few in omega (arith, blocks-before-few (a .parameters) v u le, supers-few (a .parameters) v)
 
-  module _ (total u : ℕ) (s : AtSuper total u) where
-    pub supers-done : all ≤ u → Done Passed total
-    unfolding answered
-    supers-done le = sym (plus-none total _ (supers-none c all u le)) ∙ s .rest
+    pub supers-done : n ≤ u → Count total ≡ countedOf (supersFrom a n 0)
+    supers-done le = sym (plus-none total _ (supers-none a u n le)) ∙ s .rest
 
-    module _ (lt : u < all) where
-      pub super-skip : EnteredSpan c u Absent → AtSuper total (u + 1)
-      unfolding blocksBefore
-      super-skip e = record {
-        few = let x = s .few in rw (add-one u) (omega arith);
-        rest = ap (plus total) (sym (supers-undefined c all u lt (e .0) (e .1))) ∙ s .rest;
-      }
+    module _ (lt : u < n) where
+      pub super-refused : (r : Refusal) → CountedRefused r ≡ countedOf (superSpans a u) → CountedRefused r ≡ countedOf (supersFrom a n 0)
+      super-refused r e = sym (plus-refused total r _ _ e) ∙ ap (plus total) (sym (supers-next a u n lt)) ∙ s .rest
 
-      pub super-refused : (r : Refusal) → EnteredSpan c u (EnteredRefused r) → Done (Refused r) total
-      unfolding answered plus
-      super-refused r e = ap (plus total) (sym (supers-refused c all u lt (e .0) (e .1) r (e .2))) ∙ s .rest
-
-      module _ (super : ℕ) (e : EnteredSpan c u (At super)) where
-        -- the index block names its data blocks ..
-        pub super-named : isDirect c u ≡ true → AtBlock total u super 0
-        super-named d = record {
-          few = let x = s .few in omega arith;
-          entered = e;
-          rest = ap (plus total) (sym (supers-direct c all u lt d)) ∙ s .rest;
-        }
-
-        -- .. or it has a span itself
-        pub super-in : isDirect c u ≡ false → AtBlock (total + 1) u super 0
-        super-in d = record {
-          few = let x = s .few in omega arith;
-          entered = e;
-          rest =
-              ⊎-elim (λ (x : isDirect c u ≡ true). absurd (false-true (sym d ∙ x)))
-              (λ x. sym (plus-also total (superSpan c u) _) ∙ ap (plus total) (sym (supers-tested c all u lt d (x .1) (x .2))) ∙ s .rest) e;
-        }
-
-  module _ (total u super k : ℕ) (s : AtBlock total u super k) where
-    -- behind the last data block
-    pub blocks-done : blocks u ≡ k → AtSuper total (u + 1)
-    unfolding blocksBefore
-    blocks-done e = record {
-      few = let x = s .few in rw (add-one u) (omega arith);
-      rest = ap (plus total) (sym (blocks-none c u (blocks u) k (behindSuper c all u) (let z : blocks u ≤ k = omega arith in z))) ∙ s .rest;
-    }
-
-    module _ (lt : k < blocks u) where
-      pub block-skip : blockUndefined c u k ≡ true → AtBlock total u super (k + 1)
-      block-skip e = record {
-        few = let x = s .few in omega arith;
-        entered = s .entered;
-        rest = ap (plus total) (sym (blocks-undefined c u (blocks u) k (behindSuper c all u) lt e)) ∙ s .rest;
-      }
-
-      pub block-counted : blockUndefined c u k ≡ false → AtBlock (total + 1) u super (k + 1)
-      block-counted e = record {
-        few = let x = s .few in omega arith;
-        entered = s .entered;
-        rest = sym (plus-also total (blockSpan c u k) _) ∙ ap (plus total) (sym (blocks-defined c u (blocks u) k (behindSuper c all u) lt e)) ∙ s .rest;
+      pub super-counted : (m : ℕ) → Count m ≡ countedOf (superSpans a u) → AtSuper (total + m) (u + 1)
+      super-counted m e = record {
+        few = let i = counted-inv _ m e in let x = s .few in omega (arith, before-next u, i .2, super-few a u (i .0) (i .1));
+        rest = sym (plus-joined total m _ _ e) ∙ ap (plus total) (sym (supers-next a u n lt)) ∙ s .rest;
       }

@@ -1,5 +1,5 @@
-pub mod Tests
+pub mod SpanTests
+pub mod SuperBlocks
 pub mod Counting
-pub mod Lengths
 pub mod Writing
-pub mod Listing
+pub mod SpanList

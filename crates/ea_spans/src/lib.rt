@@ -2,18 +2,18 @@
 // that is pointed to.
 ghost use mathlib.Core.Path.{_≡_};
 ghost use mathlib.Core.Bool.{true};
-ghost use Rattle.refusal.specs.Outcome.{also, inRoom};
+ghost use Rattle.refusal.specs.declared.Counted.the-variants.{Refused};
+ghost use Rattle.refusal.specs.Outcome.{also, inRoom, countedOf};
 ghost use Rattle.fields.specs.Fields.{isWidth};
 ghost use Rattle.ea_geometry.specs.Bounded.{Bounded};
-ghost use Rattle.refusal.specs.declared.Counted.the-variants.{Refused};
-ghost use Rattle.refusal.specs.Outcome.{countedOf};
+ghost use Rattle.ea_blocks.specs.Array.{arrayOf};
 ghost use Rattle.span_walk.specs.Walk.{indexSpans};
-ghost use Rattle.ea_spans.specs.Values.{callAt};
-ghost use Rattle.ea_spans.specs.Listing.{roomOf, spansInto, filled, addressOf, lengthOf};
+ghost use Rattle.ea_spans.specs.SpanList.{roomOf, spansInto, filled, addressOf, lengthOf};
 use crate::count::count_index;
-use crate::enter::parse_served;
+use crate::tests::parse_served;
 use crate::write::put_span;
 use crate::write::write_index;
+use ea_blocks::ExtensibleArray;
 use ea_geometry::EaGeometry;
 use ea_header::ExtensibleArrayHeader;
 use ea_header::Parsed;
@@ -22,7 +22,7 @@ use refusal::Refusal;
 use span_walk::Span;
 
 mod count;
-mod enter;
+mod tests;
 mod write;
 
 // Lists the spans of the index whose header lies at an address: their addresses and their lengths, from number 0 on. The answer is how
@@ -35,21 +35,19 @@ pub fn extensible_array_index_spans(
     addresses: &mut [u64],
     lengths: &mut [u64],
 ) -> Counted
-    ensures answer { λ r. ⌜ r ≡ countedOf (spansInto (now (file .entry)) address «offset_size» «length_size»
-        (now (addresses .entry)) (now (lengths .entry))) ⌝ }
-    ensures first { λ _. ⌜ now (addresses .exit)
-        ≡ filled addressOf (spansInto (now (file .entry)) address «offset_size» «length_size»
-        (now (addresses .entry)) (now (lengths .entry))) 0 (now (addresses .entry)) ⌝ }
-    ensures second { λ _. ⌜ now (lengths .exit)
-        ≡ filled lengthOf (spansInto (now (file .entry)) address «offset_size» «length_size»
-        (now (addresses .entry)) (now (lengths .entry))) 0 (now (lengths .entry)) ⌝ }
+    ensures { λ r. ⌜ (let s = spansInto (now (file .entry)) address «offset_size» «length_size» (now (addresses .entry)) (now (lengths .entry)) in
+        (r ≡ countedOf s) × (now (addresses .exit) ≡ filled addressOf s 0 (now (addresses .entry)))
+        × (now (lengths .exit) ≡ filled lengthOf s 0 (now (lengths .entry)))) ⌝ }
 {
     match parse_served(file, address, offset_size, length_size) {
         Parsed::Refused(r) => Counted::Refused(r),
         Parsed::Header(header) => {
             let length = ExtensibleArrayHeader::serialized_size(offset_size, length_size);
-            let geometry = EaGeometry::from_header(header, offset_size);
-            list_spans(file, geometry, Span { address, length }, addresses, lengths)
+            let array = ExtensibleArray {
+                geometry: EaGeometry::from_header(header, offset_size),
+                index_at: header.index_block_address,
+            };
+            list_spans(file, array, Span { address, length }, addresses, lengths)
         }
     }
 }
@@ -57,22 +55,17 @@ pub fn extensible_array_index_spans(
 // Lists the header's span and those behind it.
 fn list_spans(
     file: &[u8],
-    geometry: EaGeometry,
+    array: ExtensibleArray,
     header: Span,
     addresses: &mut [u64],
     lengths: &mut [u64],
 ) -> Counted
-    requires { ⌜ Bounded geometry × (isWidth (geometry .«offset_size») ≡ true) ⌝ }
-    ensures answer { λ r. ⌜ r ≡ countedOf (inRoom (also header (indexSpans (callAt (now (file .entry)) geometry)))
-        (roomOf (now (addresses .entry)) (now (lengths .entry)))) ⌝ }
-    ensures first { λ _. ⌜ now (addresses .exit)
-        ≡ filled addressOf (inRoom (also header (indexSpans (callAt (now (file .entry)) geometry)))
-        (roomOf (now (addresses .entry)) (now (lengths .entry)))) 0 (now (addresses .entry)) ⌝ }
-    ensures second { λ _. ⌜ now (lengths .exit)
-        ≡ filled lengthOf (inRoom (also header (indexSpans (callAt (now (file .entry)) geometry)))
-        (roomOf (now (addresses .entry)) (now (lengths .entry)))) 0 (now (lengths .entry)) ⌝ }
+    requires { ⌜ Bounded (array .geometry) × (isWidth (array .geometry .«offset_size») ≡ true) ⌝ }
+    ensures { λ r. ⌜ (let s = inRoom (also header (indexSpans (arrayOf (now (file .entry)) array))) (roomOf (now (addresses .entry)) (now (lengths .entry))) in
+        (r ≡ countedOf s) × (now (addresses .exit) ≡ filled addressOf s 0 (now (addresses .entry)))
+        × (now (lengths .exit) ≡ filled lengthOf s 0 (now (lengths .entry)))) ⌝ }
 {
-    let needed = match count_index(file, geometry) {
+    let needed = match count_index(file, array) {
         Counted::Count(n) => n + 1,
         Counted::Refused(r) => return Counted::Refused(r),
     };
@@ -83,7 +76,7 @@ fn list_spans(
         return too_small(needed);
     }
     put_span(addresses, lengths, 0, header);
-    write_index(file, geometry, addresses, lengths);
+    write_index(file, array, addresses, lengths);
     Counted::Count(needed)
 }
 

@@ -3,110 +3,138 @@ ghost use mathlib.Core.Path.{_≡_};
 ghost use mathlib.Core.Bool.{true};
 ghost use Prim.Native.Nat.{_<_};
 ghost use lib.ListN.{length, set};
+ghost use Rattle.refusal.specs.Outcome.{accepted};
 ghost use Rattle.fields.specs.Fields.{isWidth};
 ghost use Rattle.ea_geometry.specs.Bounded.{Bounded};
-ghost use Rattle.ea_geometry.specs.Sizes.{superBlocks};
+ghost use Rattle.ea_geometry.specs.Sizes.{superBlocks, blocks};
+ghost use Rattle.ea_blocks.specs.Array.{arrayOf};
+ghost use Rattle.ea_blocks.specs.Entered.{EnteredSuper};
 ghost use Rattle.ea_blocks.specs.Values.{IndexInFile};
+ghost use Rattle.ea_blocks.specs.declared.enter.Entered.the-variants.{At};
 ghost use Rattle.span_walk.specs.Spans.{blockLength};
-ghost use Rattle.span_walk.specs.Walk.{supersFrom, indexSpans};
-ghost use Rattle.ea_spans.specs.Listing.{filled, addressOf, lengthOf};
-ghost use Rattle.ea_spans.specs.Values.{callAt, FoundSuper, Room};
+ghost use Rattle.span_walk.specs.Walk.{blockSpans, superSpans, supersFrom, indexSpans};
+ghost use Rattle.ea_spans.specs.SpanList.{filled, addressOf, lengthOf};
+ghost use Rattle.ea_spans.specs.Values.{Room, behind};
 use crate::count::index_undefined;
-use ea_blocks::structures::Pointer;
-use ea_blocks::structures::block_pointer;
-use ea_blocks::structures::super_pointer;
+use ea_blocks::ExtensibleArray;
+use ea_blocks::pointers::Pointer;
+use ea_blocks::pointers::block_pointer;
+use ea_blocks::pointers::super_pointer;
 use ea_geometry::EaGeometry;
 use span_walk::Span;
 
 // Stores a span as number i of the two lists.
 pub fn put_span(addresses: &mut [u64], lengths: &mut [u64], i: usize, span: Span)
     requires { ⌜ (i < length (now addresses)) × (i < length (now lengths)) ⌝ }
-    ensures first { λ _. ⌜ now (addresses .exit) ≡ set (now (addresses .entry)) i (span .address) ⌝ }
-    ensures second { λ _. ⌜ now (lengths .exit) ≡ set (now (lengths .entry)) i (span .length) ⌝ }
+    ensures { λ _. ⌜ (now (addresses .exit) ≡ set (now (addresses .entry)) i (span .address))
+        × (now (lengths .exit) ≡ set (now (lengths .entry)) i (span .length)) ⌝ }
 {
     addresses[i] = span.address;
     lengths[i] = span.length;
 }
 
 // Writes the spans behind the header's, from number 1 on.
-pub fn write_index(file: &[u8], geometry: EaGeometry, addresses: &mut [u64], lengths: &mut [u64])
-    requires { ⌜ Bounded geometry × (isWidth (geometry .«offset_size») ≡ true)
-        × Room (indexSpans (callAt (now file) geometry)) 1 (now addresses) (now lengths) ⌝ }
-    ensures first { λ _. ⌜ now (addresses .exit)
-        ≡ filled addressOf (indexSpans (callAt (now (file .entry)) geometry)) 1 (now (addresses .entry)) ⌝ }
-    ensures second { λ _. ⌜ now (lengths .exit)
-        ≡ filled lengthOf (indexSpans (callAt (now (file .entry)) geometry)) 1 (now (lengths .entry)) ⌝ }
+pub fn write_index(file: &[u8], array: ExtensibleArray, addresses: &mut [u64], lengths: &mut [u64])
+    requires { ⌜ Bounded (array .geometry) × (isWidth (array .geometry .«offset_size») ≡ true)
+        × Room (indexSpans (arrayOf (now file) array)) 1 (now addresses) (now lengths) ⌝ }
+    ensures { λ _. ⌜ (let s = indexSpans (arrayOf (now (file .entry)) array) in
+        (now (addresses .exit) ≡ filled addressOf s 1 (now (addresses .entry)))
+        × (now (lengths .exit) ≡ filled lengthOf s 1 (now (lengths .entry)))) ⌝ }
 {
-    if index_undefined(geometry) {
+    if index_undefined(array) {
         return;
     }
     let span = Span {
-        address: geometry.header.index_block_address,
-        length: geometry.index_extent(),
+        address: array.index_at,
+        length: array.geometry.index_extent(),
     };
     put_span(addresses, lengths, 1, span);
-    write_pointed(file, geometry, addresses, lengths)
+    write_supers(file, array, addresses, lengths)
 }
 
-// Writes the spans of the super blocks and data blocks, from number 2 on.
-fn write_pointed(file: &[u8], geometry: EaGeometry, addresses: &mut [u64], lengths: &mut [u64])
-    requires { ⌜ IndexInFile (now file) geometry
-        × Room (supersFrom (callAt (now file) geometry) (superBlocks (geometry .header)) 0) 2 (now addresses) (now lengths) ⌝ }
-    ensures first { λ _. ⌜ now (addresses .exit)
-        ≡ filled addressOf (supersFrom (callAt (now (file .entry)) geometry) (superBlocks (geometry .header)) 0) 2 (now (addresses .entry)) ⌝ }
-    ensures second { λ _. ⌜ now (lengths .exit)
-        ≡ filled lengthOf (supersFrom (callAt (now (file .entry)) geometry) (superBlocks (geometry .header)) 0) 2 (now (lengths .entry)) ⌝ }
+// Writes the spans of the super blocks and of their data blocks, from number 2 on.
+fn write_supers(file: &[u8], array: ExtensibleArray, addresses: &mut [u64], lengths: &mut [u64])
+    requires { ⌜ IndexInFile (now file) array
+        × Room (supersFrom (arrayOf (now file) array) (superBlocks (array .geometry .parameters)) 0) 2 (now addresses) (now lengths) ⌝ }
+    ensures { λ _. ⌜ (let a = arrayOf (now (file .entry)) array in let s = supersFrom a (superBlocks (a .parameters)) 0 in
+        (now (addresses .exit) ≡ filled addressOf s 2 (now (addresses .entry)))
+        × (now (lengths .exit) ≡ filled lengthOf s 2 (now (lengths .entry)))) ⌝ }
 {
-    let supers = geometry.super_blocks();
-    let directs = geometry.direct_super_blocks();
+    let supers = array.geometry.super_blocks();
     let mut n = 2;
     let mut u = 0;
-    'supers: while u < supers {
-        let super_at = match find_super(file, geometry, u) {
-            Pointer::Undefined => {
-                u += 1;
-                continue 'supers;
-            }
-            Pointer::At(at) => at,
-        };
-        if directs <= u {
-            let length = geometry.super_extent(u);
-            let span = Span {
-                address: super_at,
-                length,
-            };
-            put_span(addresses, lengths, n, span);
-            n += 1;
-        }
-        let blocks = geometry.blocks(u);
-        let length = block_length(geometry, u);
-        let mut k = 0;
-        'blocks: while k < blocks {
-            if let Pointer::At(address) = block_pointer(file, geometry, u, k, super_at) {
-                put_span(addresses, lengths, n, Span { address, length });
-                n += 1;
-            }
-            k += 1;
-        }
+    // The spans of the super blocks before u are written, up to number n.
+    while u < supers {
+        n = write_super(file, array, u, n, addresses, lengths);
         u += 1;
     }
 }
 
-// Where super block u lies. Where the index block names its data blocks there is none, and the position is 0.
-fn find_super(file: &[u8], geometry: EaGeometry, u: u64) -> Pointer
-    requires { ⌜ (u < superBlocks (geometry .header)) × IndexInFile (now file) geometry ⌝ }
-    ensures { λ r. ⌜ FoundSuper (callAt (now (file .entry)) geometry) u r ⌝ }
+// Writes the span of super block u, unless the index block names its data blocks, and those of its data blocks, from number n on.
+// The answer is the number behind the last.
+fn write_super(
+    file: &[u8],
+    array: ExtensibleArray,
+    u: u64,
+    n: usize,
+    addresses: &mut [u64],
+    lengths: &mut [u64],
+) -> usize
+    requires { ⌜ (u < superBlocks (array .geometry .parameters)) × IndexInFile (now file) array
+        × Room (superSpans (arrayOf (now file) array) u) n (now addresses) (now lengths) ⌝ }
+    ensures { λ r. ⌜ (let s = superSpans (arrayOf (now (file .entry)) array) u in
+        (now (addresses .exit) ≡ filled addressOf s n (now (addresses .entry)))
+        × (now (lengths .exit) ≡ filled lengthOf s n (now (lengths .entry))) × (r ≡ behind n s)) ⌝ }
 {
-    if u < geometry.direct_super_blocks() {
-        return Pointer::At(0);
+    if u < array.geometry.direct_super_blocks() {
+        return write_blocks(file, array, u, 0, n, addresses, lengths);
     }
-    super_pointer(file, geometry, u)
+    match super_pointer(file, array, u) {
+        Pointer::Undefined => n,
+        Pointer::At(address) => {
+            let length = array.geometry.super_extent(u);
+            put_span(addresses, lengths, n, Span { address, length });
+            write_blocks(file, array, u, address, n + 1, addresses, lengths)
+        }
+    }
+}
+
+// Writes the spans of the data blocks of super block u that are pointed to, from number n on. It lies at super_at, unless the index block
+// names them. The answer is the number behind the last.
+fn write_blocks(
+    file: &[u8],
+    array: ExtensibleArray,
+    u: u64,
+    super_at: u64,
+    n: usize,
+    addresses: &mut [u64],
+    lengths: &mut [u64],
+) -> usize
+    requires { ⌜ (u < superBlocks (array .geometry .parameters)) × IndexInFile (now file) array × EnteredSuper (arrayOf (now file) array) u (At «super_at»)
+        × Room (accepted (blockSpans (arrayOf (now file) array) u (blocks u) 0)) n (now addresses) (now lengths) ⌝ }
+    ensures { λ r. ⌜ (let s = accepted (blockSpans (arrayOf (now (file .entry)) array) u (blocks u) 0) in
+        (now (addresses .exit) ≡ filled addressOf s n (now (addresses .entry)))
+        × (now (lengths .exit) ≡ filled lengthOf s n (now (lengths .entry))) × (r ≡ behind n s)) ⌝ }
+{
+    let blocks = array.geometry.blocks(u);
+    let length = block_length(array.geometry, u);
+    let mut next = n;
+    let mut k = 0;
+    // The spans of the data blocks before k are written, up to number `next`.
+    while k < blocks {
+        if let Pointer::At(address) = block_pointer(file, array, u, k, super_at) {
+            put_span(addresses, lengths, next, Span { address, length });
+            next += 1;
+        }
+        k += 1;
+    }
+    next
 }
 
 // The bytes of a data block of super block u: paged where it has more elements than a page.
 fn block_length(geometry: EaGeometry, u: u64) -> u64
-    requires { ⌜ (u < superBlocks (geometry .header)) × Bounded geometry ⌝ }
-    ensures { λ r. ⌜ r ≡ blockLength (geometry .header) (geometry .«offset_size») u ⌝ }
+    requires { ⌜ (u < superBlocks (geometry .parameters)) × Bounded geometry ⌝ }
+    ensures { λ r. ⌜ r ≡ blockLength (geometry .parameters) (geometry .«offset_size») u ⌝ }
 {
     if geometry.over_page(u) {
         return geometry.paged_extent(u);

@@ -1,37 +1,34 @@
 -- The program's answer, from what its steps give. Assumes nothing.
-use mathlib.Core.Path.{_≡_, refl, ap, _∙_}
+use mathlib.Core.Path.{_≡_, refl}
 use mathlib.Core.List.{List}
 use Prim.Native.Nat.{ℕ, _≤_}
-use native.Mathlib.Omega.{arith}
 use lib.ListN.{length}
-use lib.Seq.{sets, length-sets}
+use lib.Seq.{length-sets}
 use Rattle.io.specs.Counts.{Counts}
 use Rattle.io.proofs.Counting.{counts}
 use Rattle.refusal.specs.declared.Counted.{Counted}
 use Rattle.refusal.specs.Outcome.{countedOf}
-use Rattle.ea_list.specs.Listing.{listContent}
-use Rattle.eals.specs.Line.{fileOf, readingOf, storedOf}
-use Rattle.eals.specs.Printed.{unreadableText}
-use Rattle.eals.specs.Program.{listingOf, countedText, readingText, readingList, programText, programList}
+use Rattle.records.specs.Records.{listContent}
+use Rattle.eals.specs.Line.{fileOf, questionOf, storedOf}
+use Rattle.eals.specs.Printed.{Put, unreadableText}
+use Rattle.eals.specs.Program.{listingOf, countedText, parsedText, programText}
 use Rattle.eals.specs.declared.line.Question.{Question}
-use Rattle.eals.specs.declared.line.Reading.the-variants.{Asked, Unreadable}
+use Rattle.eals.specs.declared.line.Parsed.the-variants.{Asked, Unreadable}
 
-module _ (input lengths list : List ℕ) where
+module _ (input numbers list : List ℕ) where
   -- a question is answered
-  pub asked : (q : Question) → readingOf input ≡ Asked q → (stored file content : List ℕ) (counted : Counted)
-      → stored ≡ storedOf input lengths → file ≡ fileOf input
+  pub asked : (q : Question) → questionOf input ≡ Asked q → (stored file content : List ℕ) (counted : Counted)
+      → stored ≡ storedOf input numbers → file ≡ fileOf input
       → counted ≡ countedOf (listingOf q stored file (length list)) → content ≡ listContent (listingOf q stored file (length list)) list
-      → (countedText (q .rank) counted content ≡ programText input lengths list) × (content ≡ programList input lengths list)
-  unfolding programText programList readingText readingList
-  asked q r stored file content counted s f k l = rw (r, ← s, ← f, ← l, ← k) (refl, refl)
+      → countedText (q .rank) counted content ≡ programText input numbers list
+  unfolding programText parsedText
+  asked q r stored file content counted s f k l = rw (r, ← s, ← f, ← l, ← k) refl
 
   -- the line is unreadable
-  pub unread : readingOf input ≡ Unreadable → (unreadableText ≡ programText input lengths list) × (list ≡ programList input lengths list)
-  unfolding programText programList readingText readingList
-  unread r = rw r (refl, refl)
+  pub unread : questionOf input ≡ Unreadable → unreadableText ≡ programText input numbers list
+  unfolding programText parsedText
+  unread r = rw r refl
 
 -- a text that is put lies in its buffer
-pub text-in : (out out′ : List ℕ) (n : ℕ) (text : List ℕ) → out′ ≡ sets out 0 text → n ≤ length out → Counts n out′
-text-in out out′ n text e h =
-    let same = ap (λ (s : List ℕ). length s) e ∙ length-sets out 0 text in
-    counts n out′ (omega arith)
+pub put-counts : {out text out′ : List ℕ} {end : ℕ} → Put out 0 text out′ end → end ≤ length out → Counts end out′
+put-counts {out} {text} {out′} {end} p h = counts end out′ (rw (p .holds, length-sets out 0 text) h)

@@ -1,36 +1,34 @@
--- How much room lengths, records and texts take. Assumes nothing.
+-- How much room numbers and records take. Assumes nothing.
 use mathlib.Core.Path.{_≡_, refl, ap}
 use mathlib.Core.Bool.{Bool, true, false}
-use mathlib.Core.List.{List, [], _∷_, _++_}
-use Prim.Native.Nat.{ℕ, zero, suc, _*_, _≤_}
+use mathlib.Core.List.{List, [], _∷_}
+use Prim.Native.Nat.{ℕ, suc, _+_, _*_, _≤_}
 use native.Mathlib.Nat.{le-div-iff-mul-le}
 use native.Mathlib.Omega.{arith}
 use lib.Dec.{eqb, ltb}
-use lib.ListN.{length, drop, length-append, length-drop}
+use lib.ListN.{length}
 use borrow.Author.Tests.{eqb-true, ltb-false}
-use Rattle.refusal.specs.declared.Refusal.{Refusal}
 use Rattle.refusal.specs.declared.Checked.{Checked}
 use Rattle.refusal.specs.declared.Checked.the-variants.{Passed, Refused as CheckedRefused}
 use Rattle.refusal.specs.Refusals.{refuse}
 use Rattle.refusal.specs.Outcome.{refused, accepted, _yields_, inRoom, countedOf}
-use Rattle.refusal.proofs.Tests.{by-cond, both}
+use Rattle.refusal.proofs.Tests.{by-cond}
 use Rattle.chunk_grid.specs.Shapes.{givenBytes, given}
-use Rattle.chunk_grid.proofs.Shapes.{length-numbers}
 use Rattle.refusal.specs.declared.Counted.{Counted}
-use Rattle.ea_records.specs.Records.{recordLength}
-use Rattle.ea_elements.specs.Runs.{Listing}
-use Rattle.ea_list.specs.Listing.{listInto, recordIn, recordsIn}
-use Rattle.ea_list.specs.Door.{doorGrid, callAt, listAt}
-use Rattle.eals.specs.Text.{words, onFirst, decimal}
-use Rattle.eals.specs.Line.{lineOf, fits, lengthsRead, headOf, withLengths, lineReading, readingOf}
-use Rattle.eals.specs.Printed.{spaced, recordLine, recordLines, recordsWord, listText, refusedWord, refusalText}
+use Rattle.records.specs.Records.{recordLength}
+use Rattle.index.specs.Index.{Listing}
+use Rattle.ea_list.specs.ListInto.{listInto, listAt}
+use Rattle.calls.specs.Call.{gridGiven}
+use Rattle.ea_calls.specs.Call.{callElements, callAnswer}
+use Rattle.eals.specs.Text.{words, onFirst}
+use Rattle.eals.specs.Line.{lineOf, fits, wordNumber, ifNumber, noQuestion, withNumber, questionFrom, lineQuestion, questionOf}
 use Rattle.eals.specs.Program.{listingOf, countOf}
+use Rattle.eals.specs.declared.text.Number.{Number}
+use Rattle.eals.specs.declared.text.Number.the-variants.{Value, NoNumber}
 use Rattle.eals.specs.declared.line.Question.{Question}
-use Rattle.eals.specs.declared.line.Reading.{Reading}
-use Rattle.eals.specs.declared.line.Reading.the-variants.{Asked, Unreadable}
+use Rattle.eals.specs.declared.line.Parsed.{Parsed}
+use Rattle.eals.specs.declared.line.Parsed.the-variants.{Asked, Unreadable}
 use Rattle.eals.proofs.Inputs.{line-short}
-use Rattle.eals.proofs.Digits.{length-decimal}
-use Rattle.eals.proofs.Lines.{list-parts}
 
 -- a line has at most one word more than bytes
 on-first-length : (x : ℕ) (ws : List (List ℕ)) → length (onFirst x ws) ≡ length ws
@@ -47,31 +45,32 @@ words-few (x ∷ s) =
     (λ _. omega arith)
     (λ _. omega (arith, on-first-length x (words s)))
 
--- so a question's lengths have room in 32,768 bytes
-unreadable-asked : (q : Question) → Unreadable ≡ Asked q → ⊥
-unreadable-asked q h = let z : _≡_ {A = ℕ} 0 1 = cc in omega arith
+-- so a question's numbers have room in 32,768 bytes
+unreadable-asked : {A : Type 0} (q : Question) → Unreadable ≡ Asked q → A
+unreadable-asked q h = let z : _≡_ {A = ℕ} 0 1 = cc in absurd (omega arith)
 
-lengths-asked : (a : Reading) (ws : List (List ℕ)) (q : Question) → withLengths a ws ≡ Asked q → 3 * q .rank ≡ length ws
-unfolding withLengths lengthsRead
-lengths-asked Unreadable ws q h = absurd (unreadable-asked q h)
-lengths-asked (Asked p) ws q h =
-    by-cond (λ (x : Reading). x ≡ Asked q → 3 * q .rank ≡ length ws) (lengthsRead (p .rank) ws)
+asked-words : (p : Question) (i : ℕ) (ws : List (List ℕ)) (q : Question) → questionFrom p i ws ≡ Asked q → i + length ws ≡ 6 + 3 * q .rank
+unfolding questionFrom ifNumber
+asked-words p i [] q h =
+    by-cond (λ (x : Parsed). x ≡ Asked q → i + 0 ≡ 6 + 3 * q .rank) (eqb i (6 + 3 * p .rank))
     (λ t e.
     let same : p ≡ q = cc in
-    let count = eqb-true (length ws) (3 * p .rank) (both _ _ t .0) in
-    omega (arith, count, ap (λ (x : Question). x .rank) same))
-    (λ _ e. absurd (unreadable-asked q e))
+    omega (arith, eqb-true i (6 + 3 * p .rank) t, ap (λ (x : Question). x .rank) same))
+    (λ _ e. unreadable-asked q e)
     h
+asked-words p i (w ∷ ws) q h = go (wordNumber (p .rank) i w) (λ n. asked-words (withNumber p i n) (suc i) ws q) h
+  where
+    go : (x : Number) → ((n : ℕ) → questionFrom (withNumber p i n) (suc i) ws ≡ Asked q → suc i + length ws ≡ 6 + 3 * q .rank)
+        → ifNumber x Unreadable (λ n. questionFrom (withNumber p i n) (suc i) ws) ≡ Asked q → i + suc (length ws) ≡ 6 + 3 * q .rank
+    go (Value n) f e = omega (arith, f n e)
+    go NoNumber f e = unreadable-asked q e
 
-pub rank-small : (input : List ℕ) (q : Question) → readingOf input ≡ Asked q → 24 * q .rank ≤ 32768
-unfolding readingOf lineReading
+pub rank-small : (input : List ℕ) (q : Question) → questionOf input ≡ Asked q → 48 + 24 * q .rank ≤ 32768
+unfolding questionOf lineQuestion
 rank-small input q h =
-    by-cond (λ (x : Reading). x ≡ Asked q → 24 * q .rank ≤ 32768) (fits input)
-    (λ t e.
-    let ws = words (lineOf input) in
-    let short = line-short input t in
-    omega (arith, short, words-few (lineOf input), length-drop 6 ws, lengths-asked (headOf ws) (drop 6 ws) q e))
-    (λ _ e. absurd (unreadable-asked q e))
+    by-cond (λ (x : Parsed). x ≡ Asked q → 48 + 24 * q .rank ≤ 32768) (fits input)
+    (λ t e. omega (arith, line-short input t, words-few (lineOf input), asked-words noQuestion 0 (words (lineOf input)) q e))
+    (λ _ e. unreadable-asked q e)
     h
 
 -- a lent list has room for the records that are counted
@@ -89,49 +88,8 @@ unfolding _yields_ countedOf countOf
 passed-count Passed a n h = h
 passed-count (CheckedRefused r) a n h = omega arith
 
-pub counted-room : (q : Question) (lengths file : List ℕ) (room : ℕ) (counted : Counted) → counted ≡ countedOf (listingOf q lengths file room)
+pub counted-room : (q : Question) (numbers file : List ℕ) (room : ℕ) (counted : Counted) → counted ≡ countedOf (listingOf q numbers file room)
     → countOf counted * recordLength (q .rank) ≤ room
-unfolding listingOf listAt listInto callAt doorGrid givenBytes given recordLength
-counted-room q lengths file room counted e =
+unfolding listingOf listAt listInto callAnswer callElements gridGiven givenBytes given recordLength
+counted-room q numbers file room counted e =
     rw e (le-div-iff-mul-le {k = recordLength (q .rank)} (omega arith) .0 (passed-count _ _ _ (in-room _ _)))
-
--- texts
-length-spaced : (ns : List ℕ) → length (spaced ns) ≤ 21 * length ns
-unfolding spaced
-length-spaced [] = omega arith
-length-spaced (n ∷ ns) = omega (arith, length-decimal n, length-spaced ns, length-append (decimal n) (spaced ns))
-
-length-line : (rank : ℕ) (s : List ℕ) → length (recordLine (recordIn rank s)) ≤ 4 * recordLength rank
-unfolding recordLine recordIn recordLength
-length-line rank s =
-    let r = recordIn rank s in
-    let numbers = r .entry .size ∷ r .entry .mask ∷ r .corner in
-    let address = decimal (r .entry .address) in
-    omega (
-      arith,
-      length-append (address ++ spaced numbers) (10 ∷ []),
-      length-append address (spaced numbers),
-      length-decimal (r .entry .address),
-      length-spaced numbers,
-      length-numbers rank (drop 16 s),
-    )
-
-length-lines : (rank n : ℕ) (s : List ℕ) → length (recordLines (recordsIn rank n s)) ≤ 4 * (n * recordLength rank)
-unfolding recordsIn recordLines
-length-lines rank zero s = omega arith
-length-lines rank (suc n) s =
-    let behind = drop (recordLength rank) s in
-    omega (arith, length-append (recordLine (recordIn rank s)) (recordLines (recordsIn rank n behind)), length-line rank s, length-lines rank n behind)
-
-pub list-text-short : (rank n : ℕ) (s : List ℕ) → n * recordLength rank ≤ 65536 → length (listText (recordsIn rank n s)) ≤ 300000
-list-text-short rank n s h =
-    let lines = recordLines (recordsIn rank n s) in
-    let last = spaced (n ∷ []) ++ 10 ∷ [] in
-    rw (list-parts rank n s)
-    (omega (arith, length-append lines (recordsWord ++ last), length-append recordsWord last, length-append (spaced (n ∷ [])) (10 ∷ []), length-spaced (n ∷ []), length-lines rank n s))
-
-pub refusal-text-short : (r : Refusal) → length (refusalText r) ≤ 300000
-unfolding refusalText
-refusal-text-short r =
-    let numbers = r .number ∷ r .first ∷ r .second ∷ [] in
-    omega (arith, length-append (refusedWord ++ spaced numbers) (10 ∷ []), length-append refusedWord (spaced numbers), length-spaced numbers)

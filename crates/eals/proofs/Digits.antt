@@ -18,7 +18,7 @@ ten-pos : (k : ℕ) → 0 < 10 ^ k
 ten-pos zero = omega arith
 ten-pos (suc k) = let below = ten-pos k in omega arith
 
-pub digits-are : (k most n : ℕ) → suc k ≤ most → n < 10 ^ suc k → (0 < k → 10 ^ k ≤ n) → digits 10 (suc k) n ≡ digitsIn most n
+digits-are : (k most n : ℕ) → suc k ≤ most → n < 10 ^ suc k → (0 < k → 10 ^ k ≤ n) → digits 10 (suc k) n ≡ digitsIn most n
 unfolding digitsIn
 digits-are k zero n h a b = absurd (omega arith)
 digits-are zero (suc most) n h a b =
@@ -59,7 +59,7 @@ decimal-digits n (suc k) h f = digits-are k 20 n (at-most-twenty n k h least) (f
         let less : suc k - 1 ≡ k = omega arith in
         rw less at low
 
-pub length-digits : (most n : ℕ) → length (digitsIn most n) ≤ most
+length-digits : (most n : ℕ) → length (digitsIn most n) ≤ most
 unfolding digitsIn
 length-digits zero n = omega arith
 length-digits (suc most) n =

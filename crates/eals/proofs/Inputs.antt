@@ -1,6 +1,6 @@
 -- Laws of an input's line and file. Assumes nothing.
 use mathlib.Core.Path.{_≡_, refl, ap}
-use mathlib.Core.Bool.{Bool, true, false, _&&_}
+use mathlib.Core.Bool.{true, false, _&&_, and-false}
 use mathlib.Core.List.{List, []}
 use Prim.Native.Nat.{ℕ, suc, _+_, _-_, _≤_, _<_}
 use native.Mathlib.Omega.{arith}
@@ -13,35 +13,28 @@ use Rattle.eals.specs.Text.{before}
 use Rattle.eals.specs.Line.{lineOf, fileOf, fits}
 use Rattle.eals.proofs.Words.{take-before}
 
-pub before-within : (b : ℕ) (s : List ℕ) → length (before b s) ≤ length s
-before-within b s =
-    let part = ap (λ (l : List ℕ). length l) (take-before b s) in
-    omega (arith, part, length-take (length (before b s)) s)
-
 module _ (s : List ℕ) where
   pub line-within : length (lineOf s) ≤ length s
   unfolding lineOf
-  line-within = before-within 10 s
+  line-within =
+      let part = ap (λ (l : List ℕ). length l) (take-before 10 s) in
+      omega (arith, part, length-take (length (before 10 s)) s)
 
-  module _ (end : ℕ) (at : end ≡ 0 + length (before 10 s)) where
-    pub line-part : take end s ≡ lineOf s
-    unfolding lineOf
-    line-part =
-        let same : end ≡ length (before 10 s) = omega arith in
-        rw same (take-before 10 s)
-
-    pub file-part : take (length s - (end + 1)) (drop (end + 1) s) ≡ fileOf s
+  -- the line is found
+  module _ (line : List ℕ) (is : line ≡ before 10 s) where
+    pub file-part : take (length s - (length line + 1)) (drop (length line + 1) s) ≡ fileOf s
     unfolding lineOf fileOf
     file-part =
-        let next : suc (length (before 10 s)) ≡ end + 1 = omega arith in
-        rw next (take-all (length s - (end + 1)) (drop (end + 1) s) (omega (arith, length-drop (end + 1) s)))
+        let next : suc (length (before 10 s)) ≡ length line + 1 = rw is (omega arith) in
+        rw next (take-all (length s - (length line + 1)) (drop (length line + 1) s) (omega (arith, length-drop (length line + 1) s)))
 
-    pub file-none : end ≡ length s → take (length s - end) (drop end s) ≡ fileOf s
+    pub file-none : length line ≡ length s → take (length s - length line) (drop (length line) s) ≡ fileOf s
     unfolding lineOf fileOf
     file-none e =
-        let none : drop end s ≡ [] = drop-of-length-le s {i = end} (omega arith) in
+        let none : drop (length line) s ≡ [] = drop-of-length-le s {i = length line} (omega arith) in
+        let wide = ap (λ (l : List ℕ). length l) is in
         let behind : drop (suc (length (before 10 s))) s ≡ [] = drop-of-length-le s {i = suc (length (before 10 s))} (omega arith) in
-        rw (none, behind) (take-all (length s - end) [] (omega arith))
+        rw (none, behind) (take-all (length s - length line) [] (omega arith))
 
   pub line-unended : length (lineOf s) ≡ length s → fits s ≡ false
   unfolding fits
@@ -49,19 +42,11 @@ module _ (s : List ℕ) where
 
   pub line-long : 4095 < length (lineOf s) → fits s ≡ false
   unfolding fits
-  line-long h = rw (lt-leb (length (lineOf s)) 4095 h) (neither-of (ltb (length (lineOf s)) (length s)) (leb (length (fileOf s)) 60000))
-    where
-      neither-of : (a b : Bool) → a && false && b ≡ false
-      neither-of true b = refl
-      neither-of false b = refl
+  line-long h = rw (lt-leb (length (lineOf s)) 4095 h, and-false (ltb (length (lineOf s)) (length s))) refl
 
   pub file-long : 60000 < length (fileOf s) → fits s ≡ false
   unfolding fits
-  file-long h = rw (lt-leb (length (fileOf s)) 60000 h) (last-false (ltb (length (lineOf s)) (length s) && leb (length (lineOf s)) 4095))
-    where
-      last-false : (a : Bool) → a && false ≡ false
-      last-false true = refl
-      last-false false = refl
+  file-long h = rw (lt-leb (length (fileOf s)) 60000 h, and-false (ltb (length (lineOf s)) (length s) && leb (length (lineOf s)) 4095)) refl
 
   pub input-fits : length (lineOf s) < length s → length (lineOf s) ≤ 4095 → length (fileOf s) ≤ 60000 → fits s ≡ true
   unfolding fits

@@ -1,7 +1,6 @@
 pub mod Words
 pub mod Numbers
-pub mod Lengths
-pub mod Heads
+pub mod Questions
 pub mod Inputs
 pub mod Digits
 pub mod Puts

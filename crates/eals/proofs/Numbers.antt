@@ -1,15 +1,14 @@
--- Laws of reading a number digit by digit. Assumes nothing.
+-- Laws of a number that is read digit by digit. Assumes nothing.
 use mathlib.Core.Path.{_≡_, refl}
-use mathlib.Core.Bool.{Bool, true, false, cond, _&&_}
+use mathlib.Core.Bool.{cond, _&&_, and-false}
 use mathlib.Core.List.{List, [], _∷_}
 use Prim.Native.Nat.{ℕ, suc, _+_, _-_, _*_, _≤_, _<_}
 use native.Mathlib.Omega.{arith}
 use lib.ListN.{length, getD, drop, drop-of-length-le}
 use lib.Seq.{drop-cons}
 use lib.Dec.{leb}
-use borrow.Author.Tests.{lt-ltb, le-leb, lt-leb, ltb-true, eqb-true}
-use Rattle.refusal.proofs.Tests.{by-cond, both}
-use Rattle.eals.specs.Text.{isOnly, isDigit, digitsOnly, valueFrom, valueOf, isNumber, numberOf}
+use borrow.Author.Tests.{lt-ltb, le-leb, lt-leb}
+use Rattle.eals.specs.Text.{isDigit, digitsOnly, valueFrom, valueOf, isNumber, numberOf}
 use Rattle.eals.specs.declared.text.Number.{Number}
 use Rattle.eals.specs.declared.text.Number.the-variants.{Value, NoNumber}
 
@@ -18,19 +17,15 @@ unfoldable pub numberFrom : ℕ → ℕ → List ℕ → Number
 numberFrom largest v w = cond (digitsOnly w && leb (valueFrom v w) largest) (Value (valueFrom v w)) NoNumber
 
 -- further digits make no number less
-pub value-grows : (v : ℕ) (w : List ℕ) → v ≤ valueFrom v w
+value-grows : (v : ℕ) (w : List ℕ) → v ≤ valueFrom v w
 unfolding valueFrom
 value-grows v [] = omega arith
 value-grows v (b ∷ w) = omega (arith, value-grows (v * 10 + (b - 48)) w)
 
-in-no-case : (x : Bool) (n : Number) → NoNumber ≡ cond (x && false) n NoNumber
-in-no-case true n = refl
-in-no-case false n = refl
-
 module _ (largest : ℕ) (w : List ℕ) where
   pub number-empty : length w ≡ 0 → NoNumber ≡ numberOf largest w
   unfolding numberOf isNumber
-  number-empty e = rw (e) refl
+  number-empty e = rw e refl
 
   pub number-start : 0 < length w → numberFrom largest 0 (drop 0 w) ≡ numberOf largest w
   unfolding numberOf numberFrom isNumber valueOf
@@ -64,19 +59,4 @@ module _ (largest : ℕ) (w : List ℕ) where
     number-over h z =
         let more = v * 10 + (getD w i 0 - 48) in
         let grown = value-grows more (drop (suc i) w) in
-        rw (drop-cons w i 0 h, lt-leb (valueFrom more (drop (suc i) w)) largest (omega (arith, grown))) (in-no-case (digitsOnly (getD w i 0 ∷ drop (suc i) w)) _)
-
-pub no-value : (n : ℕ) → NoNumber ≡ Value n → ⊥
-no-value n h = let z : _≡_ {A = ℕ} 0 1 = cc in omega arith
-
--- a word that is one byte, or a number, isn't empty
-pub only-has-byte : (b : ℕ) (w : List ℕ) → isOnly b w ≡ true → 0 < length w
-unfolding isOnly
-only-has-byte b w e = omega (arith, eqb-true (length w) 1 (both _ _ e .0))
-
-pub number-has-byte : (largest : ℕ) (w : List ℕ) (n : ℕ) → numberOf largest w ≡ Value n → 0 < length w
-unfolding numberOf isNumber
-number-has-byte largest w n =
-    by-cond (λ (x : Number). x ≡ Value n → 0 < length w) (isNumber largest w)
-    (λ e _. ltb-true 0 (length w) (both _ _ (both _ _ e .0) .0))
-    (λ _ h. absurd (no-value n h))
+        rw (drop-cons w i 0 h, lt-leb (valueFrom more (drop (suc i) w)) largest (omega (arith, grown)), and-false (digitsOnly (getD w i 0 ∷ drop (suc i) w))) refl

@@ -1,22 +1,33 @@
--- Laws of texts that are stored one behind the other. Assumes nothing.
+-- Laws of texts that are put one behind the other. Assumes nothing.
 use mathlib.Core.Path.{_≡_, refl, sym, _∙_}
-use mathlib.Core.List.{List, [], _++_}
-use Prim.Native.Nat.{ℕ, suc, _+_, _≤_, _<_}
+use mathlib.Core.List.{List, [], _++_, append-assoc, append-nil}
+use Prim.Native.Nat.{ℕ, _+_, _-_, _≤_}
 use native.Mathlib.Omega.{arith}
-use lib.ListN.{length, getD, drop, set, drop-of-length-le, length-append}
-use lib.Seq.{sets, drop-cons, length-sets}
-use Rattle.ea_records.proofs.Records.{sets-append}
+use lib.ListN.{length, take, drop, drop-of-length-le, length-append, length-drop}
+use lib.Seq.{sets, sets-eq, take-all, drop-drop, length-sets}
+use Rattle.records.proofs.Records.{sets-append}
+use Rattle.eals.specs.Printed.{Put}
 
--- one byte of a text, and the end of it
-module _ (out text : List ℕ) (at i : ℕ) where
-  pub byte-put : i < length text → sets (set out (at + i) (getD text i 0)) (at + (i + 1)) (drop (i + 1) text) ≡ sets out (at + i) (drop i text)
-  byte-put h =
-      let next : at + (i + 1) ≡ suc (at + i) = omega arith in
-      let more : i + 1 ≡ suc i = omega arith in
-      rw (next, more, drop-cons text i 0 h) refl
+-- a text that is copied into the part of a buffer from `at` on
+pub text-put : (out text part : List ℕ) (at : ℕ) → at + length text ≤ length out
+    → part ≡ take (length text) text ++ drop (length text) (take (length out - at) (drop at out))
+    → take at out ++ (part ++ drop (length out - at) (drop at out)) ≡ sets out at text
+text-put out text part at h e =
+    let all = take-all (length text) text (omega arith) in
+    let rest = take-all (length out - at) (drop at out) (omega (arith, length-drop at out)) in
+    let none : drop (length out - at) (drop at out) ≡ [] = drop-of-length-le (drop at out) {i = length out - at} (omega (arith, length-drop at out)) in
+    rw (e, all, rest, none, append-nil, drop-drop (length text) at out, sets-eq text out at h) (sym (append-assoc (take at out) text (drop (at + length text) out)))
 
-  pub all-put : length text ≤ i → sets out (at + i) (drop i text) ≡ out
-  all-put h = rw (drop-of-length-le text {i = i} h) refl
+module _ {out : List ℕ} {at : ℕ} {a mid : List ℕ} {next : ℕ} (p : Put out at a mid next) where
+  -- another text behind it
+  pub put-then : {b last : List ℕ} {end : ℕ} → Put mid next b last end → Put out at (a ++ b) last end
+  put-then {b} q = record {
+    ends = omega (arith, length-append a b, p .ends, q .ends);
+    holds = q .holds ∙ rw (p .holds, p .ends) (sym (sets-append out at a b));
+  }
+
+  pub put-as : (b : List ℕ) → a ≡ b → Put out at b mid next
+  put-as b e = rw e at p
 
 -- While a whole text is put at `at`, its rest goes behind what is put.
 pub record Putting (out₀ : List ℕ) (at : ℕ) (whole out : List ℕ) (now : ℕ) (rest : List ℕ) : Type 0 where
@@ -24,25 +35,18 @@ pub record Putting (out₀ : List ℕ) (at : ℕ) (whole out : List ℕ) (now : 
   pub end : now + length rest ≡ at + length whole
   pub same : length out ≡ length out₀
 
-pub put-none : (out : List ℕ) (at : ℕ) (whole rest : List ℕ) → whole ≡ rest → Putting out at whole out at rest
-put-none out at whole rest e = record { content = rw e refl; end = rw e refl; same = refl }
+pub put-none : (out : List ℕ) (at : ℕ) (whole : List ℕ) → Putting out at whole out at whole
+put-none out at whole = record { content = refl; end = refl; same = refl }
 
 module _ {out₀ : List ℕ} {at : ℕ} {whole out : List ℕ} {now : ℕ} where
   -- the next part is put
-  pub put-more : (part rest : List ℕ) → Putting out₀ at whole out now (part ++ rest) → (out′ : List ℕ) (next : ℕ)
-      → next ≡ now + length part → out′ ≡ sets out now part → Putting out₀ at whole out′ next rest
-  put-more part rest p out′ next n e =
-      let len = length-append part rest in
-      record {
-        content = rw (e, n) (sym (sets-append out now part rest) ∙ p .content);
-        end = omega (arith, len, n, p .end);
-        same = rw e (length-sets out now part ∙ p .same);
-      }
+  pub put-more : {part rest out′ : List ℕ} {next : ℕ} → Putting out₀ at whole out now (part ++ rest) → Put out now part out′ next → Putting out₀ at whole out′ next rest
+  put-more {part} {rest} p q = record {
+    content = rw (q .holds, q .ends) (sym (sets-append out now part rest) ∙ p .content);
+    end = omega (arith, length-append part rest, q .ends, p .end);
+    same = rw (q .holds) (length-sets out now part ∙ p .same);
+  }
 
   -- nothing is left
-  pub put-all : Putting out₀ at whole out now [] → (now ≡ at + length whole) × (out ≡ sets out₀ at whole)
-  put-all p = (omega (arith, p .end), p .content)
-
-  -- there is room for the next part
-  pub put-room : (part rest : List ℕ) → Putting out₀ at whole out now (part ++ rest) → at + length whole ≤ length out₀ → now + length part ≤ length out
-  put-room part rest p h = let len = length-append part rest in omega (arith, len, p .end, p .same)
+  pub put-all : Putting out₀ at whole out now [] → Put out₀ at whole out now
+  put-all p = record { ends = omega (arith, p .end); holds = p .content }

@@ -1,18 +1,18 @@
 -- What the program reads: a line, and behind it the file.
 use Prim.Native.Nat.{ℕ, suc, _+_, _*_}
-use mathlib.Core.Bool.{Bool, cond, _&&_, _||_}
+use mathlib.Core.Bool.{Bool, cond, _&&_}
 use mathlib.Core.List.{List, [], _∷_}
 use lib.Dec.{eqb, leb, ltb}
 use lib.ListN.{length, drop}
 use lib.Seq.{sets}
 use Rattle.refusal.specs.Refusals.{largest64}
-use Rattle.ea_records.specs.Records.{offsetBytes}
-use Rattle.eals.specs.Text.{before, words, word, isOnly, valueOf, isNumber, numberOf}
+use Rattle.records.specs.Records.{offsetBytes}
+use Rattle.eals.specs.Text.{before, words, isOnly, numberOf}
 use Rattle.eals.specs.declared.text.Number.{Number}
 use Rattle.eals.specs.declared.text.Number.the-variants.{Value, NoNumber}
 use Rattle.eals.specs.declared.line.Question.{Question}
-use Rattle.eals.specs.declared.line.Reading.{Reading}
-use Rattle.eals.specs.declared.line.Reading.the-variants.{Asked, Unreadable}
+use Rattle.eals.specs.declared.line.Parsed.{Parsed}
+use Rattle.eals.specs.declared.line.Parsed.the-variants.{Asked, Unreadable}
 
 -- The line ends with the first newline (10); the file is what stands behind it.
 unfoldable pub lineOf : List ℕ → List ℕ
@@ -29,58 +29,54 @@ fits input = ltb (length (lineOf input)) (length input) && leb (length (lineOf i
 unfoldable pub orderNumber : List ℕ → Number
 orderNumber w = cond (isOnly 82 w) (Value 0) (cond (isOnly 85 w) (Value 1) NoNumber)
 
--- A length is a number; a maximum length may be `*` (42), unlimited.
-unfoldable pub lengthNumber : Bool → List ℕ → Number
-lengthNumber maximum w = cond (maximum && isOnly 42 w) (Value largest64) (numberOf largest64 w)
+-- The line is `O L address elementbytes order rank` and 3 × rank lengths: the chunk's, the present and the maximum ones. O and L are
+-- below 256, other numbers below 2^64; a maximum length may be `*` (42), unlimited. The number of word i, counted from 0:
+unfoldable pub wordNumber : ℕ → ℕ → List ℕ → Number
+wordNumber rank i w =
+    cond (ltb i 2) (numberOf 255 w)
+    (cond (eqb i 4) (orderNumber w)
+    (cond (leb (6 + 2 * rank) i && isOnly 42 w) (Value largest64) (numberOf largest64 w)))
 
-unfoldable pub lengthThen : Number → List ℕ → List ℕ
-lengthThen (Value n) l = n ∷ l
-lengthThen NoNumber l = []
+-- what is made of a word's number, or this where it has none
+unfoldable pub ifNumber : {A : Type 0} → Number → A → (ℕ → A) → A
+ifNumber (Value n) none f = f n
+ifNumber NoNumber none f = none
 
--- the lengths up to the first word that is none. The first i stand before these words; from 2 × rank on they are maximum lengths.
-unfoldable pub lengthsFrom : ℕ → ℕ → List (List ℕ) → List ℕ
-lengthsFrom rank i [] = []
-lengthsFrom rank i (w ∷ ws) = lengthThen (lengthNumber (leb (2 * rank) i) w) (lengthsFrom rank (suc i) ws)
+-- a question with the number of word i; lengths are no part of it
+unfoldable pub withNumber : Question → ℕ → ℕ → Question
+withNumber q i n = record {
+  «offset_size» = cond (eqb i 0) n (q .«offset_size»);
+  «length_size» = cond (eqb i 1) n (q .«length_size»);
+  address = cond (eqb i 2) n (q .address);
+  «element_bytes» = cond (eqb i 3) n (q .«element_bytes»);
+  order = cond (eqb i 4) n (q .order);
+  rank = cond (eqb i 5) n (q .rank);
+}
 
--- The words behind the rank are 3 × rank lengths: the chunk's, the present and the maximum ones.
-unfoldable pub lengthsRead : ℕ → List (List ℕ) → Bool
-lengthsRead rank ws = eqb (length ws) (3 * rank) && eqb (length (lengthsFrom rank 0 ws)) (3 * rank)
+-- what is asked for before the first word
+abbrev pub noQuestion : Question
+noQuestion = record { «offset_size» = 0; «length_size» = 0; address = 0; «element_bytes» = 0; order = 0; rank = 0 }
 
--- first a word's number, then what is made of it
-infixr 5 _for_
-unfoldable pub _for_ : Number → (ℕ → Reading) → Reading
-Value n for f = f n
-NoNumber for f = Unreadable
+-- what a line asks for, where the words before word i ask for q and these follow: a line of another form is unreadable; ..
+unfoldable pub questionFrom : Question → ℕ → List (List ℕ) → Parsed
+questionFrom q i [] = cond (eqb i (6 + 3 * q .rank)) (Asked q) Unreadable
+questionFrom q i (w ∷ ws) = ifNumber (wordNumber (q .rank) i w) Unreadable (λ n. questionFrom (withNumber q i n) (suc i) ws)
 
--- The line is `O L address elementbytes order rank` and the lengths. O and L are below 256, other numbers below 2^64.
-unfoldable pub headOf : List (List ℕ) → Reading
-headOf ws =
-    numberOf 255 (word 0 ws) for λ o.
-    numberOf 255 (word 1 ws) for λ l.
-    numberOf largest64 (word 2 ws) for λ a.
-    numberOf largest64 (word 3 ws) for λ e.
-    orderNumber (word 4 ws) for λ u.
-    numberOf largest64 (word 5 ws) for λ r.
-    Asked (record { «offset_size» = o; «length_size» = l; address = a; «element_bytes» = e; order = u; rank = r })
+-- .. and the numbers of these words, up to the first that has none
+unfoldable pub numbersFrom : Question → ℕ → List (List ℕ) → List ℕ
+numbersFrom q i [] = []
+numbersFrom q i (w ∷ ws) = ifNumber (wordNumber (q .rank) i w) [] (λ n. n ∷ numbersFrom (withNumber q i n) (suc i) ws)
 
-unfoldable pub withLengths : Reading → List (List ℕ) → Reading
-withLengths Unreadable ws = Unreadable
-withLengths (Asked q) ws = cond (lengthsRead (q .rank) ws) (Asked q) Unreadable
+unfoldable pub lineQuestion : List (List ℕ) → Parsed
+lineQuestion ws = questionFrom noQuestion 0 ws
 
-unfoldable pub lineReading : List (List ℕ) → Reading
-lineReading ws = withLengths (headOf ws) (drop 6 ws)
+-- A line or a file that is too long is unreadable too.
+unfoldable pub questionOf : List ℕ → Parsed
+questionOf input = cond (fits input) (lineQuestion (words (lineOf input))) Unreadable
 
--- A line of another form is unreadable, and so is a line or a file that is too long.
-unfoldable pub readingOf : List ℕ → Reading
-readingOf input = cond (fits input) (lineReading (words (lineOf input))) Unreadable
-
--- The lengths that are read, stored 8 bytes each; none where the words before them are unreadable.
-unfoldable pub lengthsStored : Reading → List (List ℕ) → List ℕ → List ℕ
-lengthsStored Unreadable ws out = out
-lengthsStored (Asked q) ws out = sets out 0 (offsetBytes (lengthsFrom (q .rank) 0 ws))
-
+-- The line's numbers are stored 8 bytes each.
 unfoldable pub lineStored : List (List ℕ) → List ℕ → List ℕ
-lineStored ws out = lengthsStored (headOf ws) (drop 6 ws) out
+lineStored ws out = sets out 0 (offsetBytes (numbersFrom noQuestion 0 ws))
 
 unfoldable pub storedOf : List ℕ → List ℕ → List ℕ
 storedOf input out = cond (fits input) (lineStored (words (lineOf input)) out) out

@@ -1,10 +1,17 @@
 -- What the program prints.
-use Prim.Native.Nat.{ℕ}
+use Prim.Native.Nat.{ℕ, _+_}
+use mathlib.Core.Path.{_≡_}
 use mathlib.Core.List.{List, [], _∷_, _++_}
 use lib.ListN.{length}
+use lib.Seq.{sets}
 use Rattle.refusal.specs.declared.Refusal.{Refusal}
-use Rattle.ea_elements.specs.Elements.{Rec}
+use Rattle.index.specs.Index.{Rec}
 use Rattle.eals.specs.Text.{decimal}
+
+-- A text is put into a buffer at a place: where it ends, and what the buffer holds then.
+pub record Put (out : List ℕ) (at : ℕ) (text out′ : List ℕ) (end : ℕ) : Type 0 where
+  pub ends : end ≡ at + length text
+  pub holds : out′ ≡ sets out at text
 
 -- numbers in decimal digits, each behind a space (32)
 unfoldable pub spaced : List ℕ → List ℕ

@@ -1,29 +1,30 @@
 -- The program: what it prints of an input.
-use Prim.Native.Nat.{ℕ, _*_}
+use Prim.Native.Nat.{ℕ, _+_, _*_}
 use mathlib.Core.List.{List}
 use lib.ListN.{length, take, drop}
 use Rattle.refusal.specs.declared.Counted.{Counted}
 use Rattle.refusal.specs.declared.Counted.the-variants.{Count, Refused}
-use Rattle.ea_elements.specs.Runs.{Listing}
+use Rattle.index.specs.Index.{Listing}
 use Rattle.refusal.specs.Outcome.{countedOf}
-use Rattle.ea_list.specs.Door.{doorGrid, listAt}
-use Rattle.eals.specs.Line.{fileOf, readingOf, storedOf}
-use Rattle.ea_list.specs.Listing.{listContent, recordsIn}
+use Rattle.calls.specs.Call.{callOf}
+use Rattle.ea_list.specs.ListInto.{listAt}
+use Rattle.eals.specs.Line.{fileOf, questionOf, storedOf}
+use Rattle.records.specs.Records.{listContent, recordsIn}
 use Rattle.eals.specs.Printed.{listText, refusalText, unreadableText}
 use Rattle.eals.specs.declared.line.Question.{Question}
-use Rattle.eals.specs.declared.line.Reading.{Reading}
-use Rattle.eals.specs.declared.line.Reading.the-variants.{Asked, Unreadable}
+use Rattle.eals.specs.declared.line.Parsed.{Parsed}
+use Rattle.eals.specs.declared.line.Parsed.the-variants.{Asked, Unreadable}
 
--- The chunk's, the present and the maximum lengths stand one behind the other, 8 bytes each.
+-- Behind the line's first six numbers stand the chunk's, the present and the maximum lengths, 8 bytes each.
 unfoldable pub shapeAt : ℕ → ℕ → List ℕ → List ℕ
-shapeAt rank from lengths = take (8 * rank) (drop from lengths)
+shapeAt rank from numbers = take (8 * rank) (drop from numbers)
 
 -- the list of the file that a question asks for, into a lent list of so many bytes
 unfoldable pub listingOf : Question → List ℕ → List ℕ → ℕ → Listing
-listingOf q lengths file room =
+listingOf q numbers file room =
     let rank = q .rank in
-    let grid = doorGrid (q .order) rank (shapeAt rank 0 lengths) (shapeAt rank (8 * rank) lengths) 1 (shapeAt rank (16 * rank) lengths) in
-    listAt file (q .address) (q .«offset_size») (q .«length_size») grid (q .«element_bytes») room
+    listAt (callOf file (q .«offset_size») (q .«length_size») (q .address) (q .«element_bytes») (q .order) rank
+    (shapeAt rank 48 numbers) (shapeAt rank (48 + 8 * rank) numbers) 1 (shapeAt rank (48 + 16 * rank) numbers)) room
 
 -- the text of an answer: of the records that the lent list holds, or of the refusal
 unfoldable pub countedText : ℕ → Counted → List ℕ → List ℕ
@@ -35,20 +36,13 @@ unfoldable pub countOf : Counted → ℕ
 countOf (Count n) = n
 countOf (Refused r) = 0
 
--- what a reading of the line comes to, with the lengths that it stores: the lent list, and the text
-unfoldable pub readingList : Reading → List ℕ → List ℕ → List ℕ → List ℕ
-readingList Unreadable lengths file list = list
-readingList (Asked q) lengths file list = listContent (listingOf q lengths file (length list)) list
-
-unfoldable pub readingText : Reading → List ℕ → List ℕ → List ℕ → List ℕ
-readingText Unreadable lengths file list = unreadableText
-readingText (Asked q) lengths file list =
-    let a = listingOf q lengths file (length list) in
+-- what a line comes to, with the numbers that are stored of it
+unfoldable pub parsedText : Parsed → List ℕ → List ℕ → List ℕ → List ℕ
+parsedText Unreadable numbers file list = unreadableText
+parsedText (Asked q) numbers file list =
+    let a = listingOf q numbers file (length list) in
     countedText (q .rank) (countedOf a) (listContent a list)
 
 -- The program reads the line and the file behind it, lists the chunks, and prints.
-unfoldable pub programList : List ℕ → List ℕ → List ℕ → List ℕ
-programList input lengths list = readingList (readingOf input) (storedOf input lengths) (fileOf input) list
-
 unfoldable pub programText : List ℕ → List ℕ → List ℕ → List ℕ
-programText input lengths list = readingText (readingOf input) (storedOf input lengths) (fileOf input) list
+programText input numbers list = parsedText (questionOf input) (storedOf input numbers) (fileOf input) list

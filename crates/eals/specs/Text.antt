@@ -1,9 +1,9 @@
 -- Text: lines, words and numbers.
 use Prim.Native.Nat.{ℕ, zero, suc, _+_, _-_, _*_, _/_, _%_}
-use mathlib.Core.Bool.{Bool, true, false, cond, _&&_}
+use mathlib.Core.Bool.{Bool, true, cond, _&&_}
 use mathlib.Core.List.{List, [], _∷_, _++_}
 use lib.Dec.{eqb, leb, ltb}
-use lib.ListN.{length, getD, drop}
+use lib.ListN.{length, getD}
 use Rattle.eals.specs.declared.text.Number.{Number}
 use Rattle.eals.specs.declared.text.Number.the-variants.{Value, NoNumber}
 
@@ -20,14 +20,6 @@ onFirst x (w ∷ ws) = (x ∷ w) ∷ ws
 unfoldable pub words : List ℕ → List (List ℕ)
 words [] = [] ∷ []
 words (x ∷ s) = cond (eqb x 32) ([] ∷ words s) (onFirst x (words s))
-
--- word k, counted from 0; empty where there is none
-unfoldable pub firstWord : List (List ℕ) → List ℕ
-firstWord [] = []
-firstWord (w ∷ ws) = w
-
-unfoldable pub word : ℕ → List (List ℕ) → List ℕ
-word k ws = firstWord (drop k ws)
 
 -- the word of this one byte
 unfoldable pub isOnly : ℕ → List ℕ → Bool

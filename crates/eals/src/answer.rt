@@ -1,33 +1,32 @@
 // What the program answers.
 ghost use mathlib.Core.Path.{_≡_};
-ghost use Prim.Native.Nat.{_*_, _≤_};
+ghost use Prim.Native.Nat.{_+_, _*_, _≤_};
 ghost use lib.ListN.{length};
-ghost use lib.Seq.{sets};
 ghost use Rattle.io.specs.Counts.{Counts};
 ghost use Rattle.refusal.specs.Outcome.{countedOf};
-ghost use Rattle.ea_records.specs.Records.{recordLength};
-ghost use Rattle.ea_list.specs.Listing.{listContent};
-ghost use Rattle.eals.specs.Line.{storedOf};
-ghost use Rattle.eals.specs.Program.{listingOf, countedText, countOf, programText, programList};
+ghost use Rattle.records.specs.Records.{recordLength};
+ghost use Rattle.records.specs.Records.{listContent};
+ghost use Rattle.eals.specs.Printed.{Put};
+ghost use Rattle.eals.specs.Program.{listingOf, countedText, countOf, programText};
+use crate::line::Parsed;
 use crate::line::Question;
-use crate::line::Reading;
 use crate::line::file_of;
 use crate::line::parse;
 use crate::print::put_list;
 use crate::print::put_refusal;
 use crate::print::put_text;
-use ea_list::door::list_at;
+use ea_list::call::list_at;
 use refusal::Counted;
 
 // Lists the chunks that a question asks for.
-fn list_chunks(list: &mut [u8], lengths: &[u8], file: &[u8], question: Question) -> Counted
-    requires { ⌜ 24 * question .rank ≤ length (now lengths) ⌝ }
-    ensures { λ r. ⌜ r ≡ countedOf (listingOf question (now (lengths .entry)) (now (file .entry)) (length (now (list .entry)))) ⌝ }
-    ensures { λ _. ⌜ now (list .exit) ≡ listContent (listingOf question (now (lengths .entry)) (now (file .entry)) (length (now (list .entry)))) (now (list .entry)) ⌝ }
+fn list_chunks(list: &mut [u8], numbers: &[u8], file: &[u8], question: Question) -> Counted
+    requires { ⌜ 48 + 24 * question .rank ≤ length (now numbers) ⌝ }
+    ensures { λ r. ⌜ r ≡ countedOf (listingOf question (now (numbers .entry)) (now (file .entry)) (length (now (list .entry)))) ⌝ }
+    ensures { λ _. ⌜ now (list .exit) ≡ listContent (listingOf question (now (numbers .entry)) (now (file .entry)) (length (now (list .entry)))) (now (list .entry)) ⌝ }
 {
-    let chunk_end = 8 * question.rank as usize;
-    let present_end = 16 * question.rank as usize;
-    let maximum_end = 24 * question.rank as usize;
+    let chunk_end = 48 + 8 * question.rank as usize;
+    let present_end = 48 + 16 * question.rank as usize;
+    let maximum_end = 48 + 24 * question.rank as usize;
     list_at(
         file,
         question.offset_size,
@@ -36,10 +35,10 @@ fn list_chunks(list: &mut [u8], lengths: &[u8], file: &[u8], question: Question)
         question.element_bytes,
         question.order,
         question.rank,
-        &lengths[..chunk_end],
-        &lengths[chunk_end..present_end],
+        &numbers[48..chunk_end],
+        &numbers[chunk_end..present_end],
         1,
-        &lengths[present_end..maximum_end],
+        &numbers[present_end..maximum_end],
         list,
     )
 }
@@ -47,8 +46,8 @@ fn list_chunks(list: &mut [u8], lengths: &[u8], file: &[u8], question: Question)
 // Puts the text of an answer into out, and answers where it ends.
 fn put_counted(out: &mut [u8], list: &[u8], counted: Counted, rank: usize) -> usize
     requires { ⌜ (countOf counted * recordLength rank ≤ length (now list)) × (length (now list) ≡ 65536) × (300000 ≤ length (now out)) ⌝ }
-    ensures { λ r. ⌜ (r ≡ length (countedText rank counted (now (list .entry)))) × (r ≤ 300000) ⌝ }
-    ensures { λ _. ⌜ now (out .exit) ≡ sets (now (out .entry)) 0 (countedText rank counted (now (list .entry))) ⌝ }
+    ensures { λ r. ⌜ Put (now (out .entry)) 0 (countedText rank counted (now (list .entry))) (now (out .exit)) r ⌝ }
+    ensures { λ r. ⌜ r ≤ 300000 ⌝ }
 {
     match counted {
         Counted::Count(n) => put_list(out, list, n as usize, rank),
@@ -57,20 +56,17 @@ fn put_counted(out: &mut [u8], list: &[u8], counted: Counted, rank: usize) -> us
 }
 
 // Puts what the program prints of an input into out, and answers where it ends.
-pub fn answer(out: &mut [u8], list: &mut [u8], lengths: &mut [u8], input: &[u8]) -> usize
-    requires { ⌜ (length (now list) ≡ 65536) × (32768 ≤ length (now lengths)) × (300000 ≤ length (now out)) ⌝ }
-    ensures { λ r. ⌜ r ≡ length (programText (now (input .entry)) (now (lengths .entry)) (now (list .entry))) ⌝ }
+pub fn answer(out: &mut [u8], list: &mut [u8], numbers: &mut [u8], input: &[u8]) -> usize
+    requires { ⌜ (length (now list) ≡ 65536) × (32768 ≤ length (now numbers)) × (300000 ≤ length (now out)) ⌝ }
+    ensures { λ r. ⌜ Put (now (out .entry)) 0 (programText (now (input .entry)) (now (numbers .entry)) (now (list .entry))) (now (out .exit)) r ⌝ }
     ensures { λ r. ⌜ Counts r (now (out .exit)) ⌝ }
-    ensures { λ _. ⌜ now (out .exit) ≡ sets (now (out .entry)) 0 (programText (now (input .entry)) (now (lengths .entry)) (now (list .entry))) ⌝ }
-    ensures { λ _. ⌜ now (list .exit) ≡ programList (now (input .entry)) (now (lengths .entry)) (now (list .entry)) ⌝ }
-    ensures { λ _. ⌜ now (lengths .exit) ≡ storedOf (now (input .entry)) (now (lengths .entry)) ⌝ }
 {
-    match parse(lengths, input) {
-        Reading::Asked(question) => {
+    match parse(numbers, input) {
+        Parsed::Asked(question) => {
             let file = file_of(input);
-            let counted = list_chunks(list, lengths, file, question);
+            let counted = list_chunks(list, numbers, file, question);
             put_counted(out, list, counted, question.rank as usize)
         }
-        Reading::Unreadable => put_text(out, 0, b"unreadable\n"),
+        Parsed::Unreadable => put_text(out, 0, b"unreadable\n"),
     }
 }

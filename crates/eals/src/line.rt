@@ -1,18 +1,15 @@
 // The line that the program reads: what to list, of the file behind it.
 ghost use mathlib.Core.Path.{_≡_};
-ghost use Prim.Native.Nat.{_+_, _≤_};
+ghost use mathlib.Core.Bool.{cond};
+ghost use Prim.Native.Nat.{_≤_};
 ghost use lib.ListN.{length};
-ghost use lib.Seq.{sets};
-ghost use Rattle.ea_records.specs.Records.{offsetBytes};
-ghost use Rattle.eals.specs.Text.{words, numberOf};
-ghost use Rattle.eals.specs.Words.{wordsFrom, foundOf, foundAt, foundEnd};
-ghost use Rattle.eals.specs.Line.{orderNumber, lengthNumber, lengthsFrom, lengthsRead, lineReading, lineStored};
-ghost use Rattle.eals.specs.Line.{lineOf, fileOf, readingOf, storedOf};
+ghost use Rattle.eals.specs.Text.{words};
+ghost use Rattle.eals.specs.Line.{orderNumber, wordNumber, noQuestion, withNumber, lineQuestion, lineStored};
+ghost use Rattle.eals.specs.Line.{fileOf, questionOf, storedOf};
 use crate::text::Number;
-use crate::text::find;
 use crate::text::is_only;
 use crate::text::parse_number;
-use crate::text::word_at;
+use crate::text::until;
 use fields::bytes::put_le;
 
 // What a line asks for, but for the lengths, which are stored beside it.
@@ -25,14 +22,43 @@ pub struct Question {
     pub rank: u64,
 }
 
-pub enum Reading {
-    Asked(Question),
-    Unreadable,
+impl Question {
+    fn none() -> Self
+        ensures { λ r. ⌜ r ≡ noQuestion ⌝ }
+    {
+        Self {
+            offset_size: 0,
+            length_size: 0,
+            address: 0,
+            element_bytes: 0,
+            order: 0,
+            rank: 0,
+        }
+    }
+
+    // The question with the number of word i; lengths are no part of it.
+    fn with(self, i: usize, n: u64) -> Self
+        ensures { λ r. ⌜ r ≡ withNumber self i n ⌝ }
+    {
+        Self {
+            offset_size: chosen(i == 0, n, self.offset_size),
+            length_size: chosen(i == 1, n, self.length_size),
+            address: chosen(i == 2, n, self.address),
+            element_bytes: chosen(i == 3, n, self.element_bytes),
+            order: chosen(i == 4, n, self.order),
+            rank: chosen(i == 5, n, self.rank),
+        }
+    }
 }
 
-// A word's number, and where the next word begins.
-enum Found {
-    Read { value: u64, next: usize },
+fn chosen(first: bool, a: u64, b: u64) -> u64
+    ensures { λ r. ⌜ r ≡ cond first a b ⌝ }
+{
+    if first { a } else { b }
+}
+
+pub enum Parsed {
+    Asked(Question),
     Unreadable,
 }
 
@@ -49,142 +75,61 @@ fn parse_order(word: &[u8]) -> Number
     Number::NoNumber
 }
 
-// The length that a word names; a maximum length may be unlimited.
-fn parse_length(word: &[u8], maximum: bool) -> Number
-    ensures { λ r. ⌜ r ≡ lengthNumber maximum (now (word .entry)) ⌝ }
+// The number of word i.
+fn parse_word(word: &[u8], i: usize, rank: u64) -> Number
+    ensures { λ r. ⌜ r ≡ wordNumber rank i (now (word .entry)) ⌝ }
 {
-    if maximum {
-        if is_only(word, b'*') {
-            return Number::Value(u64::MAX);
+    if i < 2 {
+        return parse_number(word, 255);
+    }
+    if i == 4 {
+        return parse_order(word);
+    }
+    if 6 <= i {
+        if rank <= (i - 6) as u64 / 2 {
+            if is_only(word, b'*') {
+                return Number::Value(u64::MAX);
+            }
         }
     }
     parse_number(word, u64::MAX)
 }
 
-// Stores the lengths from `from` on, up to the first word that is none, and answers whether the line has 3 times rank of them and nothing else.
-fn parse_lengths(lengths: &mut [u8], line: &[u8], from: usize, rank: u64) -> bool
-    requires { ⌜ (length (now line) ≤ 4095) × (from ≤ 65536) × (32768 ≤ length (now lengths)) ⌝ }
-    ensures { λ r. ⌜ r ≡ lengthsRead rank (wordsFrom (now (line .entry)) from) ⌝ }
-    ensures { λ _. ⌜ now (lengths .exit) ≡ sets (now (lengths .entry)) 0 (offsetBytes (lengthsFrom rank 0 (wordsFrom (now (line .entry)) from))) ⌝ }
+// Reads a line, and stores its numbers up to the first word that has none.
+fn parse_line(numbers: &mut [u8], line: &[u8]) -> Parsed
+    requires { ⌜ (length (now line) ≤ 4095) × (32768 ≤ length (now numbers)) ⌝ }
+    ensures { λ r. ⌜ r ≡ lineQuestion (words (now (line .entry))) ⌝ }
+    ensures { λ _. ⌜ now (numbers .exit) ≡ lineStored (words (now (line .entry))) (now (numbers .entry)) ⌝ }
 {
-    let mut at = from;
+    let mut question = Question::none();
+    let mut at = 0;
     let mut i = 0;
+    // Word i begins at `at`; the numbers of the words before it are stored, and in the question.
     while at <= line.len() {
-        let word = word_at(line, at);
-        let length = parse_length(word, rank <= i as u64 / 2);
-        let Number::Value(n) = length else {
-            return false;
+        let word = until(line, at, b' ');
+        let number = parse_word(word, i, question.rank);
+        let Number::Value(n) = number else {
+            return Parsed::Unreadable;
         };
-        put_le(lengths, 8 * i, 8, n);
+        put_le(numbers, 8 * i, 8, n);
+        question = question.with(i, n);
         at = at + word.len() + 1;
         i += 1;
     }
-    if i % 3 != 0 {
-        return false;
+    let rank = question.rank;
+    if rank <= 4096 {
+        if i as u64 == 6 + 3 * rank {
+            return Parsed::Asked(question);
+        }
     }
-    i as u64 / 3 == rank
-}
-
-// What a word at `at` that stands for this number comes to.
-fn found_at(number: Number, at: usize, word: &[u8]) -> Found
-    requires { ⌜ at + length (now word) ≤ 4096 ⌝ }
-    ensures { λ r. ⌜ r ≡ foundOf number (at + length (now (word .entry)) + 1) ⌝ }
-{
-    match number {
-        Number::Value(value) => Found::Read {
-            value,
-            next: at + word.len() + 1,
-        },
-        Number::NoNumber => Found::Unreadable,
-    }
-}
-
-// The number up to `largest` that the word at `at` writes.
-fn number_at(line: &[u8], at: usize, largest: u64) -> Found
-    requires { ⌜ (length (now line) ≤ 4095) × (at ≤ length (now line) + 1) ⌝ }
-    ensures { λ r. ⌜ r ≡ foundAt (numberOf largest) (now (line .entry)) at ⌝ }
-    ensures { λ r. ⌜ foundEnd r ≤ length (now (line .entry)) + 1 ⌝ }
-{
-    let word = word_at(line, at);
-    found_at(parse_number(word, largest), at, word)
-}
-
-// The order that the word at `at` names.
-fn order_at(line: &[u8], at: usize) -> Found
-    requires { ⌜ (length (now line) ≤ 4095) × (at ≤ length (now line) + 1) ⌝ }
-    ensures { λ r. ⌜ r ≡ foundAt orderNumber (now (line .entry)) at ⌝ }
-    ensures { λ r. ⌜ foundEnd r ≤ length (now (line .entry)) + 1 ⌝ }
-{
-    let word = word_at(line, at);
-    found_at(parse_order(word), at, word)
-}
-
-// Reads a line, and stores its lengths.
-fn parse_line(lengths: &mut [u8], line: &[u8]) -> Reading
-    requires { ⌜ (length (now line) ≤ 4095) × (32768 ≤ length (now lengths)) ⌝ }
-    ensures { λ r. ⌜ r ≡ lineReading (words (now (line .entry))) ⌝ }
-    ensures { λ _. ⌜ now (lengths .exit) ≡ lineStored (words (now (line .entry))) (now (lengths .entry)) ⌝ }
-{
-    let Found::Read {
-        value: offset_size,
-        next,
-    } = number_at(line, 0, 255)
-    else {
-        return Reading::Unreadable;
-    };
-    let Found::Read {
-        value: length_size,
-        next,
-    } = number_at(line, next, 255)
-    else {
-        return Reading::Unreadable;
-    };
-    let Found::Read {
-        value: address,
-        next,
-    } = number_at(line, next, u64::MAX)
-    else {
-        return Reading::Unreadable;
-    };
-    let Found::Read {
-        value: element_bytes,
-        next,
-    } = number_at(line, next, u64::MAX)
-    else {
-        return Reading::Unreadable;
-    };
-    let Found::Read { value: order, next } = order_at(line, next) else {
-        return Reading::Unreadable;
-    };
-    let Found::Read { value: rank, next } = number_at(line, next, u64::MAX) else {
-        return Reading::Unreadable;
-    };
-    if !parse_lengths(lengths, line, next, rank) {
-        return Reading::Unreadable;
-    }
-    Reading::Asked(Question {
-        offset_size,
-        length_size,
-        address,
-        element_bytes,
-        order,
-        rank,
-    })
-}
-
-// The line that an input begins with, without its newline.
-fn line_of(input: &[u8]) -> &[u8]
-    ensures { λ r. ⌜ now r ≡ lineOf (now (input .entry)) ⌝ }
-{
-    let end = find(input, 0, b'\n');
-    &input[..end]
+    Parsed::Unreadable
 }
 
 // The file, which is what stands behind the line.
 pub fn file_of(input: &[u8]) -> &[u8]
     ensures { λ r. ⌜ now r ≡ fileOf (now (input .entry)) ⌝ }
 {
-    let end = find(input, 0, b'\n');
+    let end = until(input, 0, b'\n').len();
     if end == input.len() {
         return &input[end..];
     }
@@ -192,22 +137,22 @@ pub fn file_of(input: &[u8]) -> &[u8]
     &input[start..]
 }
 
-// Reads the line in front of a file, and stores its lengths.
-pub fn parse(lengths: &mut [u8], input: &[u8]) -> Reading
-    requires { ⌜ 32768 ≤ length (now lengths) ⌝ }
-    ensures { λ r. ⌜ r ≡ readingOf (now (input .entry)) ⌝ }
-    ensures { λ _. ⌜ now (lengths .exit) ≡ storedOf (now (input .entry)) (now (lengths .entry)) ⌝ }
+// Reads the line in front of a file, and stores its numbers.
+pub fn parse(numbers: &mut [u8], input: &[u8]) -> Parsed
+    requires { ⌜ 32768 ≤ length (now numbers) ⌝ }
+    ensures { λ r. ⌜ r ≡ questionOf (now (input .entry)) ⌝ }
+    ensures { λ _. ⌜ now (numbers .exit) ≡ storedOf (now (input .entry)) (now (numbers .entry)) ⌝ }
 {
-    let line = line_of(input);
+    let line = until(input, 0, b'\n');
     let file = file_of(input);
     if line.len() == input.len() {
-        return Reading::Unreadable;
+        return Parsed::Unreadable;
     }
     if 4095 < line.len() {
-        return Reading::Unreadable;
+        return Parsed::Unreadable;
     }
     if 60000 < file.len() {
-        return Reading::Unreadable;
+        return Parsed::Unreadable;
     }
-    parse_line(lengths, line)
+    parse_line(numbers, line)
 }

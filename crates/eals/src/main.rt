@@ -1,5 +1,5 @@
-// Lists the chunks of a dataset: reads a line that says what to list, and the file behind it, and prints a line for each record and
-// their number, or why there are none.
+// Lists the chunks of a dataset: reads a line that says what to list, and the file behind it, and prints a line for each
+// record and their number, or why there are none.
 mod answer;
 mod line;
 mod print;
@@ -13,9 +13,9 @@ fn main() {
     // An input that fills this has a line or a file that is too long.
     let mut input = io::large_buffer();
     let n = io::read_full(STDIN_FILENO, &mut input);
-    let mut lengths = [0u8; 32768];
+    let mut numbers = [0u8; 32768];
     let mut list = io::large_buffer();
     let mut out = [0u8; 300000];
-    let end = answer(&mut out, &mut list, &mut lengths, &input[..n]);
+    let end = answer(&mut out, &mut list, &mut numbers, &input[..n]);
     io::write_all(STDOUT_FILENO, &out[..end]);
 }

@@ -1,14 +1,12 @@
 // The text that the program prints.
-ghost use mathlib.Core.Path.{_≡_};
-ghost use mathlib.Core.List.{[], _∷_};
+ghost use mathlib.Core.List.{_∷_};
 ghost use Prim.Native.Nat.{_+_, _*_, _≤_};
 ghost use lib.ListN.{length, drop};
-ghost use lib.Seq.{sets};
 ghost use Rattle.chunk_grid.specs.Shapes.{numbersIn};
-ghost use Rattle.ea_records.specs.Records.{recordLength};
+ghost use Rattle.records.specs.Records.{recordLength};
 ghost use Rattle.eals.specs.Text.{decimal};
-ghost use Rattle.ea_list.specs.Listing.{recordIn, recordsIn};
-ghost use Rattle.eals.specs.Printed.{spaced, recordLine, recordLines, listText, refusalText};
+ghost use Rattle.records.specs.Records.{recordIn, recordsIn};
+ghost use Rattle.eals.specs.Printed.{Put, spaced, recordLine, recordLines, listText, refusalText};
 use fields::bytes::read_u32_le;
 use fields::bytes::read_u64_le;
 use refusal::Refusal;
@@ -16,22 +14,16 @@ use refusal::Refusal;
 // Stores a text from `at` on, and answers where it ends.
 pub fn put_text(out: &mut [u8], at: usize, text: &[u8]) -> usize
     requires { ⌜ at + length (now text) ≤ length (now out) ⌝ }
-    ensures { λ r. ⌜ r ≡ at + length (now (text .entry)) ⌝ }
-    ensures { λ _. ⌜ now (out .exit) ≡ sets (now (out .entry)) at (now (text .entry)) ⌝ }
+    ensures { λ r. ⌜ Put (now (out .entry)) at (now (text .entry)) (now (out .exit)) r ⌝ }
 {
-    let mut i = 0;
-    while i < text.len() {
-        out[at + i] = text[i];
-        i += 1;
-    }
-    at + i
+    at + bytes::copy(text, &mut out[at..])
 }
 
 // The same of a number's digits.
 fn put_number(out: &mut [u8], at: usize, n: u64) -> usize
-    requires { ⌜ at + length (decimal n) ≤ length (now out) ⌝ }
-    ensures { λ r. ⌜ r ≡ at + length (decimal n) ⌝ }
-    ensures { λ _. ⌜ now (out .exit) ≡ sets (now (out .entry)) at (decimal n) ⌝ }
+    requires { ⌜ at + 20 ≤ length (now out) ⌝ }
+    ensures { λ r. ⌜ Put (now (out .entry)) at (decimal n) (now (out .exit)) r ⌝ }
+    ensures { λ r. ⌜ r ≤ at + 20 ⌝ }
 {
     let mut digits = [0u8; 20];
     let k = io::decimal(n, &mut digits);
@@ -40,9 +32,9 @@ fn put_number(out: &mut [u8], at: usize, n: u64) -> usize
 
 // The same, behind a space.
 fn put_spaced(out: &mut [u8], at: usize, n: u64) -> usize
-    requires { ⌜ at + length (spaced (n ∷ [])) ≤ length (now out) ⌝ }
-    ensures { λ r. ⌜ r ≡ at + length (spaced (n ∷ [])) ⌝ }
-    ensures { λ _. ⌜ now (out .exit) ≡ sets (now (out .entry)) at (spaced (n ∷ [])) ⌝ }
+    requires { ⌜ at + 21 ≤ length (now out) ⌝ }
+    ensures { λ r. ⌜ Put (now (out .entry)) at (32 ∷ decimal n) (now (out .exit)) r ⌝ }
+    ensures { λ r. ⌜ r ≤ at + 21 ⌝ }
 {
     let next = put_text(out, at, b" ");
     put_number(out, next, n)
@@ -50,12 +42,13 @@ fn put_spaced(out: &mut [u8], at: usize, n: u64) -> usize
 
 // The same of n numbers of 8 bytes each, which a list holds from `from` on, each behind a space.
 fn put_offsets(out: &mut [u8], at: usize, list: &[u8], from: usize, n: usize) -> usize
-    requires { ⌜ (from + 8 * n ≤ length (now list)) × (at + length (spaced (numbersIn n (drop from (now list)))) ≤ length (now out)) ⌝ }
-    ensures { λ r. ⌜ r ≡ at + length (spaced (numbersIn n (drop from (now (list .entry))))) ⌝ }
-    ensures { λ _. ⌜ now (out .exit) ≡ sets (now (out .entry)) at (spaced (numbersIn n (drop from (now (list .entry))))) ⌝ }
+    requires { ⌜ (from + 8 * n ≤ length (now list)) × (at + 21 * n ≤ length (now out)) ⌝ }
+    ensures { λ r. ⌜ Put (now (out .entry)) at (spaced (numbersIn n (drop from (now (list .entry))))) (now (out .exit)) r ⌝ }
+    ensures { λ r. ⌜ r ≤ at + 21 * n ⌝ }
 {
     let mut to = at;
     let mut i = 0;
+    // The first i numbers stand before `to`.
     while i < n {
         to = put_spaced(out, to, read_u64_le(list, from + 8 * i));
         i += 1;
@@ -65,9 +58,9 @@ fn put_offsets(out: &mut [u8], at: usize, list: &[u8], from: usize, n: usize) ->
 
 // The same of the line of the record that a list holds from `from` on.
 fn put_record(out: &mut [u8], at: usize, list: &[u8], from: usize, rank: usize) -> usize
-    requires { ⌜ (from + recordLength rank ≤ length (now list)) × (at + length (recordLine (recordIn rank (drop from (now list)))) ≤ length (now out)) ⌝ }
-    ensures { λ r. ⌜ r ≡ at + length (recordLine (recordIn rank (drop from (now (list .entry))))) ⌝ }
-    ensures { λ _. ⌜ now (out .exit) ≡ sets (now (out .entry)) at (recordLine (recordIn rank (drop from (now (list .entry))))) ⌝ }
+    requires { ⌜ (from + recordLength rank ≤ length (now list)) × (at + 4 * recordLength rank ≤ length (now out)) ⌝ }
+    ensures { λ r. ⌜ Put (now (out .entry)) at (recordLine (recordIn rank (drop from (now (list .entry))))) (now (out .exit)) r ⌝ }
+    ensures { λ r. ⌜ r ≤ at + 4 * recordLength rank ⌝ }
 {
     let address = put_number(out, at, read_u64_le(list, from));
     let size = put_spaced(out, address, read_u32_le(list, from + 8) as u64);
@@ -78,13 +71,14 @@ fn put_record(out: &mut [u8], at: usize, list: &[u8], from: usize, rank: usize) 
 
 // The lines of the first `count` records of a list.
 fn put_records(out: &mut [u8], list: &[u8], count: usize, rank: usize) -> usize
-    requires { ⌜ (count * recordLength rank ≤ length (now list)) × (length (recordLines (recordsIn rank count (now list))) ≤ length (now out)) ⌝ }
-    ensures { λ r. ⌜ r ≡ length (recordLines (recordsIn rank count (now (list .entry)))) ⌝ }
-    ensures { λ _. ⌜ now (out .exit) ≡ sets (now (out .entry)) 0 (recordLines (recordsIn rank count (now (list .entry)))) ⌝ }
+    requires { ⌜ (count * recordLength rank ≤ length (now list)) × (4 * length (now list) ≤ length (now out)) ⌝ }
+    ensures { λ r. ⌜ Put (now (out .entry)) 0 (recordLines (recordsIn rank count (now (list .entry)))) (now (out .exit)) r ⌝ }
+    ensures { λ r. ⌜ r ≤ 4 * length (now (list .entry)) ⌝ }
 {
     let mut to = 0;
     let mut from = 0;
     let mut left = count;
+    // The lines of the records before `from` stand before `to`; so many are left.
     while 0 < left {
         to = put_record(out, to, list, from, rank);
         from += 16 + 8 * rank;
@@ -95,9 +89,9 @@ fn put_records(out: &mut [u8], list: &[u8], count: usize, rank: usize) -> usize
 
 // The text of a list of `count` records, from the start of out on; answers where it ends.
 pub fn put_list(out: &mut [u8], list: &[u8], count: usize, rank: usize) -> usize
-    requires { ⌜ (count * recordLength rank ≤ length (now list)) × (length (listText (recordsIn rank count (now list))) ≤ length (now out)) ⌝ }
-    ensures { λ r. ⌜ r ≡ length (listText (recordsIn rank count (now (list .entry)))) ⌝ }
-    ensures { λ _. ⌜ now (out .exit) ≡ sets (now (out .entry)) 0 (listText (recordsIn rank count (now (list .entry)))) ⌝ }
+    requires { ⌜ (count * recordLength rank ≤ length (now list)) × (4 * length (now list) + 29 ≤ length (now out)) ⌝ }
+    ensures { λ r. ⌜ Put (now (out .entry)) 0 (listText (recordsIn rank count (now (list .entry)))) (now (out .exit)) r ⌝ }
+    ensures { λ r. ⌜ r ≤ 4 * length (now (list .entry)) + 29 ⌝ }
 {
     let lines = put_records(out, list, count, rank);
     let word = put_text(out, lines, b"records");
@@ -107,9 +101,9 @@ pub fn put_list(out: &mut [u8], list: &[u8], count: usize, rank: usize) -> usize
 
 // The text of a refusal.
 pub fn put_refusal(out: &mut [u8], refusal: Refusal) -> usize
-    requires { ⌜ length (refusalText refusal) ≤ length (now out) ⌝ }
-    ensures { λ r. ⌜ r ≡ length (refusalText refusal) ⌝ }
-    ensures { λ _. ⌜ now (out .exit) ≡ sets (now (out .entry)) 0 (refusalText refusal) ⌝ }
+    requires { ⌜ 71 ≤ length (now out) ⌝ }
+    ensures { λ r. ⌜ Put (now (out .entry)) 0 (refusalText refusal) (now (out .exit)) r ⌝ }
+    ensures { λ r. ⌜ r ≤ 71 ⌝ }
 {
     let word = put_text(out, 0, b"refused");
     let number = put_spaced(out, word, refusal.number);

@@ -1,9 +1,9 @@
 // Words and numbers of a text.
 ghost use mathlib.Core.Path.{_≡_};
-ghost use Prim.Native.Nat.{_+_, _≤_, max};
+ghost use Prim.Native.Nat.{_+_, _≤_};
 ghost use lib.ListN.{length, drop};
 ghost use Rattle.eals.specs.Text.{before, isOnly, numberOf};
-ghost use Rattle.eals.specs.Words.{wordAt};
+use bytes::scan;
 
 // What a word stands for.
 pub enum Number {
@@ -11,31 +11,14 @@ pub enum Number {
     NoNumber,
 }
 
-// The place of the first b from `from` on, or the end where there is none.
-pub fn find(s: &[u8], from: usize, b: u8) -> usize
+// The part from `from` on up to the first b, or up to the end where there is none.
+pub fn until(s: &[u8], from: usize, b: u8) -> &[u8]
     requires { ⌜ from ≤ length (now s) ⌝ }
-    ensures { λ r. ⌜ (r ≡ from + length (before b (drop from (now (s .entry))))) × (r ≤ length (now (s .entry))) ⌝ }
+    ensures { λ r. ⌜ now r ≡ before b (drop from (now (s .entry))) ⌝ }
+    ensures { λ r. ⌜ from + length (now r) ≤ length (now (s .entry)) ⌝ }
 {
-    let mut at = from;
-    while at < s.len() {
-        if s[at] == b {
-            return at;
-        }
-        at += 1;
-    }
-    at
-}
-
-// The word that begins at `at`; empty behind the line's end.
-pub fn word_at(line: &[u8], at: usize) -> &[u8]
-    ensures { λ r. ⌜ now r ≡ wordAt (now (line .entry)) at ⌝ }
-    ensures { λ r. ⌜ at + length (now r) ≤ max at (length (now (line .entry))) ⌝ }
-{
-    if line.len() < at {
-        return &line[..0];
-    }
-    let end = find(line, at, b' ');
-    &line[at..end]
+    let end = scan::find(s, from, s.len(), b);
+    &s[from..end]
 }
 
 // Whether a word is one byte, b.
@@ -60,6 +43,7 @@ pub fn parse_number(word: &[u8], largest: u64) -> Number
     }
     let mut value = 0u64;
     let mut i = 0;
+    // `value` is the value of the first i bytes, which are digits.
     while i < word.len() {
         let b = wide(word[i]);
         if b < 48 {

@@ -61,11 +61,11 @@ too-wide n h fit = let e : figure n ≡ n = omega arith in simp (lt-ltb (2 ^ 32 
 pub narrow-is : (t : Checked) (n v : ℕ) → Value v ≡ narrowedAfter t n → (Passed ≡ t) × (v ≡ n)
 unfolding narrowedAfter
 narrow-is Passed n v h = (refl, cc)
-narrow-is (Refused r) n v h = let z : _≡_ {A = ℕ} 0 1 = cc in absurd (omega arith)
+narrow-is (Refused r) n v h = (cc, cc)
 
 pub too-wide-is : (t : Checked) (n : ℕ) (r : Refusal) → NarrowedRefused r ≡ narrowedAfter t n → Refused r ≡ t
 unfolding narrowedAfter
-too-wide-is Passed n r h = let z : _≡_ {A = ℕ} 0 1 = cc in absurd (omega arith)
+too-wide-is Passed n r h = cc
 too-wide-is (Refused q) n r h = cc
 
 -- sums of figures are the figure of the sum

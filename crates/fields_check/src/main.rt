@@ -79,6 +79,7 @@ fn print_ensured(s: &[u8], pos: u64, needed: u64) {
 // Widths 0 to 9 at a position.
 fn print_widths(s: &[u8], pos: u64) {
     let mut width = 0;
+    // The widths below `width` are printed.
     while width < 10 {
         print_readers(s, pos, width);
         width += 1;
@@ -88,6 +89,7 @@ fn print_widths(s: &[u8], pos: u64) {
 // Widths 0 to 9 at a position, in a slice that ends with the field, and in one that ends a byte before.
 fn print_ends(s: &[u8], pos: usize) {
     let mut end = pos;
+    // The fields that end before `end` are printed.
     while end < s.len() {
         let width = (end - pos) as u64;
         print_readers(&s[..end], pos as u64, width);
@@ -114,6 +116,7 @@ fn print_undefined(value: u64) {
     print_number(value);
     io::write_all(STDOUT_FILENO, b":");
     let mut width = 0;
+    // The widths below `width` are printed.
     while width < 10 {
         if is_undefined_addr(Address { value }, width) {
             print_number(1);
@@ -128,6 +131,7 @@ fn print_undefined(value: u64) {
 // A buffer with a number stored in it at widths 0 to 9, and the number that is read back.
 fn print_stored(value: u64) {
     let mut width = 0;
+    // The widths below `width` are printed.
     while width < 10 {
         io::write_all(STDOUT_FILENO, b"store");
         print_number(value);
@@ -144,6 +148,7 @@ fn print_stored(value: u64) {
 
 fn print_bytes(s: &[u8]) {
     let mut i = 0;
+    // The first i bytes are printed.
     while i < s.len() {
         io::print_hex(STDOUT_FILENO, s[i] as u64, 2);
         i += 1;

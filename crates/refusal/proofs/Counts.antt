@@ -1,7 +1,7 @@
 -- The number of members of an outcome's list. Assumes nothing.
 use Prim.Native.Nat.{ℕ, _+_}
 use mathlib.Core.Path.{_≡_, refl, sym, ap}
-use mathlib.Core.List.{List, [], _∷_}
+use mathlib.Core.List.{List, []}
 use native.Mathlib.Omega.{arith}
 use lib.ListN.{length}
 use Rattle.refusal.specs.declared.Refusal.{Refusal}
@@ -22,7 +22,7 @@ module _ {A : Type 0} where
   pub refused-inv : (a : Outcome (List A)) (r : Refusal) → CountedRefused r ≡ countedOf a → a ≡ refused r
   unfolding countedOf
   refused-inv (refused q) r h = let z : r ≡ q = cc in ap refused (sym z)
-  refused-inv (accepted l) r h = let z : _≡_ {A = ℕ} 0 1 = cc in absurd (omega arith)
+  refused-inv (accepted l) r h = cc
 
 -- the answer that a refusal and a count stand for
 unfoldable pub answered : Checked → ℕ → Counted

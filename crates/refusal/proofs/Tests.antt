@@ -34,7 +34,7 @@ not-both a b h e = rw e at h
 
 pub neither : (a b : Bool) → a || b ≡ false → (a ≡ false) × (b ≡ false)
 neither false b h = (refl, h)
-neither true b h = let z : _≡_ {A = ℕ} 0 1 = cc in absurd (omega arith)
+neither true b h = (cc, cc)
 
 pub refused-passed : (r : Refusal) → Refused r ≡ Passed → ⊥
 refused-passed r h = let z : _≡_ {A = ℕ} 0 1 = cc in omega arith

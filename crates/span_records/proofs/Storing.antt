@@ -7,10 +7,11 @@ use native.Mathlib.Omega.{arith}
 use borrow.Author.Tests.{le-leb, lt-leb}
 use lib.Dec.{leb}
 use lib.ListN.{length, getD, take, set, length-set, length-take, List·getD-append}
-use lib.Seq.{sets, length-sets, sets-eq, take-suc, take-all}
+use lib.Seq.{sets, sets-eq, take-suc, take-all}
 use Rattle.refusal.specs.Outcome.{accepted}
 use Rattle.span_walk.specs.declared.Span.{Span}
-use Rattle.ea_spans.specs.Listing.{each, filled, addressOf, lengthOf}
+use Rattle.ea_spans.specs.SpanList.{each, filled, addressOf, lengthOf}
+use Rattle.ea_spans.proofs.Writing.{length-filled}
 use Rattle.span_records.specs.Stored.{spanAt, stored, fits, storedWhere}
 
 pub length-stored : (n : ℕ) (xs ls : List ℕ) (ys : List Span) → length (stored n xs ls ys) ≡ length ys
@@ -80,10 +81,6 @@ getD-filled part l xs i d le lt =
     ∙ List·getD-append (each part l) _ 0 i (omega arith)
     ∙ getD-each part l i d lt
 
-length-filled : (part : Span → ℕ) (l : List Span) (xs : List ℕ) → length (filled part (accepted l) 0 xs) ≡ length xs
-unfolding filled
-length-filled part l xs = length-sets xs 0 (each part l)
-
 -- Spans that were listed into two lists, stored as records: the records are those spans.
 module _ (l : List Span) (xs ls : List ℕ) (ys : List Span) (a : length l ≤ length xs) (b : length l ≤ length ls) where
   abbrev A : List ℕ
@@ -104,7 +101,7 @@ module _ (l : List Span) (xs ls : List ℕ) (ys : List Span) (a : length l ≤ l
 
   pub spans-stored : length l ≤ length ys → storedWhere (length l) A L ys ≡ sets ys 0 l
   spans-stored c =
-      let x : length A ≡ length xs = length-filled addressOf l xs in
-      let y : length L ≡ length ls = length-filled lengthOf l ls in
+      let x : length A ≡ length xs = length-filled addressOf (accepted l) 0 xs in
+      let y : length L ≡ length ls = length-filled lengthOf (accepted l) 0 ls in
       sym (stored-whole (length l) A L ys (fits-all (length l) ys A L c (rw x a) (rw y b)))
       ∙ stored-take (length l) (omega arith) ∙ ap (sets ys 0) (take-all (length l) l (omega arith))

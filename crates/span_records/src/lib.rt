@@ -19,6 +19,7 @@ pub fn store_spans(spans: &mut [Span], addresses: &[u64], lengths: &[u64], n: us
         return false;
     }
     let mut i: usize = 0;
+    // The first i records hold the first i spans.
     while i < n {
         spans[i] = Span {
             address: addresses[i],

@@ -1,4 +1,5 @@
 pub mod Heads
+pub mod Joined
 pub mod Turns
 pub mod Members
 pub mod Covering

@@ -1,8 +1,8 @@
 -- Which spans an accepted walk has. Assumes nothing.
 use Prim.Native.Nat.{ℕ, zero, suc, _+_, _<_, _≤_}
-use mathlib.Core.Path.{_≡_, refl, sym, subst, _∙_}
+use mathlib.Core.Path.{_≡_, refl, sym, ap, subst, _∙_}
 use mathlib.Core.Bool.{true, false, not, _||_}
-use mathlib.Core.List.{List, _∷_, List·Memᴰ, List·Memᴰ·head, List·Memᴰ·tail}
+use mathlib.Core.List.{List, _∷_, List·Memᴰ, List·Memᴰ·head, List·Memᴰ·tail, Memᴰ·append-left, Memᴰ·append-right}
 use mathlib.Core.Logic.{⊎-elim}
 use native.Mathlib.Omega.{arith}
 use native.Mathlib.Nat.{eq-or-lt-of-le}
@@ -11,13 +11,13 @@ use Rattle.refusal.specs.Outcome.{accepted}
 use Rattle.refusal.proofs.Tests.{by-cond, false-true, both}
 use Rattle.refusal.proofs.Outcomes.{yields-inv, also-inv}
 use Rattle.ea_geometry.specs.Sizes.{blocks}
-use Rattle.ea_blocks.specs.Call.{Call}
-use Rattle.ea_blocks.specs.Structures.{isDirect, superUndefined, blockUndefined}
-use Rattle.ea_elements.specs.Places.{blockReached}
-use Rattle.ea_elements.proofs.Passed.{gone}
+use Rattle.ea_blocks.specs.Array.{Array}
+use Rattle.ea_blocks.specs.Structures.{superBlock, dataBlock, isDirect, superUndefined, blockUndefined}
+use Rattle.ea_blocks.specs.Places.{blockReached}
 use Rattle.span_walk.specs.declared.Span.{Span}
-use Rattle.span_walk.specs.Spans.{superSpan, blockSpan}
-use Rattle.span_walk.specs.Walk.{Spanning, blocksFrom, supersFrom}
+use Rattle.span_walk.specs.Spans.{spanOf}
+use Rattle.span_walk.specs.Walk.{Spanning, blockSpans, superSpans, supersFrom}
+use Rattle.span_walk.proofs.Joined.{joined-inv}
 
 -- every span of one list is in another
 abbrev pub Among : List Span → List Span → Type 0
@@ -29,93 +29,58 @@ among-cons e t h = subst (List·Memᴰ t) (sym e) (List·Memᴰ·tail h)
 pub head-cons : {s : Span} {m l : List Span} → l ≡ s ∷ m → List·Memᴰ s l
 head-cons {s} e = subst (List·Memᴰ s) (sym e) (List·Memᴰ·head refl)
 
--- those of the data blocks from k on, and of what is left behind them
-pub record Blocks (c : Call) (u j k : ℕ) (rest : Spanning) (l : List Span) : Type 0 where
-  pub tail : List Span
-  pub is : rest ≡ accepted tail
-  pub among : Among tail l
-  pub block : (i : ℕ) → k ≤ i → i < k + j → blockUndefined c u i ≡ false → List·Memᴰ (blockSpan c u i) l
+-- those of the data blocks from k on
+blocks-in : (a : Array) (u j k i : ℕ) → k ≤ i → i < k + j → blockUndefined a u i ≡ false → List·Memᴰ (spanOf a (dataBlock u i)) (blockSpans a u j k)
+unfolding blockSpans
+blocks-in a u zero k i le lt e = absurd (omega arith)
+blocks-in a u (suc j) k i le lt e =
+    let later : k < i → List·Memᴰ (spanOf a (dataBlock u i)) (blockSpans a u j (k + 1)) = λ q. blocks-in a u j (k + 1) i (omega arith) (omega arith) e in
+    by-cond (List·Memᴰ (spanOf a (dataBlock u i))) (blockUndefined a u k)
+    (λ t. ⊎-elim (λ (q : k ≡ i). absurd (false-true (sym e ∙ ap (blockUndefined a u) (sym q) ∙ t))) later (eq-or-lt-of-le le))
+    (λ t. ⊎-elim (λ (q : k ≡ i). List·Memᴰ·head (ap (λ (x : ℕ). spanOf a (dataBlock u x)) (sym q))) (λ q. List·Memᴰ·tail (later q)) (eq-or-lt-of-le le))
 
--- data block k itself
-step : (c : Call) (u j k : ℕ) (rest : Spanning) (m l : List Span) → Blocks c u j (k + 1) rest m → Among m l
-    → (blockUndefined c u k ≡ false → List·Memᴰ (blockSpan c u k) l) → Blocks c u (suc j) k rest l
-step c u j k rest m l b a here = record {
-  tail = b .tail;
-  is = b .is;
-  among = λ s h. a s (b .among s h);
-  block = λ i le lt e.
-      ⊎-elim (λ (q : k ≡ i). subst (λ (x : ℕ). List·Memᴰ (blockSpan c u x) l) q (here (rw q e)))
-      (λ (q : k < i). a _ (b .block i (omega arith) (omega arith) e)) (eq-or-lt-of-le le);
-}
+-- those of super block u
+pub record Holds (a : Array) (u : ℕ) (l : List Span) : Type 0 where
+  pub super : isDirect a u ≡ false → superUndefined a u ≡ false → List·Memᴰ (spanOf a (superBlock u)) l
+  pub block : (k : ℕ) → k < blocks u → blockReached a u k ≡ true → List·Memᴰ (spanOf a (dataBlock u k)) l
 
-pub blocks-in : (c : Call) (u j k : ℕ) (rest : Spanning) (l : List Span) → blocksFrom c u j k rest ≡ accepted l → Blocks c u j k rest l
-unfolding blocksFrom
-blocks-in c u zero k rest l h = record { tail = l; is = h; among = λ s m. m; block = λ i le lt e. absurd (omega arith) }
-blocks-in c u (suc j) k rest l h =
-    by-cond (λ (a : Spanning). a ≡ accepted l → Blocks c u (suc j) k rest l) (blockUndefined c u k)
-    (λ t e. step c u j k rest l l (blocks-in c u j (k + 1) rest l e) (λ s m. m) (λ q. absurd (false-true (sym q ∙ t))))
-    (λ t e.
-    let o = also-inv _ _ l e in
-    step c u j k rest (o .0) l (blocks-in c u j (k + 1) rest (o .0) (o .1)) (among-cons (o .2)) (λ q. head-cons (o .2))) h
+module _ (a : Array) (u : ℕ) (l : List Span) where
+  -- a data block that is reached is pointed to
+  blocks-held : Among (blockSpans a u (blocks u) 0) l → (k : ℕ) → k < blocks u → blockReached a u k ≡ true
+      → List·Memᴰ (spanOf a (dataBlock u k)) l
+  unfolding blockReached
+  blocks-held m k lt r =
+      m _ (blocks-in a u (blocks u) 0 k (omega arith) (omega arith)
+      (not-true _ (both (isDirect a u || not (superUndefined a u)) (not (blockUndefined a u k)) r .1)))
 
--- those of super block v
-pub record Holds (c : Call) (v : ℕ) (l : List Span) : Type 0 where
-  pub super : isDirect c v ≡ false → superUndefined c v ≡ false → List·Memᴰ (superSpan c v) l
-  pub block : (k : ℕ) → k < blocks v → blockReached c v k ≡ true → List·Memᴰ (blockSpan c v k) l
-
-pub holds-among : (c : Call) (v : ℕ) (m l : List Span) → Among m l → Holds c v m → Holds c v l
-holds-among c v m l a h = record { super = λ d w. a _ (h .super d w); block = λ k lt r. a _ (h .block k lt r) }
-
-defined : (c : Call) (u k : ℕ) → blockReached c u k ≡ true → blockUndefined c u k ≡ false
-unfolding blockReached
-defined c u k r = not-true _ (both (isDirect c u || not (superUndefined c u)) (not (blockUndefined c u k)) r .1)
-
--- super block u, and what is left behind it
-pub record Turn (c : Call) (j u : ℕ) (l : List Span) : Type 0 where
-  pub here : Holds c u l
-  pub tail : List Span
-  pub is : supersFrom c j (u + 1) ≡ accepted tail
-  pub among : Among tail l
-
-module _ (c : Call) (j u : ℕ) (l : List Span) where
-  -- its data blocks are in l or in a part of it
-  inside : (m : List Span) → blocksFrom c u (blocks u) 0 (supersFrom c j (u + 1)) ≡ accepted m → Among m l
-      → (isDirect c u ≡ false → superUndefined c u ≡ false → List·Memᴰ (superSpan c u) l) → Turn c j u l
-  inside m e a s =
-      let b = blocks-in c u (blocks u) 0 _ m e in
-      record {
-        here = record { super = s; block = λ k lt r. a _ (b .block k (omega arith) (omega arith) (defined c u k r)) };
-        tail = b .tail;
-        is = b .is;
-        among = λ t h. a t (b .among t h);
-      }
-
-  pub turn : supersFrom c (suc j) u ≡ accepted l → Turn c j u l
-  unfolding supersFrom
-  turn h =
-      by-cond P (isDirect c u) (λ d e. inside l e (λ s m. m) (λ x. absurd (false-true (sym x ∙ d))))
-      (λ d. by-cond P (superUndefined c u)
-      (λ w e. record {
-        here = record {
-          super = λ x y. absurd (false-true (sym y ∙ w));
-          block = λ k lt r. absurd (false-true (sym (gone c u k d w) ∙ r));
-        };
-        tail = l;
-        is = e;
-        among = λ s m. m;
-      })
+  super-holds : superSpans a u ≡ accepted l → Holds a u l
+  unfolding superSpans blockReached
+  super-holds h =
+      by-cond P (isDirect a u)
+      (λ d e.
+      let z : blockSpans a u (blocks u) 0 ≡ l = cc in
+      record { super = λ x. absurd (false-true (sym x ∙ d)); block = blocks-held (λ s. subst (List·Memᴰ s) z) })
+      (λ d. by-cond P (superUndefined a u)
+      (λ w e. record { super = λ x y. absurd (false-true (sym y ∙ w)); block = λ k lt r. absurd (false-true (rw (d, w) at r)) })
       (λ w e.
-      let y = yields-inv _ _ l e in
-      let o = also-inv _ _ l (y .1) in
-      inside (o .0) (o .1) (among-cons (o .2)) (λ x z. head-cons (o .2)))) h
+      let o = also-inv _ _ l (yields-inv _ _ l e .1) in
+      let z : blockSpans a u (blocks u) 0 ≡ o .0 = cc in
+      record { super = λ x y. head-cons (o .2); block = blocks-held (λ s m. among-cons (o .2) s (subst (List·Memᴰ s) z m)) })) h
     where
       P : Spanning → Type 0
-      P a = a ≡ accepted l → Turn c j u l
+      P b = b ≡ accepted l → Holds a u l
 
-pub supers-in : (c : Call) (j u : ℕ) (l : List Span) → supersFrom c j u ≡ accepted l → (v : ℕ) → u ≤ v → v < u + j → Holds c v l
-supers-in c zero u l h v le lt = absurd (omega arith)
-supers-in c (suc j) u l h v le lt =
-    let t = turn c j u l h in
-    ⊎-elim (λ (q : u ≡ v). subst (λ (x : ℕ). Holds c x l) q (t .here))
-    (λ (q : u < v). holds-among c v (t .tail) l (t .among) (supers-in c j (u + 1) (t .tail) (t .is) v (omega arith) (omega arith)))
+-- those of the super blocks from u on
+pub supers-in : (a : Array) (j u : ℕ) (l m : List Span) → supersFrom a j u ≡ accepted m → Among m l
+    → (v : ℕ) → u ≤ v → v < u + j → Holds a v l
+unfolding supersFrom
+supers-in a zero u l m h i v le lt = absurd (omega arith)
+supers-in a (suc j) u l m h i v le lt =
+    let p = joined-inv _ _ m h in
+    let first : Among (p .first) l = λ s x. i s (subst (List·Memᴰ s) (sym (p .is)) (Memᴰ·append-left (p .second) x)) in
+    let second : Among (p .second) l = λ s x. i s (subst (List·Memᴰ s) (sym (p .is)) (Memᴰ·append-right (p .first) x)) in
+    let b = super-holds a u (p .first) (p .first-is) in
+    let here : Holds a u l = record { super = λ x y. first _ (b .super x y); block = λ k lt r. first _ (b .block k lt r) } in
+    ⊎-elim (λ (q : u ≡ v). subst (λ (x : ℕ). Holds a x l) q here)
+    (λ (q : u < v). supers-in a j (u + 1) l (p .second) (p .second-is) second v (omega arith) (omega arith))
     (eq-or-lt-of-le le)

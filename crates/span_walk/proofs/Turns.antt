@@ -1,61 +1,67 @@
--- One turn of a loop over super blocks or data blocks. Assumes nothing.
+-- The spans of the index block and of a super block, and one turn of a loop over super blocks or data blocks. Assumes nothing.
 use Prim.Native.Nat.{ℕ, suc, _+_, _-_, _<_, _≤_}
 use mathlib.Core.Path.{_≡_, refl}
 use mathlib.Core.Bool.{true, false}
-use mathlib.Core.List.{[]}
+use mathlib.Core.List.{[], _∷_}
 use native.Mathlib.Omega.{arith}
-use native.Mathlib.Nat.{sub-zero}
-use Rattle.refusal.specs.declared.Refusal.{Refusal}
-use Rattle.refusal.specs.declared.Checked.the-variants.{Passed, Refused}
-use Rattle.refusal.specs.Outcome.{refused, accepted, _yields_, also}
-use Rattle.ea_geometry.specs.Sizes.{blocks}
-use Rattle.ea_blocks.specs.Call.{Call}
-use Rattle.ea_blocks.specs.Structures.{isDirect, superUndefined, blockUndefined}
-use Rattle.span_walk.specs.Spans.{superSpan, blockSpan}
-use Rattle.span_walk.specs.Walk.{Spanning, superTest, blocksFrom, supersFrom}
+use Rattle.refusal.specs.Outcome.{accepted, _yields_, also}
+use Rattle.fields.specs.Fields.{undefined}
+use Rattle.ea_geometry.specs.Sizes.{superBlocks, blocks}
+use Rattle.ea_blocks.specs.Array.{Array}
+use Rattle.ea_blocks.specs.Structures.{indexBlock, superBlock, dataBlock, isDirect, superUndefined, blockUndefined}
+use Rattle.span_walk.specs.Spans.{spanOf, spannedTest}
+use Rattle.span_walk.specs.Walk.{joined, blockSpans, superSpans, supersFrom, indexSpans}
 
 -- what is left of n, before and after a turn
 less : (n i : ℕ) → i < n → n - i ≡ suc (n - (i + 1))
 less n i h = omega arith
 
-module _ (c : Call) (n u : ℕ) where
-  -- what is left behind super block u
-  abbrev pub behindSuper : Spanning
-  behindSuper = supersFrom c (n - (u + 1)) (u + 1)
+module _ (a : Array) where
+  -- the index block
+  pub index-none : undefined (a .offsetSize) (a .indexAt) ≡ true → indexSpans a ≡ accepted []
+  unfolding indexSpans
+  index-none e = rw e refl
 
-  pub supers-none : n ≤ u → supersFrom c (n - u) u ≡ accepted []
-  unfolding supersFrom
-  supers-none h = let z : n - u ≡ 0 = omega arith in rw z refl
+  pub index-defined : undefined (a .offsetSize) (a .indexAt) ≡ false
+      → indexSpans a ≡ (spannedTest a indexBlock yields also (spanOf a indexBlock) (supersFrom a (superBlocks (a .parameters)) 0))
+  unfolding indexSpans
+  index-defined e = rw e refl
 
-  module _ (h : u < n) where
-    pub supers-direct : isDirect c u ≡ true → supersFrom c (n - u) u ≡ blocksFrom c u (blocks u - 0) 0 behindSuper
+  module _ (u : ℕ) where
+    -- a super block and its data blocks
+    pub super-direct : isDirect a u ≡ true → superSpans a u ≡ accepted (blockSpans a u (blocks u) 0)
+    unfolding superSpans
+    super-direct d = rw d refl
+
+    module _ (d : isDirect a u ≡ false) where
+      pub super-none : superUndefined a u ≡ true → superSpans a u ≡ accepted []
+      unfolding superSpans
+      super-none w = rw (d, w) refl
+
+      pub super-defined : superUndefined a u ≡ false
+          → superSpans a u ≡ (spannedTest a (superBlock u) yields also (spanOf a (superBlock u)) (accepted (blockSpans a u (blocks u) 0)))
+      unfolding superSpans
+      super-defined w = rw (d, w) refl
+
+    -- the super blocks from u on
+    pub supers-none : (n : ℕ) → n ≤ u → supersFrom a (n - u) u ≡ accepted []
     unfolding supersFrom
-    supers-direct d = rw (less n u h, d, sub-zero) refl
+    supers-none n h = let z : n - u ≡ 0 = omega arith in rw z refl
 
-    module _ (d : isDirect c u ≡ false) where
-      pub supers-undefined : superUndefined c u ≡ true → supersFrom c (n - u) u ≡ behindSuper
-      unfolding supersFrom
-      supers-undefined w = rw (less n u h, d, w) refl
+    pub supers-next : (n : ℕ) → u < n → supersFrom a (n - u) u ≡ joined (superSpans a u) (supersFrom a (n - (u + 1)) (u + 1))
+    unfolding supersFrom
+    supers-next n h = rw (less n u h) refl
 
-      module _ (w : superUndefined c u ≡ false) where
-        pub supers-refused : (r : Refusal) → superTest c u ≡ Refused r → supersFrom c (n - u) u ≡ refused r
-        unfolding supersFrom _yields_
-        supers-refused r t = rw (less n u h, d, w, t) refl
+    -- the data blocks of super block u from k on
+    module _ (n k : ℕ) where
+      pub blocks-none : n ≤ k → blockSpans a u (n - k) k ≡ []
+      unfolding blockSpans
+      blocks-none h = let z : n - k ≡ 0 = omega arith in rw z refl
 
-        pub supers-tested : superTest c u ≡ Passed → supersFrom c (n - u) u ≡ also (superSpan c u) (blocksFrom c u (blocks u - 0) 0 behindSuper)
-        unfolding supersFrom _yields_
-        supers-tested t = rw (less n u h, d, w, t, sub-zero) refl
+      pub blocks-undefined : k < n → blockUndefined a u k ≡ true → blockSpans a u (n - k) k ≡ blockSpans a u (n - (k + 1)) (k + 1)
+      unfolding blockSpans
+      blocks-undefined h e = rw (less n k h, e) refl
 
-module _ (c : Call) (u n k : ℕ) (rest : Spanning) where
-  pub blocks-none : n ≤ k → blocksFrom c u (n - k) k rest ≡ rest
-  unfolding blocksFrom
-  blocks-none h = let z : n - k ≡ 0 = omega arith in rw z refl
-
-  module _ (h : k < n) where
-    pub blocks-undefined : blockUndefined c u k ≡ true → blocksFrom c u (n - k) k rest ≡ blocksFrom c u (n - (k + 1)) (k + 1) rest
-    unfolding blocksFrom
-    blocks-undefined e = rw (less n k h, e) refl
-
-    pub blocks-defined : blockUndefined c u k ≡ false → blocksFrom c u (n - k) k rest ≡ also (blockSpan c u k) (blocksFrom c u (n - (k + 1)) (k + 1) rest)
-    unfolding blocksFrom
-    blocks-defined e = rw (less n k h, e) refl
+      pub blocks-defined : k < n → blockUndefined a u k ≡ false → blockSpans a u (n - k) k ≡ spanOf a (dataBlock u k) ∷ blockSpans a u (n - (k + 1)) (k + 1)
+      unfolding blockSpans
+      blocks-defined h e = rw (less n k h, e) refl

@@ -1,68 +1,73 @@
--- The walk of the spans: which test comes when, and which spans it gives. Each definition says what is left to do from here; `rest` is
--- what comes behind it. The published count plays no part: spans cover every pointed-to block.
+-- The walk of the spans: which test comes when, and which spans it gives. The published count plays no part: spans cover every
+-- pointed-to block.
 use Prim.Native.Nat.{ℕ, zero, suc, _+_}
-use mathlib.Core.Bool.{false, cond}
-use mathlib.Core.List.{List, []}
+use mathlib.Core.Bool.{cond}
+use mathlib.Core.List.{List, [], _∷_, _++_}
 use Rattle.refusal.specs.declared.Checked.{Checked}
 use Rattle.refusal.specs.Refusals.{_then_}
-use Rattle.refusal.specs.Outcome.{Outcome, accepted, _yields_, also}
+use Rattle.refusal.specs.Outcome.{Outcome, refused, accepted, _yields_, also}
 use Rattle.fields.specs.Fields.{undefined}
 use Rattle.checksum.specs.Lookup3.{lookup3}
-use Rattle.chunk_grid.specs.Grid.{Grid}
 use Rattle.ea_header.specs.Header.{headerAt, headerTest}
 use Rattle.ea_header.specs.Served.{servedTest}
 use Rattle.ea_header.specs.declared.ExtensibleArrayHeader.{ExtensibleArrayHeader}
 use Rattle.ea_geometry.specs.Sizes.{superBlocks, blocks}
-use Rattle.ea_blocks.specs.Call.{Call, callOf}
-use Rattle.ea_blocks.specs.Structures.{indexBlock, superBlock, testOf, indexAt, isDirect, superUndefined, blockUndefined}
+use Rattle.ea_blocks.specs.Array.{Array}
+use Rattle.ea_blocks.specs.Structures.{indexBlock, superBlock, dataBlock, isDirect, superUndefined, blockUndefined}
 use Rattle.span_walk.specs.declared.Span.{Span}
-use Rattle.span_walk.specs.Spans.{spanTest, headerSpan, indexSpan, superSpan, blockSpan}
+use Rattle.span_walk.specs.Spans.{headerSpan, spanOf, spanTest, spannedTest}
 
 -- a list of spans, or the refusal
 abbrev pub Spanning : Type 0
 Spanning = Outcome (List Span)
 
--- 31 before 20, signature and checksum
-unfoldable pub indexTest : Call → Checked
-indexTest c = spanTest (indexSpan c) then testOf c indexBlock
+-- one after the other: both lists, or the first refusal
+unfoldable pub joined : Spanning → Spanning → Spanning
+joined (refused r) b = refused r
+joined (accepted l) (refused r) = refused r
+joined (accepted l) (accepted m) = accepted (l ++ m)
 
-unfoldable pub superTest : Call → ℕ → Checked
-superTest c u = spanTest (superSpan c u) then testOf c (superBlock u)
+-- The data blocks of super block u that are pointed to, among j of them from k on. A data block's span isn't tested.
+unfoldable pub blockSpans : Array → ℕ → ℕ → ℕ → List Span
+blockSpans a u zero k = []
+blockSpans a u (suc j) k =
+    let next = blockSpans a u j (k + 1) in
+    cond (blockUndefined a u k) next (spanOf a (dataBlock u k) ∷ next)
 
--- The data blocks of super block u, j of them from k on. A data block's span isn't tested.
-unfoldable pub blocksFrom : Call → ℕ → ℕ → ℕ → Spanning → Spanning
-blocksFrom c u zero k rest = rest
-blocksFrom c u (suc j) k rest =
-    let next = blocksFrom c u j (k + 1) rest in
-    cond (blockUndefined c u k) next (also (blockSpan c u k) next)
+-- Super block u and its data blocks. Where the index block names these, the super block has no span of its own.
+unfoldable pub superSpans : Array → ℕ → Spanning
+superSpans a u =
+    let inner = accepted (blockSpans a u (blocks u) 0) in
+    cond (isDirect a u) inner
+    (cond (superUndefined a u) (accepted []) (spannedTest a (superBlock u) yields also (spanOf a (superBlock u)) inner))
 
--- The super blocks, j of them from u on. Where the index block names its data blocks, a super block has no span of its own.
-unfoldable pub supersFrom : Call → ℕ → ℕ → Spanning
-supersFrom c zero u = accepted []
-supersFrom c (suc j) u =
-    let next = supersFrom c j (u + 1) in
-    let inner = blocksFrom c u (blocks u) 0 next in
-    cond (isDirect c u) inner (cond (superUndefined c u) next (superTest c u yields also (superSpan c u) inner))
+-- j super blocks from u on
+unfoldable pub supersFrom : Array → ℕ → ℕ → Spanning
+supersFrom a zero u = accepted []
+supersFrom a (suc j) u = joined (superSpans a u) (supersFrom a j (u + 1))
 
 -- An undefined index block has no span, and leads nowhere.
-unfoldable pub indexSpans : Call → Spanning
-indexSpans c =
-    cond (undefined (c .offsetSize) (indexAt c)) (accepted [])
-    (indexTest c yields also (indexSpan c) (supersFrom c (superBlocks (c .header)) 0))
+unfoldable pub indexSpans : Array → Spanning
+indexSpans a =
+    cond (undefined (a .offsetSize) (a .indexAt)) (accepted [])
+    (spannedTest a indexBlock yields also (spanOf a indexBlock) (supersFrom a (superBlocks (a .parameters)) 0))
 
--- Structures are found and tested as in a call, and no grid is looked at.
-abbrev pub noGrid : Grid
-noGrid = record { rank = 0; chunk = []; present = []; hasMaximum = false; maximum = []; unlimitedFirst = false }
-
-abbrev pub indexOf : List ℕ → ExtensibleArrayHeader → ℕ → Call
-indexOf f h o = callOf f h o noGrid 0
+-- the array that a header describes
+abbrev pub arrayFrom : List ℕ → ExtensibleArrayHeader → ℕ → Array
+arrayFrom f h o = record {
+  file = f;
+  sum = lookup3;
+  parameters = h .parameters;
+  offsetSize = o;
+  indexAt = h .«index_block_address»;
+}
 
 -- Spans: header at its address (31, 20, ..), 27, ..
 unfoldable pub headTest : List ℕ → ℕ → ℕ → ℕ → Checked
 headTest f address o l =
-    spanTest (headerSpan address o l) then headerTest lookup3 f address o l then servedTest (headerAt f address o l)
+    spanTest (headerSpan address o l) then headerTest lookup3 f address o l then servedTest (headerAt f address o l .parameters)
 
 -- .. walk with 31 before 20.
 unfoldable pub spans : List ℕ → ℕ → ℕ → ℕ → Spanning
 spans f address o l =
-    headTest f address o l yields also (headerSpan address o l) (indexSpans (indexOf f (headerAt f address o l) o))
+    headTest f address o l yields also (headerSpan address o l) (indexSpans (arrayFrom f (headerAt f address o l) o))

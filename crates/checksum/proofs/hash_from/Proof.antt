@@ -2,15 +2,15 @@
 use Prim.Native.Nat.{_-_, _/_, _<_}
 use mathlib.Core.Path.{_≡_, ap, _∙_}
 use native.Mathlib.Omega.{arith}
-use lib.ListN.{length, drop}
+use lib.ListN.{length}
 use Rattle.checksum.specs.Lookup3.{blocks, mixed, finalMixed}
-use Rattle.checksum.proofs.Lookup3.{from-first, turned, ended}
+use Rattle.checksum.proofs.Lookup3.{hashFrom, from-first, turned, ended}
 use borrow.Author.Needs.{needs}
 use Rattle.checksum.proofs.hash_from.Statement.{statement}
 use Rattle.checksum.proofs.hash_from.Tie as tie
 
 abbrev Inv-loop : tie.InvT-loop
-Inv-loop s n w₀ at₀ w at = (at < length s) × (blocks ((length s - at - 1) / 12) w (drop at s) ≡ blocks ((length s - 1) / 12) w₀ s)
+Inv-loop s n w₀ at₀ w at = (at < length s) × (hashFrom s at w ≡ blocks ((length s - 1) / 12) w₀ s)
 
 abbrev μ-loop : tie.MeasureT-loop
 μ-loop s n w₀ at₀ w at = length s - at

@@ -1,17 +1,17 @@
 -- `checksum::hashlittle_two` meets its contract: for each slice the blocks that are left, from its words so far, give its hash. Assumes nothing.
-use Prim.Native.Nat.{_-_, _/_, _<_, _≤_}
+use Prim.Native.Nat.{_-_, _<_, _≤_}
 use mathlib.Core.Path.{_≡_, ap, _∙_}
 use native.Mathlib.Omega.{arith}
-use lib.ListN.{length, drop}
-use Rattle.checksum.specs.Lookup3.{blocks, hashlittle, mixed}
-use Rattle.checksum.proofs.Lookup3.{opened, of-part, turned}
+use lib.ListN.{length}
+use Rattle.checksum.specs.Lookup3.{hashlittle, mixed}
+use Rattle.checksum.proofs.Lookup3.{hashFrom, opened, of-part, turned}
 use borrow.Author.Needs.{needs}
 use Rattle.checksum.proofs.hashlittle_two.Statement.{statement}
 use Rattle.checksum.proofs.hashlittle_two.Tie as tie
 
 abbrev Inv-loop : tie.InvT-loop
 Inv-loop s t initval both v₀ w₀ at₀ v w at =
-    (at < both) × (both ≤ length s) × (both ≤ length t) × (blocks ((length s - at - 1) / 12) v (drop at s) ≡ hashlittle s initval) × (blocks ((length t - at - 1) / 12) w (drop at t) ≡ hashlittle t initval)
+    (at < both) × (both ≤ length s) × (both ≤ length t) × (hashFrom s at v ≡ hashlittle s initval) × (hashFrom t at w ≡ hashlittle t initval)
 
 abbrev μ-loop : tie.MeasureT-loop
 μ-loop s t initval both v₀ w₀ at₀ v w at = both - at

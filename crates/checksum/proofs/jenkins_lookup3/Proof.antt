@@ -4,9 +4,6 @@ use borrow.Author.Needs.{needs}
 use Rattle.checksum.proofs.jenkins_lookup3.Statement.{statement}
 use Rattle.checksum.proofs.jenkins_lookup3.Tie as tie
 
-returns : tie.Need-returns
-unfolding lookup3
-returns c = search needs
-
 pub jenkins-lookup3-spec : {M : Type 1} → statement M
-jenkins-lookup3-spec = tie.close (tie.spec (search needs) returns)
+unfolding lookup3
+jenkins-lookup3-spec = tie.close (tie.spec (search needs) (λ c. search needs))

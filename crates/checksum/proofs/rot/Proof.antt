@@ -5,9 +5,6 @@ use borrow.Author.Needs.{needs}
 use Rattle.checksum.proofs.rot.Statement.{statement}
 use Rattle.checksum.proofs.rot.Tie as tie
 
-returns : tie.Need-returns
-unfolding rotated
-returns c = refl
-
 pub rot-spec : {M : Type 1} → statement M
-rot-spec = tie.close (tie.spec (search needs) (search needs) (search needs) returns)
+unfolding rotated
+rot-spec = tie.close (tie.spec (search needs) (search needs) (search needs) (λ c. refl))

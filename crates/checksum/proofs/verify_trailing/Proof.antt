@@ -5,8 +5,8 @@ use borrow.Author.Needs.{needs}
 use Rattle.checksum.proofs.verify_trailing.Statement.{statement}
 use Rattle.checksum.proofs.verify_trailing.Tie as tie
 
-compared-requires : tie.Need-compared-requires
-compared-requires c κs = c .jenkins-lookup3 .ensures ∙ ap lookup3 (c .before .body .ensures)
-
 pub verify-trailing-spec : {M : Type 1} → statement M
-verify-trailing-spec = tie.close (tie.spec (search needs) (search needs) compared-requires (λ c. search needs))
+verify-trailing-spec =
+    tie.close
+    (tie.spec (search needs) (search needs)
+    (λ c κs. c .jenkins-lookup3 .ensures ∙ ap lookup3 (c .before .body .ensures)) (λ c. search needs))

@@ -12,11 +12,8 @@ Inv-loop s n₀ n = n ≤ length s
 abbrev μ-loop : tie.MeasureT-loop
 μ-loop s n₀ n = length s - n
 
-slice-aggregate-print-checksum : tie.Need-slice-aggregate-print-checksum Inv-loop μ-loop
-slice-aggregate-print-checksum c = simp length-take (omega arith)
-
 pub print-prefixes-spec : {M : Type 1} → statement M
 print-prefixes-spec =
     tie.close
-    (tie.spec Inv-loop μ-loop (search needs) (search needs) slice-aggregate-print-checksum (search needs)
+    (tie.spec Inv-loop μ-loop (search needs) (search needs) (λ c. simp length-take (omega arith)) (search needs)
     (search needs) (search needs) (search needs))

@@ -5,14 +5,10 @@ use borrow.Author.Needs.{needs}
 use Rattle.chunk_grid.proofs.ceil_div.Statement.{statement}
 use Rattle.chunk_grid.proofs.ceil_div.Tie as tie
 
-add-result : tie.Need-add-result
-add-result c = omega (arith, ceil-over _ _ (c .before .pre) (c .if1 .left) .1)
-
-returns : tie.Need-returns
-returns c = ceil-exact _ _ (c .before .pre) (c .if1 .taken)
-
-returns-2 : tie.Need-returns-2
-returns-2 c = ceil-over _ _ (c .before .pre) (c .if1 .left) .0
-
 pub ceil-div-spec : {M : Type 1} → statement M
-ceil-div-spec = tie.close (tie.spec (search needs) (search needs) (search needs) add-result returns returns-2)
+ceil-div-spec =
+    tie.close
+    (tie.spec (search needs) (search needs) (search needs)
+    (λ c. omega (arith, ceil-over _ _ (c .before .pre) (c .if1 .left) .1))
+    (λ c. ceil-exact _ _ (c .before .pre) (c .if1 .taken))
+    (λ c. ceil-over _ _ (c .before .pre) (c .if1 .left) .0))

@@ -5,8 +5,5 @@ use Rattle.chunk_grid.proofs.Building.{place-unlimited}
 use Rattle.chunk_grid.proofs.first_unlimited.Statement.{statement}
 use Rattle.chunk_grid.proofs.first_unlimited.Tie as tie
 
-returns : tie.Need-returns
-returns c = c .place-of .ensures ∙ place-unlimited _
-
 pub first-unlimited-spec : {M : Type 1} → statement M
-first-unlimited-spec = tie.close (tie.spec (search needs) returns)
+first-unlimited-spec = tie.close (tie.spec (search needs) (λ c. c .place-of .ensures ∙ place-unlimited _))

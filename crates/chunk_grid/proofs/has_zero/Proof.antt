@@ -4,8 +4,5 @@ use Rattle.chunk_grid.proofs.Building.{place-zero}
 use Rattle.chunk_grid.proofs.has_zero.Statement.{statement}
 use Rattle.chunk_grid.proofs.has_zero.Tie as tie
 
-returns : tie.Need-returns
-returns c = rw (c .place-of .ensures) (place-zero _)
-
 pub has-zero-spec : {M : Type 1} → statement M
-has-zero-spec = tie.close (tie.spec (search needs) returns)
+has-zero-spec = tie.close (tie.spec (search needs) (λ c. rw (c .place-of .ensures) (place-zero _)))

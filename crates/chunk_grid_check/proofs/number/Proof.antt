@@ -17,14 +17,10 @@ Inv-loop2 s from at₀ value₀ at value = value < 2 ^ 64
 abbrev μ-loop2 : tie.MeasureT-loop2
 μ-loop2 s from at₀ value₀ at value = length s - at
 
-shared-slice-read-is-digit-2 :
-    tie.Need-shared-slice-read-is-digit-2 Inv-loop μ-loop Inv-loop2 μ-loop2
-shared-slice-read-is-digit-2 c = search needs
-
 pub number-spec : {M : Type 1} → statement M
 number-spec =
     tie.close
     (tie.spec Inv-loop μ-loop Inv-loop2 μ-loop2 (search needs) (search needs) (search needs) (search needs)
-    (search needs) (search needs) (search needs) shared-slice-read-is-digit-2 (search needs) (search needs)
     (search needs) (search needs) (search needs) (search needs) (search needs) (search needs) (search needs)
-    (search needs) (search needs) (search needs))
+    (search needs) (search needs) (search needs) (search needs) (search needs) (search needs) (search needs)
+    (search needs) (search needs))

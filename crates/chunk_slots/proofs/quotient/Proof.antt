@@ -4,8 +4,5 @@ use borrow.Author.Needs.{needs}
 use Rattle.chunk_slots.proofs.quotient.Statement.{statement}
 use Rattle.chunk_slots.proofs.quotient.Tie as tie
 
-returns : tie.Need-returns
-returns c = rw (c .if1 .taken) (omega arith)
-
 pub quotient-spec : {M : Type 1} → statement M
-quotient-spec = tie.close (tie.spec (search needs) returns (search needs))
+quotient-spec = tie.close (tie.spec (search needs) (λ c. rw (c .if1 .taken) (omega arith)) (search needs))

@@ -87,9 +87,6 @@ enter-super-requires c κs =
     let turn = c .before .before .before in
     (super-there (turn .before .supers .inv) (turn .supers-test .taken) .0, turn .before .supers .inv .fixed .walk .index)
 
-enum-told : tie.Need-enum-told Inv-pages μ-pages Inv-blocks2 μ-blocks2 Inv-supers μ-supers
-enum-told c = search needs
-
 mul-slot : tie.Need-mul-slot Inv-pages μ-pages Inv-blocks2 μ-blocks2 Inv-supers μ-supers
 mul-slot c =
     let entering = c .before .before in
@@ -102,12 +99,6 @@ add-slot c =
     let turn = entering .before .before .before .before in
     omega (arith, super-fits (turn .before .supers .inv) (turn .supers-test .taken) _ _ (entering .before .before .blocks3 .ensures) (entering .before .block-elements .ensures) .1)
 
-add-u : tie.Need-add-u Inv-pages μ-pages Inv-blocks2 μ-blocks2 Inv-supers μ-supers
-add-u c = search needs
-
-supers-less : tie.Need-supers-less Inv-pages μ-pages Inv-blocks2 μ-blocks2 Inv-supers μ-supers
-supers-less c = search needs
-
 supers-again : tie.Need-supers-again Inv-pages μ-pages Inv-blocks2 μ-blocks2 Inv-supers μ-supers
 supers-again c =
     let entering = c .before .before in
@@ -115,12 +106,6 @@ supers-again c =
     let turn = opened .before in
     super-absent (turn .before .supers .inv) (turn .supers-test .taken) (opened .if1 .left) (entering .before .before .blocks3 .ensures) (entering .before .block-elements .ensures)
     (subst (EnteredSuper _ _) (c .enum-told .given .1) (entering .enter-super .ensures))
-
-enum-known-at : tie.Need-enum-known-at Inv-pages μ-pages Inv-blocks2 μ-blocks2 Inv-supers μ-supers
-enum-known-at c = search needs
-
-enum-known-r : tie.Need-enum-known-r Inv-pages μ-pages Inv-blocks2 μ-blocks2 Inv-supers μ-supers
-enum-known-r c = search needs
 
 blocks2-holds : tie.Need-blocks2-holds Inv-pages μ-pages Inv-blocks2 μ-blocks2 Inv-supers μ-supers
 blocks2-holds c =
@@ -140,19 +125,10 @@ enter-block-in-turn-requires :
     μ-supers
 enter-block-in-turn-requires c κs = block-pointed (c .before .before .blocks2 .inv) (c .before .blocks2-test .taken)
 
-enum-told-2 : tie.Need-enum-told-2 Inv-pages μ-pages Inv-blocks2 μ-blocks2 Inv-supers μ-supers
-enum-told-2 c = search needs
-
 add-slot-2 : tie.Need-add-slot-2 Inv-pages μ-pages Inv-blocks2 μ-blocks2 Inv-supers μ-supers
 add-slot-2 c =
     let turn = c .before .before .before .before in
     omega (arith, block-fits (turn .before .blocks2 .inv) (turn .blocks2-test .taken))
-
-add-k : tie.Need-add-k Inv-pages μ-pages Inv-blocks2 μ-blocks2 Inv-supers μ-supers
-add-k c = search needs
-
-blocks2-less : tie.Need-blocks2-less Inv-pages μ-pages Inv-blocks2 μ-blocks2 Inv-supers μ-supers
-blocks2-less c = search needs
 
 blocks2-again : tie.Need-blocks2-again Inv-pages μ-pages Inv-blocks2 μ-blocks2 Inv-supers μ-supers
 blocks2-again c =
@@ -165,14 +141,6 @@ blocks2-again c =
     blocks-next i (turn .blocks2-test .taken) (i .passes) refl
     (block-absent i (turn .blocks2-test .taken) (⊎-elim (λ w. inl (w .0 .taken, w .1 .left)) (λ w. inr (w .left)) (opened .if2 .came))
     (subst (EnteredBlock _ _ _) (c .enum-told2 .given .1) (e .0))) (e .1)
-
-enum-known-found :
-    tie.Need-enum-known-found Inv-pages μ-pages Inv-blocks2 μ-blocks2 Inv-supers μ-supers
-enum-known-found c = search needs
-
-enum-known-found-2 :
-    tie.Need-enum-known-found-2 Inv-pages μ-pages Inv-blocks2 μ-blocks2 Inv-supers μ-supers
-enum-known-found-2 c = search needs
 
 in-pages-requires :
     tie.Need-in-pages-requires Inv-pages μ-pages Inv-blocks2 μ-blocks2 Inv-supers μ-supers
@@ -204,19 +172,10 @@ enter-page-in-turn-requires :
     μ-supers
 enter-page-in-turn-requires c κs = page-pointed (c .before .pages .inv) (c .pages-test .taken)
 
-enum-told-3 : tie.Need-enum-told-3 Inv-pages μ-pages Inv-blocks2 μ-blocks2 Inv-supers μ-supers
-enum-told-3 c = search needs
-
 add-from : tie.Need-add-from Inv-pages μ-pages Inv-blocks2 μ-blocks2 Inv-supers μ-supers
 add-from c =
     let turn = c .before .before .before in
     omega (arith, page-fits (turn .before .pages .inv) (turn .pages-test .taken))
-
-add-p : tie.Need-add-p Inv-pages μ-pages Inv-blocks2 μ-blocks2 Inv-supers μ-supers
-add-p c = search needs
-
-pages-less : tie.Need-pages-less Inv-pages μ-pages Inv-blocks2 μ-blocks2 Inv-supers μ-supers
-pages-less c = search needs
 
 pages-again : tie.Need-pages-again Inv-pages μ-pages Inv-blocks2 μ-blocks2 Inv-supers μ-supers
 pages-again c =
@@ -227,14 +186,6 @@ pages-again c =
     let e = page-found i (turn .pages-test .taken) (x .result .found) (x .result .ahead) (x .ensures) in
     pages-clear i (turn .pages-test .taken) (subst (EnteredPage _ _ _ _) (c .enum-told3 .given .1) (e .0)) (e .1)
 
-enum-known-found-3 :
-    tie.Need-enum-known-found-3 Inv-pages μ-pages Inv-blocks2 μ-blocks2 Inv-supers μ-supers
-enum-known-found-3 c = search needs
-
-enum-known-found-4 :
-    tie.Need-enum-known-found-4 Inv-pages μ-pages Inv-blocks2 μ-blocks2 Inv-supers μ-supers
-enum-known-found-4 c = search needs
-
 count-elements-requires :
     tie.Need-count-elements-requires Inv-pages μ-pages Inv-blocks2 μ-blocks2 Inv-supers μ-supers
 count-elements-requires c κs =
@@ -244,9 +195,6 @@ count-elements-requires c κs =
     let x = entering .enter-page-in-turn in
     let e = page-found i (turn .pages-test .taken) (x .result .found) (x .result .ahead) (x .ensures) in
     page-run i (turn .pages-test .taken) (subst (EnteredPage _ _ _ _) (c .before .found3 .given .1) (e .0))
-
-enum-known-n : tie.Need-enum-known-n Inv-pages μ-pages Inv-blocks2 μ-blocks2 Inv-supers μ-supers
-enum-known-n c = search needs
 
 add-total : tie.Need-add-total Inv-pages μ-pages Inv-blocks2 μ-blocks2 Inv-supers μ-supers
 add-total c =
@@ -263,10 +211,6 @@ add-total c =
           (λ g n q. sym (c .before .n .given .1) ∙ counting .count-elements .ensures g n q),
     )
 
-enum-known-r-2 :
-    tie.Need-enum-known-r-2 Inv-pages μ-pages Inv-blocks2 μ-blocks2 Inv-supers μ-supers
-enum-known-r-2 c = search needs
-
 add-if5 : tie.Need-add-if5 Inv-pages μ-pages Inv-blocks2 μ-blocks2 Inv-supers μ-supers
 add-if5 c =
     let turn = c .before .before .before .before .before .before .before .before in
@@ -276,12 +220,6 @@ add-from-2 : tie.Need-add-from-2 Inv-pages μ-pages Inv-blocks2 μ-blocks2 Inv-s
 add-from-2 c =
     let turn = c .before .before .before .before .before .before .before .before .before in
     omega (arith, page-fits (turn .before .pages .inv) (turn .pages-test .taken))
-
-add-p-2 : tie.Need-add-p-2 Inv-pages μ-pages Inv-blocks2 μ-blocks2 Inv-supers μ-supers
-add-p-2 c = search needs
-
-pages-less-2 : tie.Need-pages-less-2 Inv-pages μ-pages Inv-blocks2 μ-blocks2 Inv-supers μ-supers
-pages-less-2 c = search needs
 
 pages-again-2 : tie.Need-pages-again-2 Inv-pages μ-pages Inv-blocks2 μ-blocks2 Inv-supers μ-supers
 pages-again-2 c =
@@ -330,10 +268,6 @@ count-elements-requires-2 c κs =
     unpaged-run i (turn .blocks2-test .taken) (⊎-elim (λ w. inl (w .0 .taken, w .1 .left)) (λ w. inr (w .left)) (opened .if2 .came))
     (subst (EnteredBlock _ _ _) (found .found .given .1) (e .0)) (sym (c .before .before .in-pages .ensures) ∙ c .before .if4 .left) (c .block-element-at .ensures)
 
-enum-known-n-2 :
-    tie.Need-enum-known-n-2 Inv-pages μ-pages Inv-blocks2 μ-blocks2 Inv-supers μ-supers
-enum-known-n-2 c = search needs
-
 add-total-2 : tie.Need-add-total-2 Inv-pages μ-pages Inv-blocks2 μ-blocks2 Inv-supers μ-supers
 add-total-2 c =
     let counting = c .before .before .before in
@@ -352,21 +286,10 @@ add-total-2 c =
           (λ g n q. sym (c .before .n2 .given .1) ∙ counting .count-elements2 .ensures g n q),
     )
 
-enum-known-r-3 :
-    tie.Need-enum-known-r-3 Inv-pages μ-pages Inv-blocks2 μ-blocks2 Inv-supers μ-supers
-enum-known-r-3 c = search needs
-
 add-slot-3 : tie.Need-add-slot-3 Inv-pages μ-pages Inv-blocks2 μ-blocks2 Inv-supers μ-supers
 add-slot-3 c =
     let turn = c .before .before .before .before .before .before .before in
     omega (arith, block-fits (turn .before .blocks2 .inv) (turn .blocks2-test .taken))
-
-add-k-2 : tie.Need-add-k-2 Inv-pages μ-pages Inv-blocks2 μ-blocks2 Inv-supers μ-supers
-add-k-2 c = search needs
-
-blocks2-less-2 :
-    tie.Need-blocks2-less-2 Inv-pages μ-pages Inv-blocks2 μ-blocks2 Inv-supers μ-supers
-blocks2-less-2 c = search needs
 
 blocks2-again-2 :
     tie.Need-blocks2-again-2 Inv-pages μ-pages Inv-blocks2 μ-blocks2 Inv-supers μ-supers
@@ -391,12 +314,6 @@ blocks2-again-2 c =
     (unpaged-behind i lt (⊎-elim (λ w. inl (w .0 .taken, w .1 .left)) (λ w. inr (w .left)) (opened .if2 .came)) (subst (EnteredBlock _ _ _) (found .found .given .1) (e .0))
     (sym (paging .in-pages .ensures) ∙ w .0 .left) (w .1 .ensures) (λ g n q. sym (w .4 .given .1) ∙ w .2 .ensures g n q)) (e .1)) v)
     (c .if4 .came)
-
-add-u-2 : tie.Need-add-u-2 Inv-pages μ-pages Inv-blocks2 μ-blocks2 Inv-supers μ-supers
-add-u-2 c = search needs
-
-supers-less-2 : tie.Need-supers-less-2 Inv-pages μ-pages Inv-blocks2 μ-blocks2 Inv-supers μ-supers
-supers-less-2 c = search needs
 
 supers-again-2 :
     tie.Need-supers-again-2 Inv-pages μ-pages Inv-blocks2 μ-blocks2 Inv-supers μ-supers
@@ -434,13 +351,6 @@ exit c =
     v) v) v) v) v) v)
     (c .supers-test .came)
 
-enum-told-4 : tie.Need-enum-told-4 Inv-pages μ-pages Inv-blocks2 μ-blocks2 Inv-supers μ-supers
-enum-told-4 c = search needs
-
-enum-known-refused :
-    tie.Need-enum-known-refused Inv-pages μ-pages Inv-blocks2 μ-blocks2 Inv-supers μ-supers
-enum-known-refused c = search needs
-
 returns : tie.Need-returns Inv-pages μ-pages Inv-blocks2 μ-blocks2 Inv-supers μ-supers
 unfolding answered
 returns c = λ g n q. sym (ap (λ (z : Checked). answered z (c .before .before .supers-test .total)) (c .enum-told4 .given .1)) ∙ exit (c .before .before) g n q
@@ -452,71 +362,14 @@ returns-2 c = λ g n q. sym (ap (λ (z : Checked). answered z (c .before .before
 pub count-blocks-spec : {M : Type 1} → statement M
 count-blocks-spec =
     tie.close
-    (tie.spec
-    Inv-pages
-    μ-pages
-    Inv-blocks2
-    μ-blocks2
-    Inv-supers
-    μ-supers
-    direct-super-blocks-requires
-    page-elements-requires
-    first-slot-requires
-    supers-holds
-    blocks-requires
-    block-elements-requires
-    enter-super-requires
-    enum-told
-    mul-slot
-    add-slot
-    add-u
-    supers-less
-    supers-again
-    enum-known-at
-    enum-known-r
-    blocks2-holds
-    enter-block-in-turn-requires
-    enum-told-2
-    add-slot-2
-    add-k
-    blocks2-less
-    blocks2-again
-    enum-known-found
-    enum-known-found-2
-    in-pages-requires
-    pages-requires
-    pages-holds
-    enter-page-in-turn-requires
-    enum-told-3
-    add-from
-    add-p
-    pages-less
-    pages-again
-    enum-known-found-3
-    enum-known-found-4
-    count-elements-requires
-    enum-known-n
-    add-total
-    enum-known-r-2
-    add-if5
-    add-from-2
-    add-p-2
-    pages-less-2
-    pages-again-2
-    block-element-at-requires
-    add-pos
-    count-elements-requires-2
-    enum-known-n-2
-    add-total-2
-    enum-known-r-3
-    add-slot-3
-    add-k-2
-    blocks2-less-2
-    blocks2-again-2
-    add-u-2
-    supers-less-2
-    supers-again-2
-    enum-told-4
-    enum-known-refused
-    returns
-    returns-2)
+    (tie.spec Inv-pages μ-pages Inv-blocks2 μ-blocks2 Inv-supers μ-supers direct-super-blocks-requires
+    page-elements-requires first-slot-requires supers-holds blocks-requires block-elements-requires
+    enter-super-requires (λ c. search needs) mul-slot add-slot (λ c. search needs) (λ c. search needs) supers-again
+    (λ c. search needs) (λ c. search needs) blocks2-holds enter-block-in-turn-requires (λ c. search needs) add-slot-2
+    (λ c. search needs) (λ c. search needs) blocks2-again (λ c. search needs) (λ c. search needs) in-pages-requires
+    pages-requires pages-holds enter-page-in-turn-requires (λ c. search needs) add-from (λ c. search needs)
+    (λ c. search needs) pages-again (λ c. search needs) (λ c. search needs) count-elements-requires
+    (λ c. search needs) add-total (λ c. search needs) add-if5 add-from-2 (λ c. search needs) (λ c. search needs)
+    pages-again-2 block-element-at-requires add-pos count-elements-requires-2 (λ c. search needs) add-total-2
+    (λ c. search needs) add-slot-3 (λ c. search needs) (λ c. search needs) blocks2-again-2 (λ c. search needs)
+    (λ c. search needs) supers-again-2 (λ c. search needs) (λ c. search needs) returns returns-2)

@@ -11,9 +11,6 @@ use borrow.Author.Needs.{needs}
 use Rattle.ea_header.proofs.header_test.Statement.{statement}
 use Rattle.ea_header.proofs.header_test.Tie as tie
 
-serialized-size-requires : tie.Need-serialized-size-requires
-serialized-size-requires c κs = search needs
-
 test-header-requires : tie.Need-test-header-requires
 unfolding figure
 test-header-requires c κs = omega (arith, c .serialized-size .ensures)
@@ -27,4 +24,4 @@ returns c =
     ∙ figure-header _ _ _ _ _ _ _ _ (omega arith)
 
 pub header-test-spec : {M : Type 1} → statement M
-header-test-spec = tie.close (tie.spec serialized-size-requires test-header-requires returns)
+header-test-spec = tie.close (tie.spec (λ c κs. search needs) test-header-requires returns)

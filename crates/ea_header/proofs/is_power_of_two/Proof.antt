@@ -22,13 +22,12 @@ cast-result c = omega (arith, leading-le 64 (c .before .args .n))
 sub-result : tie.Need-sub-result
 sub-result c = top-place (c .before .args .n) (omega arith) (omega arith) .0
 
-shl-result : tie.Need-shl-result
-shl-result c = search needs
-
 returns-2 : tie.Need-returns-2
 returns-2 c = let n = c .before .args .n in
     let t = top-place n (omega arith) (omega arith) in
     ap (λ (p : ℕ). eqb n p) (one-shl (63 - leadingZeros 64 n) (omega arith) ∙ ap (λ (k : ℕ). 2 ^ k) (t .1))
 
 pub is-power-of-two-spec : {M : Type 1} → statement M
-is-power-of-two-spec = tie.close (tie.spec returns cast-result sub-result shl-result returns-2)
+is-power-of-two-spec =
+    tie.close
+    (tie.spec returns cast-result sub-result (λ c. search needs) returns-2)

@@ -12,11 +12,9 @@ Inv-loop s i₀ i = i ≤ length s
 abbrev μ-loop : tie.MeasureT-loop
 μ-loop s i₀ i = length s - i
 
-cast-print-hex : tie.Need-cast-print-hex Inv-loop μ-loop
-cast-print-hex c = omega (arith, c .shared-slice-known2 .given (c .before .before .loop .i))
-
 pub print-bytes-spec : {M : Type 1} → statement M
 print-bytes-spec =
     tie.close
-    (tie.spec Inv-loop μ-loop (search needs) (search needs) cast-print-hex (search needs) (search needs)
-    (search needs) (search needs) (search needs))
+    (tie.spec Inv-loop μ-loop (search needs) (search needs)
+    (λ c. omega (arith, c .shared-slice-known2 .given (c .before .before .loop .i))) (search needs)
+    (search needs) (search needs) (search needs) (search needs))

@@ -10,14 +10,9 @@ Inv-loop value width₀ t4 t5 width = width ≤ 10
 abbrev μ-loop : tie.MeasureT-loop
 μ-loop value width₀ t4 t5 width = 10 - width
 
-slice-aggregate-read-variable-length :
-    tie.Need-slice-aggregate-read-variable-length Inv-loop μ-loop
-slice-aggregate-read-variable-length c = search needs
-
 pub print-stored-spec : {M : Type 1} → statement M
 print-stored-spec =
     tie.close
     (tie.spec Inv-loop μ-loop (search needs) (search needs) (search needs) (search needs) (search needs)
-    (search needs) (search needs) (search needs) (search needs) (search needs) (search needs)
-    slice-aggregate-read-variable-length (search needs) (search needs) (search needs) (search needs)
-    (search needs) (search needs) (search needs))
+    (search needs) (search needs) (search needs) (search needs) (search needs) (search needs) (search needs)
+    (search needs) (search needs) (search needs) (search needs) (search needs) (search needs) (search needs))

@@ -5,20 +5,8 @@ use borrow.Author.Needs.{needs}
 use Rattle.structures.proofs.test_before_checksum.Statement.{statement}
 use Rattle.structures.proofs.test_before_checksum.Tie as tie
 
-ensure-len-requires : tie.Need-ensure-len-requires
-ensure-len-requires c κs = search needs
-
-enum-told : tie.Need-enum-told
-enum-told c = search needs
-
-enum-told-2 : tie.Need-enum-told-2
-enum-told-2 c = search needs
-
 returns : tie.Need-returns
 returns c = c .enum-told2 .given .1 ∙ then-first _ _ (sym (c .enum-told2 .given .1) ∙ c .before .before .ensure-len .ensures)
-
-test-signature-requires : tie.Need-test-signature-requires
-test-signature-requires c κs = search needs
 
 returns-2 : tie.Need-returns-2
 returns-2 c = c .test-signature .ensures ∙ then-second _ _ (sym (c .before .enum-told .given .1) ∙ c .before .before .before .ensure-len .ensures)
@@ -26,4 +14,4 @@ returns-2 c = c .test-signature .ensures ∙ then-second _ _ (sym (c .before .en
 pub test-before-checksum-spec : {M : Type 1} → statement M
 test-before-checksum-spec =
     tie.close
-    (tie.spec ensure-len-requires enum-told enum-told-2 returns test-signature-requires returns-2)
+    (tie.spec (λ c κs. search needs) (λ c. search needs) (λ c. search needs) returns (λ c κs. search needs) returns-2)

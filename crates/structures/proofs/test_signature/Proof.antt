@@ -7,25 +7,13 @@ use borrow.Author.Needs.{needs}
 use Rattle.structures.proofs.test_signature.Statement.{statement}
 use Rattle.structures.proofs.test_signature.Tie as tie
 
-enum-known-kind : tie.Need-enum-known-kind
-enum-known-kind c = search needs
-
-enum-told : tie.Need-enum-told
-enum-told c = search needs
-
 returns : tie.Need-returns
 unfolding signatureTest
 returns c = rw (c .enum-told .given .1) refl
 
-read-u32-le-padded-requires : tie.Need-read-u32-le-padded-requires
-read-u32-le-padded-requires c κs = search needs
-
 returns-2 : tie.Need-returns-2
 unfolding signatureTest refuse
 returns-2 c = rw (c .before .before .before .kind .given .1, eq-eqb _ _ (sym (c .before .read-u32-le-padded .ensures) ∙ c .if1 .taken)) refl
-
-plain-requires : tie.Need-plain-requires
-plain-requires c κs = search needs
 
 returns-3 : tie.Need-returns-3
 unfolding signatureTest refuse
@@ -40,11 +28,5 @@ returns-3 c =
 pub test-signature-spec : {M : Type 1} → statement M
 test-signature-spec =
     tie.close
-    (tie.spec
-    enum-known-kind
-    enum-told
-    returns
-    read-u32-le-padded-requires
-    returns-2
-    plain-requires
+    (tie.spec (λ c. search needs) (λ c. search needs) returns (λ c κs. search needs) returns-2 (λ c κs. search needs)
     returns-3)

@@ -10,33 +10,9 @@ use borrow.Author.Needs.{needs}
 use Rattle.structures.proofs.test_two_structures.Statement.{statement}
 use Rattle.structures.proofs.test_two_structures.Tie as tie
 
-test-before-checksum-requires : tie.Need-test-before-checksum-requires
-test-before-checksum-requires c κs = search needs
-
-enum-told : tie.Need-enum-told
-enum-told c = search needs
-
-enum-told-2 : tie.Need-enum-told-2
-enum-told-2 c = search needs
-
-test-structure-requires : tie.Need-test-structure-requires
-test-structure-requires c κs = search needs
-
 returns : tie.Need-returns
 returns c =
     (c .before .enum-told2 .given .1 ∙ before-refused _ _ _ _ _ (sym (c .before .enum-told2 .given .1) ∙ c .before .before .before .test-before-checksum .ensures), c .test-structure .ensures)
-
-test-before-checksum-requires-2 : tie.Need-test-before-checksum-requires-2
-test-before-checksum-requires-2 c κs = search needs
-
-enum-told-3 : tie.Need-enum-told-3
-enum-told-3 c = search needs
-
-enum-told-4 : tie.Need-enum-told-4
-enum-told-4 c = search needs
-
-test-structure-requires-2 : tie.Need-test-structure-requires-2
-test-structure-requires-2 c κs = search needs
 
 returns-2 : tie.Need-returns-2
 returns-2 c =
@@ -59,26 +35,11 @@ add-end c = omega (arith, before-inside _ _ _ _ (first-passed (c .before .before
 add-other-end : tie.Need-add-other-end
 add-other-end c = omega (arith, before-inside _ _ _ _ (second-passed c))
 
-sub-verify-trailing-two : tie.Need-sub-verify-trailing-two
-sub-verify-trailing-two c = search needs
-
-part-verify-trailing-two-start : tie.Need-part-verify-trailing-two-start
-part-verify-trailing-two-start c = search needs
-
 part-verify-trailing-two-end : tie.Need-part-verify-trailing-two-end
 part-verify-trailing-two-end c = omega (arith, before-inside _ _ _ _ (first-passed (c .before .before .before)))
 
-sub-verify-trailing-two-2 : tie.Need-sub-verify-trailing-two-2
-sub-verify-trailing-two-2 c = search needs
-
-part-verify-trailing-two-start-2 : tie.Need-part-verify-trailing-two-start-2
-part-verify-trailing-two-start-2 c = search needs
-
 part-verify-trailing-two-end-2 : tie.Need-part-verify-trailing-two-end-2
 part-verify-trailing-two-end-2 c = omega (arith, before-inside _ _ _ _ (second-passed (c .before)))
-
-verify-trailing-two-requires : tie.Need-verify-trailing-two-requires
-verify-trailing-two-requires c κs = search needs
 
 returns-3 : tie.Need-returns-3
 returns-3 c =
@@ -88,24 +49,7 @@ returns-3 c =
 pub test-two-structures-spec : {M : Type 1} → statement M
 test-two-structures-spec =
     tie.close
-    (tie.spec
-    test-before-checksum-requires
-    enum-told
-    enum-told-2
-    test-structure-requires
-    returns
-    test-before-checksum-requires-2
-    enum-told-3
-    enum-told-4
-    test-structure-requires-2
-    returns-2
-    add-end
-    add-other-end
-    sub-verify-trailing-two
-    part-verify-trailing-two-start
-    part-verify-trailing-two-end
-    sub-verify-trailing-two-2
-    part-verify-trailing-two-start-2
-    part-verify-trailing-two-end-2
-    verify-trailing-two-requires
-    returns-3)
+    (tie.spec (λ c κs. search needs) (λ c. search needs) (λ c. search needs) (λ c κs. search needs) returns
+    (λ c κs. search needs) (λ c. search needs) (λ c. search needs) (λ c κs. search needs) returns-2 add-end
+    add-other-end (λ c. search needs) (λ c. search needs) part-verify-trailing-two-end (λ c. search needs)
+    (λ c. search needs) part-verify-trailing-two-end-2 (λ c κs. search needs) returns-3)

@@ -29,32 +29,6 @@ returns c =
     let e = c .refused-numbering .ensures in
     (e ∙ over-32 _ (c .before .if1 .taken), λ p. absurd (refused-passed _ (sym e ∙ p)))
 
-slice-aggregate-number : tie.Need-slice-aggregate-number
-slice-aggregate-number c = part (c .before .before .before .before) _ (c .before .before .before .before .before .before .before .before .before .pre .0)
-
-slice-aggregate-number-2 : tie.Need-slice-aggregate-number-2
-slice-aggregate-number-2 c = part (c .before .before .before .before .before) _ (c .before .before .before .before .before .before .before .before .before .before .pre .1)
-
-slice-aggregate-number-3 : tie.Need-slice-aggregate-number-3
-slice-aggregate-number-3 c = part (c .before .before .before .before .before .before) _ (c .before .before .before .before .before .before .before .before .before .before .before .pre .2)
-
-slice-aggregate-number-4 : tie.Need-slice-aggregate-number-4
-slice-aggregate-number-4 c =
-    let e : length (c .before .before .before .before .limits .result) ≡ 32 = search needs in
-    part (c .before .before .before .before .before .before .before) _ (omega arith)
-
-array-share-prefix-present : tie.Need-array-share-prefix-present
-array-share-prefix-present c = omega (arith, sizes (c .before .before .before .before .before .before .before))
-
-slice-aggregate-number-5 : tie.Need-slice-aggregate-number-5
-slice-aggregate-number-5 c = part (c .before .before .before .before .before .before .before .before) _ (omega (arith, sizes (c .before .before .before .before .before .before .before .before)))
-
-array-share-prefix-chunk : tie.Need-array-share-prefix-chunk
-array-share-prefix-chunk c = omega (arith, sizes (c .before .before .before .before .before .before .before .before))
-
-slice-aggregate-number-6 : tie.Need-slice-aggregate-number-6
-slice-aggregate-number-6 c = part (c .before .before .before .before .before .before .before .before .before) _ (omega (arith, sizes (c .before .before .before .before .before .before .before .before .before)))
-
 number-requires : tie.Need-number-requires
 number-requires c κs =
     let o = c .before .before .before .before .before .before .before .before .before in
@@ -76,7 +50,11 @@ returns-2 c =
 pub numbering-spec : {M : Type 1} → statement M
 numbering-spec =
     tie.close
-    (tie.spec (search needs) returns (search needs) (search needs) slice-aggregate-number (search needs)
-    slice-aggregate-number-2 (search needs) slice-aggregate-number-3 (search needs) slice-aggregate-number-4
-    array-share-prefix-present slice-aggregate-number-5 array-share-prefix-chunk slice-aggregate-number-6
+    (tie.spec (search needs) returns (search needs) (search needs) (λ c. sym (length-take-le _ _ (omega arith)))
+    (search needs) (λ c. sym (length-take-le _ _ (omega arith))) (search needs)
+    (λ c. sym (length-take-le _ _ (omega arith))) (search needs) (λ c. sym (length-take-le _ _ (search needs)))
+    (λ c. omega (arith, sizes (c .before .before .before .before .before .before .before)))
+    (λ c. sym (length-take-le _ _ (omega (arith, sizes (c .before .before .before .before .before .before .before .before)))))
+    (λ c. omega (arith, sizes (c .before .before .before .before .before .before .before .before)))
+    (λ c. sym (length-take-le _ _ (omega (arith, sizes (c .before .before .before .before .before .before .before .before .before)))))
     number-requires (search needs) (search needs) (search needs) returns-2)

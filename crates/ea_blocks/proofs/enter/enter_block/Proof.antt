@@ -7,21 +7,6 @@ use borrow.Author.Needs.{needs}
 use Rattle.ea_blocks.proofs.enter.enter_block.Statement.{statement}
 use Rattle.ea_blocks.proofs.enter.enter_block.Tie as tie
 
-block-pointer-requires : tie.Need-block-pointer-requires
-block-pointer-requires c κs = search needs
-
-enum-told : tie.Need-enum-told
-enum-told c = search needs
-
-enum-known-at : tie.Need-enum-known-at
-enum-known-at c = search needs
-
-test-data-block-requires : tie.Need-test-data-block-requires
-test-data-block-requires c κs = search needs
-
-enter-by-result-requires : tie.Need-enter-by-result-requires
-enter-by-result-requires c κs = search needs
-
 returns : tie.Need-returns
 returns c = λ e. pointer-undefined _ _ (sym (c .enum-told .given .1) ∙ c .before .before .block-pointer .ensures e)
 
@@ -33,11 +18,5 @@ returns-2 c = λ e.
 pub enter-block-spec : {M : Type 1} → statement M
 enter-block-spec =
     tie.close
-    (tie.spec
-    block-pointer-requires
-    enum-told
-    enum-known-at
-    test-data-block-requires
-    enter-by-result-requires
-    returns
-    returns-2)
+    (tie.spec (λ c κs. search needs) (λ c. search needs) (λ c. search needs) (λ c κs. search needs)
+    (λ c κs. search needs) returns returns-2)

@@ -5,12 +5,6 @@ use borrow.Author.Needs.{needs}
 use Rattle.ea_blocks.proofs.enter.enter_by_result.Statement.{statement}
 use Rattle.ea_blocks.proofs.enter.enter_by_result.Tie as tie
 
-enum-told : tie.Need-enum-told
-enum-told c = search needs
-
-enum-known-checked : tie.Need-enum-known-checked
-enum-known-checked c = search needs
-
 returns : tie.Need-returns
 unfolding enteredOf
 returns c = rw (c .enum-told .given .1) refl
@@ -20,4 +14,6 @@ unfolding enteredOf
 returns-2 c = rw (c .before .checked .given .1) refl
 
 pub enter-by-result-spec : {M : Type 1} → statement M
-enter-by-result-spec = tie.close (tie.spec enum-told enum-known-checked returns returns-2)
+enter-by-result-spec =
+    tie.close
+    (tie.spec (λ c. search needs) (λ c. search needs) returns returns-2)

@@ -9,9 +9,6 @@ use borrow.Author.Needs.{needs}
 use Rattle.ea_blocks.proofs.enter.enter_page_in_turn.Statement.{statement}
 use Rattle.ea_blocks.proofs.enter.enter_page_in_turn.Tie as tie
 
-page-set-requires : tie.Need-page-set-requires
-page-set-requires c κs = search needs
-
 returns : tie.Need-returns
 returns c = λ e i f. (sym (c .before .page-set .ensures e) ∙ not-true _ (c .if1 .taken), f)
 
@@ -22,12 +19,6 @@ add-pos : tie.Need-add-pos
 add-pos c =
     let a = c .before .before .before .before in
     omega (arith, a .pre .1, c .page-at .ensures, page-fits _ (a .pre .0 .bounded) (omega arith) _ (a .args .p) (a .args .at) (a .pre .0 .super) (a .pre .0 .page) (omega arith))
-
-page-result-requires : tie.Need-page-result-requires
-page-result-requires c κs = search needs
-
-enter-by-result-requires : tie.Need-enter-by-result-requires
-enter-by-result-requires c κs = search needs
 
 returns-2 : tie.Need-returns-2
 unfolding dataPageAt
@@ -40,11 +31,5 @@ returns-2 c = λ e i f.
 pub enter-page-in-turn-spec : {M : Type 1} → statement M
 enter-page-in-turn-spec =
     tie.close
-    (tie.spec
-    page-set-requires
-    returns
-    page-at-requires
-    add-pos
-    page-result-requires
-    enter-by-result-requires
+    (tie.spec (λ c κs. search needs) returns page-at-requires add-pos (λ c κs. search needs) (λ c κs. search needs)
     returns-2)

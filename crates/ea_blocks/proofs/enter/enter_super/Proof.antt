@@ -13,28 +13,10 @@ use borrow.Author.Needs.{needs}
 use Rattle.ea_blocks.proofs.enter.enter_super.Statement.{statement}
 use Rattle.ea_blocks.proofs.enter.enter_super.Tie as tie
 
-direct-super-blocks-requires : tie.Need-direct-super-blocks-requires
-direct-super-blocks-requires c κs = search needs
-
 returns : tie.Need-returns
 returns c =
     let d = c .before .direct-super-blocks .ensures in
     inl (is-direct _ _ (omega arith))
-
-super-pointer-requires : tie.Need-super-pointer-requires
-super-pointer-requires c κs = search needs
-
-enum-told : tie.Need-enum-told
-enum-told c = search needs
-
-enum-known-at : tie.Need-enum-known-at
-enum-known-at c = search needs
-
-test-super-block-requires : tie.Need-test-super-block-requires
-test-super-block-requires c κs = search needs
-
-enter-by-result-requires : tie.Need-enter-by-result-requires
-enter-by-result-requires c κs = search needs
 
 -- the index block doesn't name the data blocks
 beyond : (c : tie.Else1)
@@ -59,13 +41,5 @@ returns-3 c =
 pub enter-super-spec : {M : Type 1} → statement M
 enter-super-spec =
     tie.close
-    (tie.spec
-    direct-super-blocks-requires
-    returns
-    super-pointer-requires
-    enum-told
-    enum-known-at
-    test-super-block-requires
-    enter-by-result-requires
-    returns-2
-    returns-3)
+    (tie.spec (λ c κs. search needs) returns (λ c κs. search needs) (λ c. search needs) (λ c. search needs)
+    (λ c κs. search needs) (λ c κs. search needs) returns-2 returns-3)

@@ -10,40 +10,16 @@ use borrow.Author.Needs.{needs}
 use Rattle.ea_blocks.proofs.enter.page_result.Statement.{statement}
 use Rattle.ea_blocks.proofs.enter.page_result.Tie as tie
 
-enum-known-ahead : tie.Need-enum-known-ahead
-enum-known-ahead c = search needs
-
 returns : tie.Need-returns
 returns c = λ i f.
     let a = c .before .before .before .before .before .args in
     let y = arrayOf (a .file .now) (a .array) in
     (subst (TestedAhead y (dataPage (a .u) (a .k))) (c .before .before .ahead .given .1) f ∙ ap (λ (n : ℕ). testOf y (dataPage (a .u) (a .k) n)) (c .if1 .taken), tt)
 
-enum-told : tie.Need-enum-told
-enum-told c = search needs
-
-pages-requires : tie.Need-pages-requires
-pages-requires c κs = search needs
-
-add-if2 : tie.Need-add-if2
-add-if2 c = search needs
-
-add-page-set : tie.Need-add-page-set
-add-page-set c = search needs
-
-page-set-requires : tie.Need-page-set-requires
-page-set-requires c κs = search needs
-
 test-two-pages-requires : tie.Need-test-two-pages-requires
 test-two-pages-requires c κs =
     let a = c .before .before .before .before .before .before in
     ((a .args .u, a .pre .0 .super, omega arith), a .pre .0 .bounded, a .pre .1)
-
-add-keep-second : tie.Need-add-keep-second
-add-keep-second c = search needs
-
-keep-second-requires : tie.Need-keep-second-requires
-keep-second-requires c κs = search needs
 
 returns-2 : tie.Need-returns-2
 returns-2 c = λ i f.
@@ -51,26 +27,12 @@ returns-2 c = λ i f.
     let t = c .before .test-two-pages .ensures _ _ i in
     (c .keep-second .ensures .0 ∙ t .0, subst (TestedAhead (arrayOf (a .file .now) (a .array)) (dataPage (a .u) (a .k))) (sym (c .keep-second .ensures .1)) (t .1))
 
-test-page-requires : tie.Need-test-page-requires
-test-page-requires c κs = search needs
-
 returns-3 : tie.Need-returns-3
 returns-3 c = λ i f. (c .test-page .ensures _ _ i, tt)
 
 pub page-result-spec : {M : Type 1} → statement M
 page-result-spec =
     tie.close
-    (tie.spec
-    enum-known-ahead
-    returns
-    enum-told
-    pages-requires
-    add-if2
-    add-page-set
-    page-set-requires
-    test-two-pages-requires
-    add-keep-second
-    keep-second-requires
-    returns-2
-    test-page-requires
-    returns-3)
+    (tie.spec (λ c. search needs) returns (λ c. search needs) (λ c κs. search needs) (λ c. search needs)
+    (λ c. search needs) (λ c κs. search needs) test-two-pages-requires (λ c. search needs) (λ c κs. search needs)
+    returns-2 (λ c κs. search needs) returns-3)

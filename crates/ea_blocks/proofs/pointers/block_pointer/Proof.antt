@@ -11,12 +11,6 @@ use borrow.Author.Needs.{needs}
 use Rattle.ea_blocks.proofs.pointers.block_pointer.Statement.{statement}
 use Rattle.ea_blocks.proofs.pointers.block_pointer.Tie as tie
 
-direct-super-blocks-requires : tie.Need-direct-super-blocks-requires
-direct-super-blocks-requires c κs = search needs
-
-direct-pointer-at-requires : tie.Need-direct-pointer-at-requires
-direct-pointer-at-requires c κs = search needs
-
 -- the pointer lies in the index block
 direct : (c : tie.Then1) → c .before .before .before .args .u < directSuperBlocks (c .before .before .before .args .array .geometry .parameters)
 direct c = omega (arith, c .if1 .taken, c .before .direct-super-blocks .ensures)
@@ -42,9 +36,6 @@ returns c h =
     let d = c .before .before .before in
     let a = d .before .before .before .args in
     rw (named-in-index (arrayOf (a .file .now) (a .array)) (a .u) (a .k) (direct d), c .read-pointer .ensures, c .before .before .direct-pointer-at .ensures)
-
-block-pointer-at-requires : tie.Need-block-pointer-at-requires
-block-pointer-at-requires c κs = search needs
 
 -- the pointer lies in the super block
 beyond : (c : tie.Else1) → directSuperBlocks (c .before .before .before .args .array .geometry .parameters) ≤ c .before .before .before .args .u
@@ -75,13 +66,5 @@ returns-2 c h =
 pub block-pointer-spec : {M : Type 1} → statement M
 block-pointer-spec =
     tie.close
-    (tie.spec
-    direct-super-blocks-requires
-    direct-pointer-at-requires
-    add-pos
-    read-pointer-requires
-    returns
-    block-pointer-at-requires
-    add-pos-2
-    read-pointer-requires-2
-    returns-2)
+    (tie.spec (λ c κs. search needs) (λ c κs. search needs) add-pos read-pointer-requires returns
+    (λ c κs. search needs) add-pos-2 read-pointer-requires-2 returns-2)

@@ -27,14 +27,8 @@ in-super a =
     let over = both (leb (directSuperBlocks h) u) (overPage h u) (a .pre .paged) .1 in
     omega (arith, a .pre, bit-inside h o u (a .args .k) (a .args .p) over (a .pre .block) (a .pre .page), block-pointer-inside h o u 0 (omega (arith, a .pre)))
 
-page-bits-at-requires : tie.Need-page-bits-at-requires
-page-bits-at-requires c κs = search needs
-
 add-pos : tie.Need-add-pos
 add-pos c = omega (arith, c .page-bits-at .ensures, in-super (c .before .before))
-
-bit-number-requires : tie.Need-bit-number-requires
-bit-number-requires c κs = search needs
 
 page-is-initialized-requires : tie.Need-page-is-initialized-requires
 page-is-initialized-requires c κs = rw (c .before .page-bits-at .ensures, c .bit-number .ensures) (in-super (c .before .before .before))
@@ -46,9 +40,4 @@ returns c e = rw (← e, c .page-is-initialized .ensures, c .before .before .pag
 pub page-set-spec : {M : Type 1} → statement M
 page-set-spec =
     tie.close
-    (tie.spec
-    page-bits-at-requires
-    add-pos
-    bit-number-requires
-    page-is-initialized-requires
-    returns)
+    (tie.spec (λ c κs. search needs) add-pos (λ c κs. search needs) page-is-initialized-requires returns)

@@ -5,12 +5,6 @@ use borrow.Author.Needs.{needs}
 use Rattle.ea_blocks.proofs.pointers.read_pointer.Statement.{statement}
 use Rattle.ea_blocks.proofs.pointers.read_pointer.Tie as tie
 
-read-address-requires : tie.Need-read-address-requires
-read-address-requires c κs = search needs
-
-is-undefined-addr-requires : tie.Need-is-undefined-addr-requires
-is-undefined-addr-requires c κs = search needs
-
 returns : tie.Need-returns
 unfolding pointerOf undefinedAt
 returns c = rw (← c .before .before .read-address .ensures, ← c .before .is-undefined-addr .ensures, c .if1 .taken)
@@ -21,4 +15,5 @@ returns-2 c = rw (← c .before .before .read-address .ensures, ← c .before .i
 
 pub read-pointer-spec : {M : Type 1} → statement M
 read-pointer-spec =
-    tie.close (tie.spec read-address-requires is-undefined-addr-requires returns returns-2)
+    tie.close
+    (tie.spec (λ c κs. search needs) (λ c κs. search needs) returns returns-2)

@@ -8,9 +8,6 @@ use borrow.Author.Needs.{needs}
 use Rattle.ea_blocks.proofs.pointers.super_pointer.Statement.{statement}
 use Rattle.ea_blocks.proofs.pointers.super_pointer.Tie as tie
 
-super-pointer-at-requires : tie.Need-super-pointer-at-requires
-super-pointer-at-requires c κs = search needs
-
 -- the pointer lies in the index block
 in-bounds : (c : tie.After-struct-known) → c .before .before .before .args .array .«index_at» + c .before .super-pointer-at .result + c .before .before .before .args .array .geometry .«offset_size» ≤ length (c .before .before .before .args .file .now)
 in-bounds c =
@@ -30,4 +27,5 @@ returns c = rw (c .read-pointer .ensures, c .before .before .super-pointer-at .e
 
 pub super-pointer-spec : {M : Type 1} → statement M
 super-pointer-spec =
-    tie.close (tie.spec super-pointer-at-requires add-pos read-pointer-requires returns)
+    tie.close
+    (tie.spec (λ c κs. search needs) add-pos read-pointer-requires returns)

@@ -7,15 +7,6 @@ use borrow.Author.Needs.{needs}
 use Rattle.ea_blocks.proofs.tests.test_array.Statement.{statement}
 use Rattle.ea_blocks.proofs.tests.test_array.Tie as tie
 
-served-test-requires : tie.Need-served-test-requires
-served-test-requires c κs = search needs
-
-enum-told : tie.Need-enum-told
-enum-told c = search needs
-
-enum-told-2 : tie.Need-enum-told-2
-enum-told-2 c = search needs
-
 returns : tie.Need-returns
 unfolding arrayTest
 returns c = c .enum-told2 .given .1 ∙ then-first _ _ (sym (c .enum-told2 .given .1) ∙ c .before .before .served-test .ensures)
@@ -30,10 +21,5 @@ returns-2 c = c .test-index-block .ensures ∙ then-second _ _ (sym (c .before .
 pub test-array-spec : {M : Type 1} → statement M
 test-array-spec =
     tie.close
-    (tie.spec
-    served-test-requires
-    enum-told
-    enum-told-2
-    returns
-    test-index-block-requires
+    (tie.spec (λ c κs. search needs) (λ c. search needs) (λ c. search needs) returns test-index-block-requires
     returns-2)

@@ -9,18 +9,6 @@ use borrow.Author.Needs.{needs}
 use Rattle.ea_blocks.proofs.tests.test_data_block.Statement.{statement}
 use Rattle.ea_blocks.proofs.tests.test_data_block.Tie as tie
 
-in-pages-requires : tie.Need-in-pages-requires
-in-pages-requires c κs = search needs
-
-paged-head-extent-requires : tie.Need-paged-head-extent-requires
-paged-head-extent-requires c κs = search needs
-
-data-extent-requires : tie.Need-data-extent-requires
-data-extent-requires c κs = search needs
-
-test-structure-requires : tie.Need-test-structure-requires
-test-structure-requires c κs = search needs
-
 len-is : (c : tie.Joined1)
     → let g = c .before .before .before .args .array .geometry in
     let u = c .before .before .before .args .u in
@@ -37,9 +25,4 @@ returns c n e = rw (← e, c .test-structure .ensures, len-is (c .before))
 pub test-data-block-spec : {M : Type 1} → statement M
 test-data-block-spec =
     tie.close
-    (tie.spec
-    in-pages-requires
-    paged-head-extent-requires
-    data-extent-requires
-    test-structure-requires
-    returns)
+    (tie.spec (λ c κs. search needs) (λ c κs. search needs) (λ c κs. search needs) (λ c κs. search needs) returns)

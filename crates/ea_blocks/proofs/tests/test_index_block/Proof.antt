@@ -6,15 +6,9 @@ use borrow.Author.Needs.{needs}
 use Rattle.ea_blocks.proofs.tests.test_index_block.Statement.{statement}
 use Rattle.ea_blocks.proofs.tests.test_index_block.Tie as tie
 
-index-extent-requires : tie.Need-index-extent-requires
-index-extent-requires c κs = search needs
-
-test-structure-requires : tie.Need-test-structure-requires
-test-structure-requires c κs = search needs
-
 returns : tie.Need-returns
 unfolding testOf kindOf startOf extentOf
 returns c = rw (c .test-structure .ensures, c .before .index-extent .ensures) (figure-structure _ _ _ _ _ (omega arith))
 
 pub test-index-block-spec : {M : Type 1} → statement M
-test-index-block-spec = tie.close (tie.spec index-extent-requires test-structure-requires returns)
+test-index-block-spec = tie.close (tie.spec (λ c κs. search needs) (λ c κs. search needs) returns)

@@ -27,12 +27,6 @@ add-pos c =
     let g = a .args .array .geometry in
     omega (arith, few a, c .page-at .ensures, page-at-le (g .parameters) (g .«offset_size») (a .pre .1 .width) (omega arith) (a .pre .1 .served) (a .args .p))
 
-page-extent-requires : tie.Need-page-extent-requires
-page-extent-requires c κs = search needs
-
-test-structure-requires : tie.Need-test-structure-requires
-test-structure-requires c κs = search needs
-
 returns : tie.Need-returns
 unfolding testOf kindOf startOf extentOf dataPageAt
 returns c u n e = rw (← e, c .test-structure .ensures, c .before .before .page-at .ensures, c .before .page-extent .ensures)
@@ -40,4 +34,4 @@ returns c u n e = rw (← e, c .test-structure .ensures, c .before .before .page
 pub test-page-spec : {M : Type 1} → statement M
 test-page-spec =
     tie.close
-    (tie.spec page-at-requires add-pos page-extent-requires test-structure-requires returns)
+    (tie.spec page-at-requires add-pos (λ c κs. search needs) (λ c κs. search needs) returns)

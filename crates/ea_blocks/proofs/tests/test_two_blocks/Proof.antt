@@ -4,12 +4,6 @@ use borrow.Author.Needs.{needs}
 use Rattle.ea_blocks.proofs.tests.test_two_blocks.Statement.{statement}
 use Rattle.ea_blocks.proofs.tests.test_two_blocks.Tie as tie
 
-data-extent-requires : tie.Need-data-extent-requires
-data-extent-requires c κs = search needs
-
-test-two-structures-requires : tie.Need-test-two-structures-requires
-test-two-structures-requires c κs = search needs
-
 returns : tie.Need-returns
 unfolding testOf kindOf startOf extentOf
 returns c = λ n m e i. (
@@ -18,5 +12,4 @@ returns c = λ n m e i. (
 )
 
 pub test-two-blocks-spec : {M : Type 1} → statement M
-test-two-blocks-spec =
-    tie.close (tie.spec data-extent-requires test-two-structures-requires returns)
+test-two-blocks-spec = tie.close (tie.spec (λ c κs. search needs) (λ c κs. search needs) returns)

@@ -32,12 +32,6 @@ add-other c =
     let a = c .before .before .before in
     omega (arith, c .page-at2 .ensures, page-fits _ (a .pre .1) (omega arith) _ (a .args .p + 1) (a .args .at) (a .pre .0 .1) (a .pre .0 .2) (omega arith))
 
-page-extent-requires : tie.Need-page-extent-requires
-page-extent-requires c κs = search needs
-
-test-two-structures-requires : tie.Need-test-two-structures-requires
-test-two-structures-requires c κs = search needs
-
 returns : tie.Need-returns
 unfolding testOf kindOf startOf extentOf dataPageAt
 returns c = λ u n e.
@@ -49,12 +43,5 @@ returns c = λ u n e.
 pub test-two-pages-spec : {M : Type 1} → statement M
 test-two-pages-spec =
     tie.close
-    (tie.spec
-    page-at-requires
-    add-pos
-    add-page-at
-    page-at-requires-2
-    add-other
-    page-extent-requires
-    test-two-structures-requires
-    returns)
+    (tie.spec page-at-requires add-pos add-page-at page-at-requires-2 add-other (λ c κs. search needs)
+    (λ c κs. search needs) returns)

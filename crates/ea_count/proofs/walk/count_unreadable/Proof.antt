@@ -15,15 +15,6 @@ use Rattle.ea_count.proofs.walk.count_unreadable.Tie as tie
 returns : tie.Need-returns
 returns c = λ f g n. unreadable-none _ _ (c .if1 .taken)
 
-ensure-width-requires : tie.Need-ensure-width-requires
-ensure-width-requires c κs = search needs
-
-test-requires : tie.Need-test-requires
-test-requires c κs = search needs
-
-refusal-requires : tie.Need-refusal-requires
-refusal-requires c κs = search needs
-
 returns-2 : tie.Need-returns-2
 returns-2 c =
     let start = c .before .before .before .before .before in
@@ -39,4 +30,5 @@ returns-2 c =
 
 pub count-unreadable-spec : {M : Type 1} → statement M
 count-unreadable-spec =
-    tie.close (tie.spec returns ensure-width-requires test-requires refusal-requires returns-2)
+    tie.close
+    (tie.spec returns (λ c κs. search needs) (λ c κs. search needs) (λ c κs. search needs) returns-2)

@@ -29,17 +29,8 @@ use borrow.Author.Needs.{needs}
 use Rattle.ea_count.proofs.walk.count_walk.Statement.{statement}
 use Rattle.ea_count.proofs.walk.count_walk.Tie as tie
 
-test-array-requires : tie.Need-test-array-requires
-test-array-requires c κs = search needs
-
-enum-known-r : tie.Need-enum-known-r
-enum-known-r c = search needs
-
 returns : tie.Need-returns
 returns c = λ g n q. walk-refused _ _ _ (sym (c .before .before .before .test-array .ensures) ∙ c .before .r .given .1)
-
-enum-told : tie.Need-enum-told
-enum-told c = search needs
 
 -- behind the way in
 abbrev start : tie.After-enum-told → tie.Start
@@ -84,9 +75,6 @@ counts c g n q =
     ∙ ap (λ (x : ℕ). countedOf (elementsFrom (elementsOf (a .file .now) (a .reader) g n) (a .array .«index_at» + x) (a .array .geometry .parameters .«idx_blk_elmts») 0 (accepted [])))
     (d .inline-element-at .ensures)
 
-is-width-requires : tie.Need-is-width-requires
-is-width-requires c κs = search needs
-
 count-unreadable-requires : tie.Need-count-unreadable-requires
 count-unreadable-requires c κs =
     (start (c .before .before .before) .pre .form, sym (c .before .is-width .ensures) ∙ not-true _ (c .if1 .taken))
@@ -100,9 +88,6 @@ inline-element-at-requires c κs = (omega arith, record { served = passed (told 
 add-pos : tie.Need-add-pos
 add-pos c = omega (arith, room (c .before))
 
-cast-inline : tie.Need-cast-inline
-cast-inline c = search needs
-
 count-elements-requires : tie.Need-count-elements-requires
 count-elements-requires c κs =
     let d = c .before .before in
@@ -114,12 +99,6 @@ count-elements-requires c κs =
       reads = w .reads;
       inside = subst (λ (n : ℕ). a .args .array .«index_at» + d .inline-element-at .result + a .args .array .geometry .parameters .«idx_blk_elmts» * n ≤ length (a .args .file .now)) (ap stride (w .form)) (room d);
     }
-
-enum-known-counted : tie.Need-enum-known-counted
-enum-known-counted c = search needs
-
-enum-told-2 : tie.Need-enum-told-2
-enum-told-2 c = search needs
 
 returns-3 : tie.Need-returns-3
 returns-3 c =
@@ -162,21 +141,6 @@ returns-4 c =
 pub count-walk-spec : {M : Type 1} → statement M
 count-walk-spec =
     tie.close
-    (tie.spec
-    test-array-requires
-    enum-known-r
-    returns
-    enum-told
-    is-width-requires
-    count-unreadable-requires
-    returns-2
-    inline-element-at-requires
-    add-pos
-    cast-inline
-    count-elements-requires
-    enum-known-counted
-    enum-told-2
-    returns-3
-    super-blocks-requires
-    count-blocks-requires
-    returns-4)
+    (tie.spec (λ c κs. search needs) (λ c. search needs) returns (λ c. search needs) (λ c κs. search needs)
+    count-unreadable-requires returns-2 inline-element-at-requires add-pos (λ c. search needs) count-elements-requires
+    (λ c. search needs) (λ c. search needs) returns-3 super-blocks-requires count-blocks-requires returns-4)

@@ -8,9 +8,6 @@ use Rattle.ea_geometry.proofs.Counts.{bits-few}
 use Rattle.ea_geometry.proofs.EaGeometry.bit_number.Statement.{statement}
 use Rattle.ea_geometry.proofs.EaGeometry.bit_number.Tie as tie
 
-pages-requires : tie.Need-pages-requires
-pages-requires c κs = search needs
-
 few : (c : tie.After-pages) → c .before .args .k * c .pages .result + c .before .args .p < 2 ^ 62
 few c =
     let a = c .before in
@@ -27,4 +24,4 @@ unfolding bitNumber
 returns c = rw (c .pages .ensures)
 
 pub bit-number-spec : {M : Type 1} → statement M
-bit-number-spec = tie.close (tie.spec pages-requires mul-result add-result returns)
+bit-number-spec = tie.close (tie.spec (λ c κs. search needs) mul-result add-result returns)

@@ -8,15 +8,6 @@ use Rattle.ea_geometry.proofs.Counts.{elements-few, pages-few, bitmap-f
 use Rattle.ea_geometry.proofs.EaGeometry.bitmap_bytes.Statement.{statement}
 use Rattle.ea_geometry.proofs.EaGeometry.bitmap_bytes.Tie as tie
 
-over-page-requires : tie.Need-over-page-requires
-over-page-requires c κs = search needs
-
-blocks-requires : tie.Need-blocks-requires
-blocks-requires c κs = search needs
-
-pages-requires : tie.Need-pages-requires
-pages-requires c κs = search needs
-
 add-result : tie.Need-add-result
 add-result c = let a = c .before .before .before .before in
     omega (arith, elements-few (a .args .self .parameters) (a .pre .1) (a .args .u) (a .pre .0), pages-few (a .args .self .parameters) (a .pre .1) (a .args .u) (a .pre .0), c .pages .ensures)
@@ -37,11 +28,5 @@ returns-2 c = rw (sym (c .before .over-page .ensures) ∙ c .if1 .left)
 pub bitmap-bytes-spec : {M : Type 1} → statement M
 bitmap-bytes-spec =
     tie.close
-    (tie.spec
-    over-page-requires
-    blocks-requires
-    pages-requires
-    add-result
-    mul-result
-    returns
+    (tie.spec (λ c κs. search needs) (λ c κs. search needs) (λ c κs. search needs) add-result mul-result returns
     returns-2)

@@ -6,9 +6,6 @@ use Rattle.ea_geometry.proofs.Positions.{block-prefix-few}
 use Rattle.ea_geometry.proofs.EaGeometry.block_element_at.Statement.{statement}
 use Rattle.ea_geometry.proofs.EaGeometry.block_element_at.Tie as tie
 
-block-prefix-requires : tie.Need-block-prefix-requires
-block-prefix-requires c κs = search needs
-
 element-at-requires : tie.Need-element-at-requires
 element-at-requires c κs =
     let g = c .before .args .self in
@@ -20,4 +17,4 @@ unfolding blockElementAt
 returns c = rw (c .element-at .ensures, c .before .block-prefix .ensures)
 
 pub block-element-at-spec : {M : Type 1} → statement M
-block-element-at-spec = tie.close (tie.spec block-prefix-requires element-at-requires returns)
+block-element-at-spec = tie.close (tie.spec (λ c κs. search needs) element-at-requires returns)

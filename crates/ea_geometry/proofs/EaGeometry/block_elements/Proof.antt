@@ -8,9 +8,6 @@ use Rattle.ea_geometry.proofs.Counts.{supers-few}
 use Rattle.ea_geometry.proofs.EaGeometry.block_elements.Statement.{statement}
 use Rattle.ea_geometry.proofs.EaGeometry.block_elements.Tie as tie
 
-least-block-elements-requires : tie.Need-least-block-elements-requires
-least-block-elements-requires c κs = search needs
-
 add-result : tie.Need-add-result
 add-result c = omega (arith, supers-few (c .before .args .self .parameters) (c .before .pre .1))
 
@@ -23,5 +20,4 @@ returns c = let a = c .before .args in
     rw (c .least-block-elements .ensures) (shl-exact 8 ((a .u + 1) / 2) 64 (omega arith) (omega (arith, supers-few (a .self .parameters) (c .before .pre .1))))
 
 pub block-elements-spec : {M : Type 1} → statement M
-block-elements-spec =
-    tie.close (tie.spec least-block-elements-requires add-result shl-result returns)
+block-elements-spec = tie.close (tie.spec (λ c κs. search needs) add-result shl-result returns)

@@ -8,12 +8,6 @@ use Rattle.ea_geometry.proofs.Positions.{block-prefix-few}
 use Rattle.ea_geometry.proofs.EaGeometry.block_pointer_at.Statement.{statement}
 use Rattle.ea_geometry.proofs.EaGeometry.block_pointer_at.Tie as tie
 
-page-bits-at-requires : tie.Need-page-bits-at-requires
-page-bits-at-requires c κs = search needs
-
-bitmap-bytes-requires : tie.Need-bitmap-bytes-requires
-bitmap-bytes-requires c κs = search needs
-
 behind : (c : tie.After-bitmap-bytes) → c .before .page-bits-at .result + c .bitmap-bytes .result ≤ 2 ^ 63
 unfolding pageBitsAt
 behind c =
@@ -37,9 +31,4 @@ returns c = rw (c .pointer-at .ensures, c .before .before .page-bits-at .ensures
 pub block-pointer-at-spec : {M : Type 1} → statement M
 block-pointer-at-spec =
     tie.close
-    (tie.spec
-    page-bits-at-requires
-    bitmap-bytes-requires
-    add-pointer-at
-    pointer-at-requires
-    returns)
+    (tie.spec (λ c κs. search needs) (λ c κs. search needs) add-pointer-at pointer-at-requires returns)

@@ -7,9 +7,6 @@ use Rattle.ea_geometry.proofs.Positions.{block-prefix-few, element-at-l
 use Rattle.ea_geometry.proofs.EaGeometry.data_extent.Statement.{statement}
 use Rattle.ea_geometry.proofs.EaGeometry.data_extent.Tie as tie
 
-block-elements-requires : tie.Need-block-elements-requires
-block-elements-requires c κs = search needs
-
 block-element-at-requires : tie.Need-block-element-at-requires
 block-element-at-requires c κs =
     let a = c .before in
@@ -30,4 +27,5 @@ returns c = rw (c .block-element-at .ensures, c .before .block-elements .ensures
 
 pub data-extent-spec : {M : Type 1} → statement M
 data-extent-spec =
-    tie.close (tie.spec block-elements-requires block-element-at-requires add-result returns)
+    tie.close
+    (tie.spec (λ c κs. search needs) block-element-at-requires add-result returns)

@@ -9,9 +9,6 @@ use Rattle.ea_geometry.proofs.Positions.{direct-pointers-at-few}
 use Rattle.ea_geometry.proofs.EaGeometry.direct_pointer_at.Statement.{statement}
 use Rattle.ea_geometry.proofs.EaGeometry.direct_pointer_at.Tie as tie
 
-direct-pointers-at-requires : tie.Need-direct-pointers-at-requires
-direct-pointers-at-requires c κs = search needs
-
 blocks-before-requires : tie.Need-blocks-before-requires
 blocks-before-requires c κs = (omega (arith, direct-le (c .before .args .self .parameters)), c .before .pre .2 .served)
 
@@ -37,9 +34,4 @@ returns c = rw (c .pointer-at .ensures, c .before .before .direct-pointers-at .e
 pub direct-pointer-at-spec : {M : Type 1} → statement M
 direct-pointer-at-spec =
     tie.close
-    (tie.spec
-    direct-pointers-at-requires
-    blocks-before-requires
-    add-pointer-at
-    pointer-at-requires
-    returns)
+    (tie.spec (λ c κs. search needs) blocks-before-requires add-pointer-at pointer-at-requires returns)

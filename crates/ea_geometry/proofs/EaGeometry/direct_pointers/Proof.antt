@@ -6,9 +6,6 @@ use Rattle.ea_geometry.proofs.Counts.{direct-le}
 use Rattle.ea_geometry.proofs.EaGeometry.direct_pointers.Statement.{statement}
 use Rattle.ea_geometry.proofs.EaGeometry.direct_pointers.Tie as tie
 
-direct-super-blocks-requires : tie.Need-direct-super-blocks-requires
-direct-super-blocks-requires c κs = search needs
-
 blocks-before-requires : tie.Need-blocks-before-requires
 blocks-before-requires c κs = rw (c .direct-super-blocks .ensures) (direct-le (c .before .args .self .parameters), c .before .pre)
 
@@ -17,5 +14,4 @@ unfolding directPointers
 returns c = c .blocks-before .ensures ∙ ap blocksBefore (c .before .direct-super-blocks .ensures)
 
 pub direct-pointers-spec : {M : Type 1} → statement M
-direct-pointers-spec =
-    tie.close (tie.spec direct-super-blocks-requires blocks-before-requires returns)
+direct-pointers-spec = tie.close (tie.spec (λ c κs. search needs) blocks-before-requires returns)

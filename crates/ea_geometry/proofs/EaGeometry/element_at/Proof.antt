@@ -7,9 +7,6 @@ use Rattle.ea_geometry.proofs.Positions.{element-at-le}
 use Rattle.ea_geometry.proofs.EaGeometry.element_at.Statement.{statement}
 use Rattle.ea_geometry.proofs.EaGeometry.element_at.Tie as tie
 
-element-stride-requires : tie.Need-element-stride-requires
-element-stride-requires c κs = search needs
-
 bounded : (c : tie.After-element-stride) → c .before .args .first + c .before .args .i * c .element-stride .result ≤ c .before .args .first + 255 * c .before .args .i
 unfolding elementAt
 bounded c =
@@ -27,4 +24,4 @@ unfolding elementAt
 returns c = rw (c .element-stride .ensures)
 
 pub element-at-spec : {M : Type 1} → statement M
-element-at-spec = tie.close (tie.spec element-stride-requires mul-result add-result returns)
+element-at-spec = tie.close (tie.spec (λ c κs. search needs) mul-result add-result returns)

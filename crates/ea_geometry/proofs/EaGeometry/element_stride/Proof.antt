@@ -5,14 +5,8 @@ use borrow.Author.Needs.{needs}
 use Rattle.ea_geometry.proofs.EaGeometry.element_stride.Statement.{statement}
 use Rattle.ea_geometry.proofs.EaGeometry.element_stride.Tie as tie
 
-form-requires : tie.Need-form-requires
-form-requires c κs = search needs
-
-stride-requires : tie.Need-stride-requires
-stride-requires c κs = search needs
-
 returns : tie.Need-returns
 returns c = c .stride .ensures ∙ ap stride (c .before .form .ensures)
 
 pub element-stride-spec : {M : Type 1} → statement M
-element-stride-spec = tie.close (tie.spec form-requires stride-requires returns)
+element-stride-spec = tie.close (tie.spec (λ c κs. search needs) (λ c κs. search needs) returns)

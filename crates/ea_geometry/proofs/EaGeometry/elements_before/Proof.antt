@@ -9,9 +9,6 @@ use Rattle.ea_geometry.proofs.Counts.{supers-few, elements-before-few}
 use Rattle.ea_geometry.proofs.EaGeometry.elements_before.Statement.{statement}
 use Rattle.ea_geometry.proofs.EaGeometry.elements_before.Tie as tie
 
-least-block-elements-requires : tie.Need-least-block-elements-requires
-least-block-elements-requires c κs = search needs
-
 few : (c : tie.After-least-block-elements) → c .before .args .u < 64
 few c = omega (arith, supers-few (c .before .args .self .parameters) (c .before .pre .1))
 
@@ -33,4 +30,5 @@ returns c = rw (one-shl (c .before .args .u) (few c), c .least-block-elements .e
 
 pub elements-before-spec : {M : Type 1} → statement M
 elements-before-spec =
-    tie.close (tie.spec least-block-elements-requires shl-result sub-result mul-result returns)
+    tie.close
+    (tie.spec (λ c κs. search needs) shl-result sub-result mul-result returns)

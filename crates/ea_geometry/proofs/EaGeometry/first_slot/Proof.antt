@@ -6,12 +6,6 @@ use Rattle.ea_geometry.proofs.Counts.{elements-before-few}
 use Rattle.ea_geometry.proofs.EaGeometry.first_slot.Statement.{statement}
 use Rattle.ea_geometry.proofs.EaGeometry.first_slot.Tie as tie
 
-cast-result : tie.Need-cast-result
-cast-result c = search needs
-
-elements-before-requires : tie.Need-elements-before-requires
-elements-before-requires c κs = search needs
-
 add-result : tie.Need-add-result
 add-result c =
     let a = c .before .before in
@@ -22,4 +16,4 @@ unfolding firstSlot
 returns c = rw (c .elements-before .ensures)
 
 pub first-slot-spec : {M : Type 1} → statement M
-first-slot-spec = tie.close (tie.spec cast-result elements-before-requires add-result returns)
+first-slot-spec = tie.close (tie.spec (λ c. search needs) (λ c κs. search needs) add-result returns)

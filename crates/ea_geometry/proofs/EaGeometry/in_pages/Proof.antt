@@ -8,18 +8,12 @@ use Rattle.ea_geometry.specs.Place.{inPages}
 use Rattle.ea_geometry.proofs.EaGeometry.in_pages.Statement.{statement}
 use Rattle.ea_geometry.proofs.EaGeometry.in_pages.Tie as tie
 
-direct-super-blocks-requires : tie.Need-direct-super-blocks-requires
-direct-super-blocks-requires c κs = search needs
-
 returns : tie.Need-returns
 unfolding inPages
 returns c =
     let a = c .before .before .args in
     let less : a .u < directSuperBlocks (a .self .parameters) = omega (arith, c .before .direct-super-blocks .ensures) in
     rw (lt-leb (directSuperBlocks (a .self .parameters)) (a .u) less)
-
-over-page-requires : tie.Need-over-page-requires
-over-page-requires c κs = search needs
 
 returns-2 : tie.Need-returns-2
 unfolding inPages
@@ -29,5 +23,4 @@ returns-2 c =
     rw (le-leb (directSuperBlocks (a .self .parameters)) (a .u) more) (c .over-page .ensures)
 
 pub in-pages-spec : {M : Type 1} → statement M
-in-pages-spec =
-    tie.close (tie.spec direct-super-blocks-requires returns over-page-requires returns-2)
+in-pages-spec = tie.close (tie.spec (λ c κs. search needs) returns (λ c κs. search needs) returns-2)

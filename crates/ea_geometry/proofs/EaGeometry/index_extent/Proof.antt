@@ -12,38 +12,14 @@ use Rattle.fields.proofs.Numbers.{figure-sum}
 use Rattle.ea_geometry.proofs.EaGeometry.index_extent.Statement.{statement}
 use Rattle.ea_geometry.proofs.EaGeometry.index_extent.Tie as tie
 
-direct-pointers-requires : tie.Need-direct-pointers-requires
-direct-pointers-requires c κs = search needs
-
 add-addresses : tie.Need-add-addresses
 add-addresses c = omega (arith, c .direct-pointers .ensures, direct-pointers-few (c .before .args .self .parameters) (c .before .pre))
-
-super-pointers-requires : tie.Need-super-pointers-requires
-super-pointers-requires c κs = search needs
 
 add-addresses-2 : tie.Need-add-addresses-2
 unfolding superPointers
 add-addresses-2 c =
     let a = c .before .before in
     omega (arith, c .before .direct-pointers .ensures, direct-pointers-few (a .args .self .parameters) (a .pre), c .super-pointers .ensures, supers-few (a .args .self .parameters) (a .pre))
-
-saturating-mul-requires : tie.Need-saturating-mul-requires
-saturating-mul-requires c κs = search needs
-
-cast-saturating-mul : tie.Need-cast-saturating-mul
-cast-saturating-mul c = search needs
-
-element-stride-requires : tie.Need-element-stride-requires
-element-stride-requires c κs = search needs
-
-saturating-mul-requires-2 : tie.Need-saturating-mul-requires-2
-saturating-mul-requires-2 c κs = search needs
-
-saturating-add-requires : tie.Need-saturating-add-requires
-saturating-add-requires c κs = search needs
-
-saturating-add-requires-2 : tie.Need-saturating-add-requires-2
-saturating-add-requires-2 c κs = search needs
 
 returns : tie.Need-returns
 returns c =
@@ -57,15 +33,6 @@ returns c =
 pub index-extent-spec : {M : Type 1} → statement M
 index-extent-spec =
     tie.close
-    (tie.spec
-    direct-pointers-requires
-    add-addresses
-    super-pointers-requires
-    add-addresses-2
-    saturating-mul-requires
-    cast-saturating-mul
-    element-stride-requires
-    saturating-mul-requires-2
-    saturating-add-requires
-    saturating-add-requires-2
+    (tie.spec (λ c κs. search needs) add-addresses (λ c κs. search needs) add-addresses-2 (λ c κs. search needs)
+    (λ c. search needs) (λ c κs. search needs) (λ c κs. search needs) (λ c κs. search needs) (λ c κs. search needs)
     returns)

@@ -5,12 +5,9 @@ use Rattle.ea_geometry.specs.Extents.{indexPrefix}
 use Rattle.ea_geometry.proofs.EaGeometry.index_prefix.Statement.{statement}
 use Rattle.ea_geometry.proofs.EaGeometry.index_prefix.Tie as tie
 
-add-result : tie.Need-add-result
-add-result c = search needs
-
 returns : tie.Need-returns
 unfolding indexPrefix
 returns c = refl
 
 pub index-prefix-spec : {M : Type 1} → statement M
-index-prefix-spec = tie.close (tie.spec add-result returns)
+index-prefix-spec = tie.close (tie.spec (λ c. search needs) returns)

@@ -5,9 +5,6 @@ use Rattle.ea_geometry.specs.Extents.{indexPrefix, inlineElementAt}
 use Rattle.ea_geometry.proofs.EaGeometry.inline_element_at.Statement.{statement}
 use Rattle.ea_geometry.proofs.EaGeometry.inline_element_at.Tie as tie
 
-index-prefix-requires : tie.Need-index-prefix-requires
-index-prefix-requires c κs = search needs
-
 element-at-requires : tie.Need-element-at-requires
 unfolding indexPrefix
 element-at-requires c κs = (omega (arith, c .index-prefix .ensures), omega arith, c .before .pre .1)
@@ -17,4 +14,4 @@ unfolding inlineElementAt
 returns c = rw (c .element-at .ensures, c .before .index-prefix .ensures)
 
 pub inline-element-at-spec : {M : Type 1} → statement M
-inline-element-at-spec = tie.close (tie.spec index-prefix-requires element-at-requires returns)
+inline-element-at-spec = tie.close (tie.spec (λ c κs. search needs) element-at-requires returns)

@@ -4,15 +4,9 @@ use Rattle.ea_geometry.specs.Sizes.{overPage}
 use Rattle.ea_geometry.proofs.EaGeometry.over_page.Statement.{statement}
 use Rattle.ea_geometry.proofs.EaGeometry.over_page.Tie as tie
 
-page-elements-requires : tie.Need-page-elements-requires
-page-elements-requires c κs = search needs
-
-block-elements-requires : tie.Need-block-elements-requires
-block-elements-requires c κs = search needs
-
 returns : tie.Need-returns
 unfolding overPage
 returns c = rw (c .before .page-elements .ensures, c .block-elements .ensures)
 
 pub over-page-spec : {M : Type 1} → statement M
-over-page-spec = tie.close (tie.spec page-elements-requires block-elements-requires returns)
+over-page-spec = tie.close (tie.spec (λ c κs. search needs) (λ c κs. search needs) returns)

@@ -8,12 +8,6 @@ use Rattle.ea_geometry.proofs.Positions.{page-at-le}
 use Rattle.ea_geometry.proofs.EaGeometry.page_at.Statement.{statement}
 use Rattle.ea_geometry.proofs.EaGeometry.page_at.Tie as tie
 
-paged-head-extent-requires : tie.Need-paged-head-extent-requires
-paged-head-extent-requires c κs = search needs
-
-page-extent-requires : tie.Need-page-extent-requires
-page-extent-requires c κs = search needs
-
 bounded : (c : tie.After-page-extent) → c .before .paged-head-extent .result + c .before .before .args .p * c .page-extent .result ≤ 26 + 259 * (c .before .before .args .p * pageElements (c .before .before .args .self .parameters))
 unfolding pageAt
 bounded c =
@@ -34,4 +28,4 @@ returns c = rw (c .before .paged-head-extent .ensures, c .page-extent .ensures)
 pub page-at-spec : {M : Type 1} → statement M
 page-at-spec =
     tie.close
-    (tie.spec paged-head-extent-requires page-extent-requires mul-result add-result returns)
+    (tie.spec (λ c κs. search needs) (λ c κs. search needs) mul-result add-result returns)

@@ -6,15 +6,9 @@ use Rattle.ea_geometry.specs.Sizes.{pageElements}
 use Rattle.ea_geometry.proofs.EaGeometry.page_elements.Statement.{statement}
 use Rattle.ea_geometry.proofs.EaGeometry.page_elements.Tie as tie
 
-cast-result : tie.Need-cast-result
-cast-result c = search needs
-
-shl-result : tie.Need-shl-result
-shl-result c = search needs
-
 returns : tie.Need-returns
 unfolding pageElements
 returns c = one-shl (c .before .args .self .parameters .«max_dblk_nelmts_bits») (omega arith)
 
 pub page-elements-spec : {M : Type 1} → statement M
-page-elements-spec = tie.close (tie.spec cast-result shl-result returns)
+page-elements-spec = tie.close (tie.spec (λ c. search needs) (λ c. search needs) returns)

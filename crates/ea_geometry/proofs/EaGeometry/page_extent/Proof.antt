@@ -8,9 +8,6 @@ use Rattle.ea_geometry.proofs.Positions.{element-at-le}
 use Rattle.ea_geometry.proofs.EaGeometry.page_extent.Statement.{statement}
 use Rattle.ea_geometry.proofs.EaGeometry.page_extent.Tie as tie
 
-page-elements-requires : tie.Need-page-elements-requires
-page-elements-requires c κs = search needs
-
 element-at-requires : tie.Need-element-at-requires
 element-at-requires c κs = (omega arith, omega (arith, c .page-elements .ensures, page-elements-few (c .before .args .self .parameters) (c .before .pre .served)), c .before .pre)
 
@@ -27,4 +24,5 @@ returns c = rw (c .element-at .ensures, c .before .page-elements .ensures)
 
 pub page-extent-spec : {M : Type 1} → statement M
 page-extent-spec =
-    tie.close (tie.spec page-elements-requires element-at-requires add-result returns)
+    tie.close
+    (tie.spec (λ c κs. search needs) element-at-requires add-result returns)

@@ -11,9 +11,6 @@ use Rattle.ea_geometry.proofs.Positions.{page-at-le}
 use Rattle.ea_geometry.proofs.EaGeometry.paged_element_at.Statement.{statement}
 use Rattle.ea_geometry.proofs.EaGeometry.paged_element_at.Tie as tie
 
-page-elements-requires : tie.Need-page-elements-requires
-page-elements-requires c κs = search needs
-
 some : (c : tie.After-page-elements) → 0 < c .page-elements .result
 unfolding pageElements
 some c = rw (c .page-elements .ensures) (pow-pos (c .before .args .self .parameters .«max_dblk_nelmts_bits»))
@@ -47,10 +44,4 @@ returns c = rw (c .element-at .ensures, c .before .page-at .ensures, c .before .
 pub paged-element-at-spec : {M : Type 1} → statement M
 paged-element-at-spec =
     tie.close
-    (tie.spec
-    page-elements-requires
-    div-page-at
-    page-at-requires
-    rem-element-at
-    element-at-requires
-    returns)
+    (tie.spec (λ c κs. search needs) div-page-at page-at-requires rem-element-at element-at-requires returns)

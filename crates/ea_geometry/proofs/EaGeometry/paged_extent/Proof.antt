@@ -5,9 +5,6 @@ use Rattle.ea_geometry.proofs.Counts.{pages-fit}
 use Rattle.ea_geometry.proofs.EaGeometry.paged_extent.Statement.{statement}
 use Rattle.ea_geometry.proofs.EaGeometry.paged_extent.Tie as tie
 
-pages-requires : tie.Need-pages-requires
-pages-requires c κs = search needs
-
 page-at-requires : tie.Need-page-at-requires
 page-at-requires c κs =
     let a = c .before in
@@ -18,4 +15,4 @@ unfolding pagedExtent
 returns c = rw (c .page-at .ensures, c .before .pages .ensures)
 
 pub paged-extent-spec : {M : Type 1} → statement M
-paged-extent-spec = tie.close (tie.spec pages-requires page-at-requires returns)
+paged-extent-spec = tie.close (tie.spec (λ c κs. search needs) page-at-requires returns)

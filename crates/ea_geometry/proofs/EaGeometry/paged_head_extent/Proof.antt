@@ -6,9 +6,6 @@ use Rattle.ea_geometry.proofs.Positions.{block-prefix-few}
 use Rattle.ea_geometry.proofs.EaGeometry.paged_head_extent.Statement.{statement}
 use Rattle.ea_geometry.proofs.EaGeometry.paged_head_extent.Tie as tie
 
-block-prefix-requires : tie.Need-block-prefix-requires
-block-prefix-requires c κs = search needs
-
 add-result : tie.Need-add-result
 add-result c =
     let g = c .before .args .self in
@@ -19,4 +16,4 @@ unfolding pagedHeadExtent
 returns c = rw (c .block-prefix .ensures)
 
 pub paged-head-extent-spec : {M : Type 1} → statement M
-paged-head-extent-spec = tie.close (tie.spec block-prefix-requires add-result returns)
+paged-head-extent-spec = tie.close (tie.spec (λ c κs. search needs) add-result returns)

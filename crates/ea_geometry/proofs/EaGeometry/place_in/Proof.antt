@@ -8,12 +8,6 @@ use Rattle.ea_geometry.proofs.Places.{page-below}
 use Rattle.ea_geometry.proofs.EaGeometry.place_in.Statement.{statement}
 use Rattle.ea_geometry.proofs.EaGeometry.place_in.Tie as tie
 
-in-pages-requires : tie.Need-in-pages-requires
-in-pages-requires c κs = search needs
-
-page-elements-requires : tie.Need-page-elements-requires
-page-elements-requires c κs = search needs
-
 div-page : tie.Need-div-page
 unfolding pageElements
 div-page c = rw (c .page-elements .ensures) (pow-pos (c .before .before .before .args .self .parameters .«max_dblk_nelmts_bits»))
@@ -35,10 +29,4 @@ returns-2 c = rw (sym (c .before .in-pages .ensures) ∙ c .if1 .left)
 pub place-in-spec : {M : Type 1} → statement M
 place-in-spec =
     tie.close
-    (tie.spec
-    in-pages-requires
-    page-elements-requires
-    div-page
-    bit-number-requires
-    returns
-    returns-2)
+    (tie.spec (λ c κs. search needs) (λ c κs. search needs) div-page bit-number-requires returns returns-2)

@@ -10,22 +10,13 @@ use Rattle.ea_geometry.proofs.Places.{place-inline, place-past, place-i
 use Rattle.ea_geometry.proofs.EaGeometry.place_of.Statement.{statement}
 use Rattle.ea_geometry.proofs.EaGeometry.place_of.Tie as tie
 
-cast-inline : tie.Need-cast-inline
-cast-inline c = search needs
-
 returns : tie.Need-returns
 returns c = sym (place-inline (c .before .before .args .self .parameters) (c .before .before .pre) (c .before .before .args .slot) (c .if1 .taken))
-
-capacity-requires : tie.Need-capacity-requires
-capacity-requires c κs = search needs
 
 returns-2 : tie.Need-returns-2
 returns-2 c =
     let a = c .before .before .before .before in
     sym (place-past (a .args .self .parameters) (a .pre) (a .args .slot) (omega (arith, c .before .capacity .ensures)))
-
-super-block-of-requires : tie.Need-super-block-of-requires
-super-block-of-requires c κs = search needs
 
 -- the super block of the slot is one of the array's
 below : (c : tie.After-super-block-of) → c .super-block-of .result < superBlocks (c .before .before .before .before .before .args .self .parameters)
@@ -80,16 +71,5 @@ returns-3 c =
 pub place-of-spec : {M : Type 1} → statement M
 place-of-spec =
     tie.close
-    (tie.spec
-    cast-inline
-    returns
-    capacity-requires
-    returns-2
-    super-block-of-requires
-    elements-before-requires
-    sub-x
-    block-elements-requires
-    div-place-in
-    rem-place-in
-    place-in-requires
-    returns-3)
+    (tie.spec (λ c. search needs) returns (λ c κs. search needs) returns-2 (λ c κs. search needs)
+    elements-before-requires sub-x block-elements-requires div-place-in rem-place-in place-in-requires returns-3)

@@ -12,9 +12,6 @@ use Rattle.ea_geometry.specs.Place.{superOf}
 use Rattle.ea_geometry.proofs.EaGeometry.super_block_of.Statement.{statement}
 use Rattle.ea_geometry.proofs.EaGeometry.super_block_of.Tie as tie
 
-least-block-elements-requires : tie.Need-least-block-elements-requires
-least-block-elements-requires c κs = search needs
-
 div-result : tie.Need-div-result
 div-result c = rw (c .least-block-elements .ensures) (least-pos (c .before .args .self .parameters) (c .before .pre .1))
 
@@ -42,4 +39,4 @@ returns c = rw (top c .1, c .least-block-elements .ensures)
 pub super-block-of-spec : {M : Type 1} → statement M
 super-block-of-spec =
     tie.close
-    (tie.spec least-block-elements-requires div-result add-result cast-result sub-result returns)
+    (tie.spec (λ c κs. search needs) div-result add-result cast-result sub-result returns)

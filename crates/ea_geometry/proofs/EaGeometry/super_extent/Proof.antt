@@ -9,12 +9,6 @@ use Rattle.ea_geometry.proofs.Positions.{block-prefix-few, pointer-at-l
 use Rattle.ea_geometry.proofs.EaGeometry.super_extent.Statement.{statement}
 use Rattle.ea_geometry.proofs.EaGeometry.super_extent.Tie as tie
 
-blocks-requires : tie.Need-blocks-requires
-blocks-requires c κs = search needs
-
-block-pointer-at-requires : tie.Need-block-pointer-at-requires
-block-pointer-at-requires c κs = search needs
-
 add-result : tie.Need-add-result
 unfolding blockPointerAt pageBitsAt
 add-result c =
@@ -32,4 +26,5 @@ returns c = rw (c .block-pointer-at .ensures, c .before .blocks2 .ensures)
 
 pub super-extent-spec : {M : Type 1} → statement M
 super-extent-spec =
-    tie.close (tie.spec blocks-requires block-pointer-at-requires add-result returns)
+    tie.close
+    (tie.spec (λ c κs. search needs) (λ c κs. search needs) add-result returns)

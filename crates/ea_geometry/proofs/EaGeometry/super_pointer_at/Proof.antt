@@ -7,15 +7,6 @@ use Rattle.ea_geometry.proofs.Positions.{super-pointers-at-few}
 use Rattle.ea_geometry.proofs.EaGeometry.super_pointer_at.Statement.{statement}
 use Rattle.ea_geometry.proofs.EaGeometry.super_pointer_at.Tie as tie
 
-super-pointers-at-requires : tie.Need-super-pointers-at-requires
-super-pointers-at-requires c κs = search needs
-
-direct-super-blocks-requires : tie.Need-direct-super-blocks-requires
-direct-super-blocks-requires c κs = search needs
-
-sub-pointer-at : tie.Need-sub-pointer-at
-sub-pointer-at c = search needs
-
 pointer-at-requires : tie.Need-pointer-at-requires
 pointer-at-requires c κs =
     let a = c .before .before in
@@ -33,9 +24,4 @@ returns c = rw (c .pointer-at .ensures, c .before .before .super-pointers-at .en
 pub super-pointer-at-spec : {M : Type 1} → statement M
 super-pointer-at-spec =
     tie.close
-    (tie.spec
-    super-pointers-at-requires
-    direct-super-blocks-requires
-    sub-pointer-at
-    pointer-at-requires
-    returns)
+    (tie.spec (λ c κs. search needs) (λ c κs. search needs) (λ c. search needs) pointer-at-requires returns)

@@ -6,12 +6,6 @@ use Rattle.ea_geometry.proofs.Counts.{direct-le}
 use Rattle.ea_geometry.proofs.EaGeometry.super_pointers.Statement.{statement}
 use Rattle.ea_geometry.proofs.EaGeometry.super_pointers.Tie as tie
 
-super-blocks-requires : tie.Need-super-blocks-requires
-super-blocks-requires c κs = search needs
-
-direct-super-blocks-requires : tie.Need-direct-super-blocks-requires
-direct-super-blocks-requires c κs = search needs
-
 sub-result : tie.Need-sub-result
 sub-result c = omega (arith, direct-le (c .before .before .args .self .parameters), c .before .super-blocks .ensures, c .direct-super-blocks .ensures)
 
@@ -21,4 +15,5 @@ returns c = rw (c .before .super-blocks .ensures, c .direct-super-blocks .ensure
 
 pub super-pointers-spec : {M : Type 1} → statement M
 super-pointers-spec =
-    tie.close (tie.spec super-blocks-requires direct-super-blocks-requires sub-result returns)
+    tie.close
+    (tie.spec (λ c κs. search needs) (λ c κs. search needs) sub-result returns)

@@ -7,12 +7,6 @@ use Rattle.ea_geometry.proofs.Positions.{direct-pointers-at-few}
 use Rattle.ea_geometry.proofs.EaGeometry.super_pointers_at.Statement.{statement}
 use Rattle.ea_geometry.proofs.EaGeometry.super_pointers_at.Tie as tie
 
-direct-pointers-at-requires : tie.Need-direct-pointers-at-requires
-direct-pointers-at-requires c κs = search needs
-
-direct-pointers-requires : tie.Need-direct-pointers-requires
-direct-pointers-requires c κs = search needs
-
 pointer-at-requires : tie.Need-pointer-at-requires
 pointer-at-requires c κs =
     let a = c .before .before in
@@ -26,4 +20,4 @@ returns c = rw (c .pointer-at .ensures, c .before .before .direct-pointers-at .e
 pub super-pointers-at-spec : {M : Type 1} → statement M
 super-pointers-at-spec =
     tie.close
-    (tie.spec direct-pointers-at-requires direct-pointers-requires pointer-at-requires returns)
+    (tie.spec (λ c κs. search needs) (λ c κs. search needs) pointer-at-requires returns)

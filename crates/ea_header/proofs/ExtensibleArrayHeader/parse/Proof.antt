@@ -7,17 +7,8 @@ use Rattle.ea_header.proofs.Header.{passed-is, header-after, refused-af
 use Rattle.ea_header.proofs.ExtensibleArrayHeader.parse.Statement.{statement}
 use Rattle.ea_header.proofs.ExtensibleArrayHeader.parse.Tie as tie
 
-header-test-requires : tie.Need-header-test-requires
-header-test-requires c κs = search needs
-
-enum-told : tie.Need-enum-told
-enum-told c = search needs
-
 read-header-requires : tie.Need-read-header-requires
 read-header-requires c κs = passed-is lookup3 _ _ _ _ (sym (c .before .before .header-test .ensures) ∙ c .enum-told .given .1)
-
-enum-known-r : tie.Need-enum-known-r
-enum-known-r c = search needs
 
 returns : tie.Need-returns
 unfolding parsedAt
@@ -30,4 +21,4 @@ returns-2 c = refused-after _ _ (sym (c .before .r .given .1) ∙ c .before .bef
 pub parse-spec : {M : Type 1} → statement M
 parse-spec =
     tie.close
-    (tie.spec header-test-requires enum-told read-header-requires enum-known-r returns returns-2)
+    (tie.spec (λ c κs. search needs) (λ c. search needs) read-header-requires (λ c. search needs) returns returns-2)

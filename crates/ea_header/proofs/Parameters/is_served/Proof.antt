@@ -10,12 +10,6 @@ use Rattle.ea_header.proofs.Served.{not-power, power-first}
 use Rattle.ea_header.proofs.Parameters.is_served.Statement.{statement}
 use Rattle.ea_header.proofs.Parameters.is_served.Tie as tie
 
-cast-is-power-of-two : tie.Need-cast-is-power-of-two
-cast-is-power-of-two c = search needs
-
-is-power-of-two-requires : tie.Need-is-power-of-two-requires
-is-power-of-two-requires c κs = search needs
-
 -- what is left to test behind the power of two
 rest : (c : tie.Else1)
     → let h = c .before .before .before .args .self in
@@ -40,4 +34,4 @@ returns-4 c = let h = c .before .before .before .before .before .before .before 
 pub is-served-spec : {M : Type 1} → statement M
 is-served-spec =
     tie.close
-    (tie.spec cast-is-power-of-two is-power-of-two-requires returns returns-2 returns-3 returns-4)
+    (tie.spec (λ c. search needs) (λ c κs. search needs) returns returns-2 returns-3 returns-4)

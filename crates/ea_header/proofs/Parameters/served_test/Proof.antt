@@ -6,19 +6,15 @@ use borrow.Author.Needs.{needs}
 use Rattle.ea_header.proofs.Parameters.served_test.Statement.{statement}
 use Rattle.ea_header.proofs.Parameters.served_test.Tie as tie
 
-is-served-requires : tie.Need-is-served-requires
-is-served-requires c κs = search needs
-
 returns : tie.Need-returns
 unfolding servedTest refuse
 returns c = rw (sym (c .before .is-served .ensures) ∙ c .if1 .taken) refl
-
-plain-requires : tie.Need-plain-requires
-plain-requires c κs = search needs
 
 returns-2 : tie.Need-returns-2
 unfolding servedTest refuse
 returns-2 c = rw (c .plain .ensures, sym (c .before .before .is-served .ensures) ∙ c .before .if1 .left) refl
 
 pub served-test-spec : {M : Type 1} → statement M
-served-test-spec = tie.close (tie.spec is-served-requires returns plain-requires returns-2)
+served-test-spec =
+    tie.close
+    (tie.spec (λ c κs. search needs) returns (λ c κs. search needs) returns-2)

@@ -1,98 +1,87 @@
 -- `ea_spans::write::write_index` meets its contract. Assumes nothing.
-use mathlib.Core.Path.{_≡_, sym, _∙_}
+use mathlib.Core.Path.{_≡_, refl, sym, _∙_}
 use mathlib.Core.Bool.{false}
 use native.Mathlib.Omega.{arith}
+use borrow.Author.Needs.{needs}
+use Rattle.refusal.specs.declared.Checked.the-variants.{Passed}
 use Rattle.refusal.specs.Outcome.{also}
+use Rattle.refusal.specs.Refusals.{figure}
 use Rattle.refusal.proofs.Tests.{then-inv}
+use Rattle.refusal.proofs.Outcomes.{yields-inv, yields-passed}
 use Rattle.fields.specs.Fields.{undefined}
 use Rattle.ea_geometry.specs.Sizes.{superBlocks}
-use Rattle.ea_blocks.specs.Call.{Call}
-use Rattle.ea_blocks.specs.Structures.{indexAt}
+use Rattle.ea_geometry.specs.Extents.{indexExtent}
+use Rattle.ea_blocks.specs.Array.{Array, arrayOf}
+use Rattle.ea_blocks.specs.Structures.{startOf, extentOf, indexBlock}
 use Rattle.ea_blocks.proofs.StructureTests.{index-in-file}
-use Rattle.span_walk.specs.Walk.{indexTest, supersFrom, indexSpans}
-use Rattle.ea_spans.specs.Listing.{filled, addressOf, lengthOf}
-use Rattle.ea_spans.proofs.Tests.{seen, index-spanned}
-use Rattle.ea_spans.proofs.Lengths.{index-none, index-tested}
-use Rattle.ea_spans.proofs.Writing.{Going, going-whole, going-as, going-span, going-fits, going-put, filled-none, index-passed}
-use borrow.Author.Needs.{needs}
+use Rattle.span_walk.specs.Spans.{bytesOf, spannedTest}
+use Rattle.span_walk.specs.Walk.{supersFrom, indexSpans}
+use Rattle.span_walk.proofs.Turns.{index-none, index-defined}
+use Rattle.ea_spans.proofs.SpanTests.{span-is, index-exact}
+use Rattle.ea_spans.proofs.Writing.{Going, going-whole, going-as, going-none, going-fits, going-put}
 use Rattle.ea_spans.proofs.write.write_index.Statement.{statement}
-use Rattle.ea_spans.specs.Values.{callAt}
 use Rattle.ea_spans.proofs.write.write_index.Tie as tie
 
-index-undefined-requires : tie.Need-index-undefined-requires
-index-undefined-requires c κs = search needs
+abbrev array : tie.Start → Array
+array s = arrayOf (s .args .file .now) (s .args .array)
 
 returns : tie.Need-returns
-unfolding indexAt
 returns c =
-    let e = index-none _ (sym (c .before .index-undefined .ensures) ∙ c .if1 .taken) in
-    (filled-none addressOf _ _ _ e, filled-none lengthOf _ _ _ e)
+    let s = c .before .before .before .before .before in
+    let g = going-none (going-as (index-none _ (sym (c .before .index-undefined .ensures) ∙ c .if1 .taken)) (going-whole (s .pre .2))) in
+    (g .0, g .1)
 
--- the call, and the spans that are to be written
-abbrev call : tie.Start → Call
-call s = callAt (s .args .file .now) (s .args .geometry)
-
-abbrev start : tie.Else1 → tie.Start
-start c = c .before .before .before .before .before
-
-there : (c : tie.Else1) → undefined (call (start c) .offsetSize) (indexAt (call (start c))) ≡ false
-unfolding indexAt
+-- there is an index block
+there : (c : tie.Else1) → let a = array (c .before .before .before .before .before) in undefined (a .offsetSize) (a .indexAt) ≡ false
 there c = sym (c .before .index-undefined .ensures) ∙ c .if1 .left
 
+passed : (c : tie.Else1) → spannedTest (array (c .before .before .before .before .before)) indexBlock ≡ Passed
+passed c =
+    let r = c .before .before .before .before .before .pre .2 in
+    yields-inv _ _ _ (sym (index-defined _ (there c)) ∙ r .is) .0
+
+-- the bytes of the index block fit 64 bits
+exact : (s : tie.Start) → let a = array s in figure (indexExtent (a .parameters) (a .offsetSize)) ≡ indexExtent (a .parameters) (a .offsetSize)
+exact s = index-exact (s .args .array .geometry) (omega arith) (omega arith) (s .pre .0)
+
 -- the index block's span comes next
-opened : (c : tie.After-index-extent)
-    → let s = start (c .before) in
-    Going (also (record { address = s .args .geometry .header .«index_block_address»; length = c .index-extent .result }) (supersFrom (call s) (superBlocks (s .args .geometry .header)) 0)) 1 (s .args .addresses .now) (s .args .lengths .now)
-    (filled addressOf (indexSpans (call s)) 1 (s .args .addresses .now)) (filled lengthOf (indexSpans (call s)) 1 (s .args .lengths .now))
-opened c =
-    let s = start (c .before) in
-    let u = there (c .before) in
-    let r = s .pre .2 in
-    going-span _ _ _ (index-spanned _ _ (omega arith) (omega arith) (s .pre .0) _ (c .index-extent .ensures))
-    (going-as _ (index-tested _ u (index-passed _ r u)) (going-whole _ _ _ _ r))
-
--- what follows it comes next
-next : (c : tie.After-put-span)
-    → let s = start (c .before .before .before .before) in
-    Going (supersFrom (call s) (superBlocks (s .args .geometry .header)) 0) 2 (c .put-span .last .0) (c .put-span .last .1 .0)
-    (filled addressOf (indexSpans (call s)) 1 (s .args .addresses .now)) (filled lengthOf (indexSpans (call s)) 1 (s .args .lengths .now))
-next c = going-put _ _ _ _ (c .put-span .ensures .0) (c .put-span .ensures .1) (opened (c .before .before .before))
-
-index-extent-requires : tie.Need-index-extent-requires
-index-extent-requires c κs = search needs
+spanned : (c : tie.After-index-extent)
+    → let s = c .before .before .before .before .before .before in
+    let a = array s in
+    Going (indexSpans a) 1 (s .args .addresses .now) (s .args .lengths .now)
+    (also (record { address = a .indexAt; length = c .index-extent .result }) (supersFrom a (superBlocks (a .parameters)) 0)) 1 (s .args .addresses .now) (s .args .lengths .now)
+unfolding startOf extentOf bytesOf
+spanned c =
+    let b = c .before in
+    let s = b .before .before .before .before .before in
+    rw (span-is (array s) indexBlock _ _ refl (c .index-extent .ensures ∙ exact s)) (going-as (index-defined _ (there b) ∙ yields-passed _ _ (passed b)) (going-whole (s .pre .2)))
 
 put-span-requires : tie.Need-put-span-requires
-put-span-requires c κs = going-fits _ _ (opened (c .before .before))
+put-span-requires c κs = going-fits _ _ (spanned (c .before .before))
 
-write-pointed-requires : tie.Need-write-pointed-requires
-unfolding indexTest
-write-pointed-requires c κs =
+-- what follows it comes next
+behind : (c : tie.After-put-span)
+    → let s = c .before .before .before .before .before .before .before .before .before in
+    let a = array s in
+    Going (indexSpans a) 1 (s .args .addresses .now) (s .args .lengths .now)
+    (supersFrom a (superBlocks (a .parameters)) 0) 2 (c .put-span .last .0) (c .put-span .last .1 .0)
+behind c = going-put _ _ (spanned (c .before .before .before)) (c .put-span .ensures .0) (c .put-span .ensures .1)
+
+write-supers-requires : tie.Need-write-supers-requires
+unfolding spannedTest
+write-supers-requires c κs =
     let p = c .before .before .before .before .before .before in
-    let e = p .before .before .before .before in
-    let s = start e in
-    (index-in-file _ _ _ (seen _ _) (s .pre .0 .served) (s .pre .1) (then-inv _ _ (index-passed _ (s .pre .2) (there e)) .1), next p .room)
-
-same-length : tie.Need-same-length
-same-length c = search needs
-
-same-length-2 : tie.Need-same-length-2
-same-length-2 c = search needs
+    let b = p .before .before .before .before in
+    let s = b .before .before .before .before .before in
+    (index-in-file _ _ (s .pre .0 .served) (s .pre .1) (then-inv _ _ (passed b) .1), behind p .room)
 
 returns-2 : tie.Need-returns-2
 returns-2 c =
     let w = c .before .before .before .before in
-    let g = next (w .before .before .before .before .before .before .before) in
-    (w .write-pointed .ensures .0 ∙ g .first, w .write-pointed .ensures .1 ∙ g .second)
+    let g = behind (w .before .before .before .before .before .before .before) in
+    (w .write-supers .ensures .0 ∙ g .first, w .write-supers .ensures .1 ∙ g .second)
 
 pub write-index-spec : {M : Type 1} → statement M
 write-index-spec =
     tie.close
-    (tie.spec
-    index-undefined-requires
-    returns
-    index-extent-requires
-    put-span-requires
-    write-pointed-requires
-    same-length
-    same-length-2
-    returns-2)
+    (tie.spec (search needs) returns (search needs) put-span-requires write-supers-requires (search needs) (search needs) returns-2)

@@ -1,120 +1,48 @@
 -- `eals::answer::answer` meets its contract. Assumes nothing.
-use mathlib.Core.List.{List}
-use mathlib.Core.Path.{_≡_, ap, sym, _∙_}
-use Prim.Native.Nat.{ℕ}
+use mathlib.Core.Path.{_≡_, sym, _∙_}
 use native.Mathlib.Omega.{arith}
-use lib.ListN.{length}
-use lib.Seq.{sets}
-use Rattle.eals.specs.Line.{readingOf}
-use Rattle.eals.specs.Program.{countedText, programText, programList}
-use Rattle.eals.specs.declared.line.Reading.the-variants.{Asked}
+use Rattle.eals.specs.Line.{questionOf}
+use Rattle.eals.specs.declared.line.Parsed.the-variants.{Asked}
 use Rattle.eals.proofs.Bounds.{rank-small, counted-room}
-use Rattle.eals.proofs.Answers.{asked, unread, text-in}
+use Rattle.eals.proofs.Answers.{asked, unread, put-counts}
+use Rattle.eals.proofs.Puts.{put-as}
 use borrow.Author.Needs.{needs}
 use Rattle.eals.proofs.answer.answer.Statement.{statement}
 use Rattle.eals.proofs.answer.answer.Tie as tie
 
 -- what is asked
-asked-is : (c : tie.After-known-told) → readingOf (c .before .before .before .before .before .before .before .before .before .before .before .args .input .now) ≡ Asked (c .before .question .given .0 .0)
+asked-is : (c : tie.After-known-told) → questionOf (c .before .before .before .before .before .before .before .before .before .before .before .args .input .now) ≡ Asked (c .before .question .given .0 .0)
 asked-is c = sym (c .before .before .before .before .before .parse .ensures .0) ∙ c .before .question .given .1
 
--- what the list and the text are then
-listed : (c : tie.After-list-chunks)
-    → let a = c .before .before .before .before .before .before .before .before .before .before .before .before .before .before .before .args in
-    let q = c .before .before .before .before .before .question .given .0 .0 in
-    (countedText (q .rank) (c .list-chunks .result) (c .list-chunks .last .0) ≡ programText (a .input .now) (a .lengths .now) (a .list .now))
-    × (c .list-chunks .last .0 ≡ programList (a .input .now) (a .lengths .now) (a .list .now))
-listed c =
-    let told = c .list-chunks .ensures in
-    let parsed = c .before .before .before .before .before .before .before .before .before .parse in
-    asked _ _ _ _ (asked-is (c .before .before .before .before)) _ _ _ _ (parsed .ensures .1) (c .before .before .before .file-of .ensures) (told .0) (told .1)
-
-parse-requires : tie.Need-parse-requires
-parse-requires c κs = search needs
-
-enum-known-question : tie.Need-enum-known-question
-enum-known-question c = search needs
-
-file-of-requires : tie.Need-file-of-requires
-file-of-requires c κs = search needs
-
 list-chunks-requires : tie.Need-list-chunks-requires
-list-chunks-requires c κs =
-    let told = c .before .before .before in
-    omega (arith, rank-small _ _ (asked-is told), c .before .before .before .before .before .before .before .before .before .before .before .before .before .before .pre)
+list-chunks-requires c κs = omega (arith, rank-small _ _ (asked-is (c .before .before .before)), c .before .before .before .before .before .before .before .before .before .before .before .before .before .before .pre)
 
 put-counted-requires : tie.Need-put-counted-requires
 put-counted-requires c κs =
     let chunks = c .before .before .before .before in
-    let q = c .before .before .before .before .before .before .before .before .before .question .given .0 .0 in
-    let room = counted-room q _ _ _ _ (chunks .list-chunks .ensures .0) in
-    (omega (arith, room, c .before .before .before .before .before .before .before .before .before .before .before .before .before .before .before .before .before .before .before .pre), omega (arith, c .before .before .before .before .before .before .before .before .before .before .before .before .before .before .before .before .before .before .before .pre), omega (arith, c .before .before .before .before .before .before .before .before .before .before .before .before .before .before .before .before .before .before .before .pre))
-
-enum-told : tie.Need-enum-told
-enum-told c = search needs
-
-slice-aggregate-put-text : tie.Need-slice-aggregate-put-text
-slice-aggregate-put-text c = search needs
-
-put-text-requires : tie.Need-put-text-requires
-put-text-requires c κs = search needs
-
-same-length : tie.Need-same-length
-same-length c = search needs
-
-same-length-2 : tie.Need-same-length-2
-same-length-2 c = search needs
-
-same-length-3 : tie.Need-same-length-3
-same-length-3 c = search needs
+    let start = chunks .before .before .before .before .before .before .before .before .before .before .before .before .before .before .before in
+    let room = counted-room (chunks .before .before .before .before .before .question .given .0 .0) _ _ _ _ (chunks .list-chunks .ensures .0) in
+    (omega (arith, room, start .pre), omega (arith, start .pre), omega (arith, start .pre))
 
 returns : tie.Need-returns
 returns c =
-    let s = c .before .before .before .before .before .before .before .before .before .before .before .before .before .before .before .before .before .before .before .before .before .before in
-    let a = s .args in
-    let text = programText (a .input .now) (a .lengths .now) (a .list .now) in
+    let chunks = c .before .before .before .before .before .before .before in
+    let listed = chunks .list-chunks .ensures in
     let told = c .before .before .put-counted .ensures in
-    let l = listed (c .before .before .before .before .before .before .before) in
-    let put = told .1 ∙ ap (sets (a .out .now) 0) (l .0) in (
-      told .0 .0 ∙ ap (λ (s : List ℕ). length s) (l .0),
-      (text-in (a .out .now) _ _ text put (omega (arith, told .0 .1, s .pre)), (put, (l .1, c .before .before .before .before .before .before .before .before .before .before .before .before .before .before .before .before .parse .ensures .1))),
-    )
-
-same-length-4 : tie.Need-same-length-4
-same-length-4 c = search needs
-
-same-length-5 : tie.Need-same-length-5
-same-length-5 c = search needs
+    let text = asked _ _ _ _ (asked-is (chunks .before .before .before .before)) _ _ _ _ (chunks .before .before .before .before .before .before .before .before .before .parse .ensures .1) (chunks .before .before .before .file-of .ensures) (listed .0) (listed .1) in
+    let put = put-as (told .0) _ text in
+    (put, put-counts put (omega (arith, told .1, chunks .before .before .before .before .before .before .before .before .before .before .before .before .before .before .before .pre)))
 
 returns-2 : tie.Need-returns-2
 returns-2 c =
-    let s = c .before .before .before .before .before .before .before .before .before .before .before .before .before .before .before in
-    let a = s .args in
-    let text = programText (a .input .now) (a .lengths .now) (a .list .now) in
     let told = c .before .before .put-text .ensures in
-    let parsed = c .before .before .before .before .before .before .before .before .before .parse in
-    let u = unread _ _ _ (sym (parsed .ensures .0) ∙ c .before .before .before .before .before .enum-told .given .1) in
-    let put = told .1 ∙ ap (sets (a .out .now) 0) (u .0) in (
-      told .0 ∙ ap (λ (s : List ℕ). length s) (u .0),
-      (text-in (a .out .now) _ _ text put (omega (arith, told .0, s .pre)), (put, (u .1, parsed .ensures .1))),
-    )
+    let e = c .before .before .before .before .before in
+    let put = put-as told _ (unread _ _ _ (sym (e .before .before .before .before .parse .ensures .0) ∙ e .enum-told .given .1)) in
+    (put, put-counts put (omega (arith, told .ends, e .before .before .before .before .before .before .before .before .before .before .pre)))
 
 pub answer-spec : {M : Type 1} → statement M
 answer-spec =
     tie.close
-    (tie.spec
-    parse-requires
-    enum-known-question
-    file-of-requires
-    list-chunks-requires
-    put-counted-requires
-    enum-told
-    slice-aggregate-put-text
-    put-text-requires
-    same-length
-    same-length-2
-    same-length-3
-    returns
-    same-length-4
-    same-length-5
-    returns-2)
+    (tie.spec (λ c κs. search needs) (λ c. search needs) (λ c κs. search needs) list-chunks-requires
+    put-counted-requires (λ c. search needs) (λ c. search needs) (λ c κs. search needs) (λ c. search needs)
+    (λ c. search needs) (λ c. search needs) returns (λ c. search needs) (λ c. search needs) returns-2)

@@ -5,15 +5,9 @@ use borrow.Author.Needs.{needs}
 use Rattle.eals.proofs.line.parse_order.Statement.{statement}
 use Rattle.eals.proofs.line.parse_order.Tie as tie
 
-is-only-requires : tie.Need-is-only-requires
-is-only-requires c κs = search needs
-
 returns : tie.Need-returns
 unfolding orderNumber
 returns c = rw (sym (c .before .is-only .ensures) ∙ c .if1 .taken) refl
-
-is-only-requires-2 : tie.Need-is-only-requires-2
-is-only-requires-2 c κs = search needs
 
 returns-2 : tie.Need-returns-2
 unfolding orderNumber
@@ -25,4 +19,5 @@ returns-3 c = rw (sym (c .before .before .before .is-only .ensures) ∙ c .befor
 
 pub parse-order-spec : {M : Type 1} → statement M
 parse-order-spec =
-    tie.close (tie.spec is-only-requires returns is-only-requires-2 returns-2 returns-3)
+    tie.close
+    (tie.spec (λ c κs. search needs) returns (λ c κs. search needs) returns-2 returns-3)

@@ -1,82 +1,42 @@
 -- `eals::print::put_offsets` meets its contract: the numbers left go behind those that are put. Assumes nothing.
 use borrow.Author.Needs.{needs}
-use mathlib.Core.List.{[], _∷_}
-use mathlib.Core.Path.{refl}
 use Prim.Native.Nat.{_+_, _-_, _*_, _≤_}
 use native.Mathlib.Nat.{add-zero, sub-zero}
 use native.Mathlib.Omega.{arith}
 use lib.ListN.{drop}
-use Rattle.fields.specs.LittleEndian.{leAt}
 use Rattle.chunk_grid.specs.Shapes.{numbersIn}
 use Rattle.eals.specs.Printed.{spaced}
-use Rattle.eals.proofs.Puts.{Putting, put-none, put-more, put-room, put-all}
+use Rattle.eals.proofs.Puts.{Putting, put-none, put-more, put-all}
 use Rattle.eals.proofs.Lines.{offsets-on, offsets-end}
 use Rattle.eals.proofs.print.put_offsets.Statement.{statement}
 use Rattle.eals.proofs.print.put_offsets.Tie as tie
 
 abbrev Inv-loop : tie.InvT-loop
 Inv-loop out₀ at list from n to₀ i₀ out to i =
-    (i ≤ n) × Putting out₀ at (spaced (numbersIn n (drop from list))) out to (spaced (numbersIn (n - i) (drop (from + 8 * i) list)))
+    (i ≤ n) × (to ≤ at + 21 * i) × Putting out₀ at (spaced (numbersIn n (drop from list))) out to (spaced (numbersIn (n - i) (drop (from + 8 * i) list)))
 
 abbrev μ-loop : tie.MeasureT-loop
 μ-loop out₀ at list from n to₀ i₀ out to i = n - i
 
 loop-holds : tie.Need-loop-holds Inv-loop μ-loop
-loop-holds c = (omega arith, rw (add-zero, sub-zero) (put-none _ _ _ _ refl))
-
-mul-read-u64-le : tie.Need-mul-read-u64-le Inv-loop μ-loop
-mul-read-u64-le c = search needs
-
-add-read-u64-le : tie.Need-add-read-u64-le Inv-loop μ-loop
-add-read-u64-le c = search needs
-
-read-u64-le-requires : tie.Need-read-u64-le-requires Inv-loop μ-loop
-read-u64-le-requires c κs = search needs
-
-put-spaced-requires : tie.Need-put-spaced-requires Inv-loop μ-loop
-put-spaced-requires c κs =
-    let l = c .before .before .before .loop in
-    let start = c .before .before .before .before .before .before in
-    let a = start .args in
-    rw (c .read-u64-le .ensures)
-    (put-room (spaced (leAt (a .list .now) (a .from + 8 * l .i) 8 ∷ [])) _ (rw (offsets-on (a .list .now) (a .from) (a .n) (l .i) (c .before .before .loop-test .taken)) at (l .inv .1)) (start .pre .1))
-
-add-i : tie.Need-add-i Inv-loop μ-loop
-add-i c = search needs
-
-loop-less : tie.Need-loop-less Inv-loop μ-loop
-loop-less c = search needs
+loop-holds c = (omega arith, omega arith, rw (add-zero, sub-zero) (put-none _ _ _))
 
 loop-again : tie.Need-loop-again Inv-loop μ-loop
 loop-again c =
     let l = c .before .before .before .before .before .before .loop in
     let a = c .before .before .before .before .before .before .before .before .before .args in
     let told = rw (c .before .before .before .read-u64-le .ensures) at (c .before .before .put-spaced .ensures) in
-    let rest = rw (offsets-on (a .list .now) (a .from) (a .n) (l .i) (c .before .before .before .before .before .loop-test .taken)) at (l .inv .1) in
-    (omega arith, put-more (spaced (leAt (a .list .now) (a .from + 8 * l .i) 8 ∷ [])) _ rest _ _ (told .0) (told .1))
-
-same-length : tie.Need-same-length Inv-loop μ-loop
-same-length c = search needs
+    let rest = rw (offsets-on (a .list .now) (a .from) (a .n) (l .i) (c .before .before .before .before .before .loop-test .taken)) at (l .inv .2) in
+    (omega arith, omega arith, put-more rest (told .0))
 
 returns : tie.Need-returns Inv-loop μ-loop
 returns c =
     let l = c .before .loop in
     let a = c .before .before .before .before .args in
-    put-all (rw (offsets-end (a .list .now) (a .from) (a .n) (l .i) (c .loop-test .left)) at (l .inv .1))
+    (put-all (rw (offsets-end (a .list .now) (a .from) (a .n) (l .i) (c .loop-test .left)) at (l .inv .2)), omega arith)
 
 pub put-offsets-spec : {M : Type 1} → statement M
 put-offsets-spec =
     tie.close
-    (tie.spec
-    Inv-loop
-    μ-loop
-    loop-holds
-    mul-read-u64-le
-    add-read-u64-le
-    read-u64-le-requires
-    put-spaced-requires
-    add-i
-    loop-less
-    loop-again
-    same-length
-    returns)
+    (tie.spec Inv-loop μ-loop loop-holds (λ c. search needs) (λ c. search needs) (λ c κs. search needs)
+    (λ c κs. search needs) (λ c. search needs) (λ c. search needs) loop-again (λ c. search needs) returns)

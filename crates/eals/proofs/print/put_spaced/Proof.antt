@@ -1,44 +1,16 @@
 -- `eals::print::put_spaced` meets its contract. Assumes nothing.
-use mathlib.Core.List.{[], _∷_, _++_}
-use mathlib.Core.Path.{refl}
 use native.Mathlib.Omega.{arith}
-use Rattle.eals.specs.Text.{decimal}
-use Rattle.eals.specs.Printed.{spaced}
-use Rattle.eals.proofs.Puts.{Putting, put-none, put-more, put-room, put-all}
+use Rattle.eals.proofs.Puts.{put-then}
 use borrow.Author.Needs.{needs}
 use Rattle.eals.proofs.print.put_spaced.Statement.{statement}
 use Rattle.eals.proofs.print.put_spaced.Tie as tie
 
--- the space is put
-put1 : (c : tie.After-put-text)
-    → let a = c .before .before .before .before .args in
-    Putting (a .out .now) (a .at) (spaced (a .n ∷ [])) (c .put-text .last .0) (c .put-text .result) (decimal (a .n) ++ [])
-unfolding spaced
-put1 c = put-more (32 ∷ []) _ (put-none _ _ _ _ refl) _ _ (c .put-text .ensures .0) (c .put-text .ensures .1)
-
-slice-aggregate-put-text : tie.Need-slice-aggregate-put-text
-slice-aggregate-put-text c = search needs
-
-put-text-requires : tie.Need-put-text-requires
-unfolding spaced
-put-text-requires c κs = omega (arith, c .before .before .before .pre)
-
-put-number-requires : tie.Need-put-number-requires
-put-number-requires c κs =
-    let put = c .before .before .before in
-    put-room (decimal (put .before .before .before .before .args .n)) [] (put1 put) (put .before .before .before .before .pre)
-
-same-length : tie.Need-same-length
-same-length c = search needs
-
 returns : tie.Need-returns
 returns c =
     let told = c .before .before .put-number .ensures in
-    let put = c .before .before .before .before .before .before in
-    let p = put-more (decimal (put .before .before .before .before .args .n)) [] (put1 put) _ _ (told .0) (told .1) in
-    put-all p
+    (put-then (c .before .before .before .before .before .before .put-text .ensures) (told .0), omega arith)
 
 pub put-spaced-spec : {M : Type 1} → statement M
 put-spaced-spec =
     tie.close
-    (tie.spec slice-aggregate-put-text put-text-requires put-number-requires same-length returns)
+    (tie.spec (λ c. search needs) (λ c κs. search needs) (λ c κs. search needs) (λ c. search needs) returns)

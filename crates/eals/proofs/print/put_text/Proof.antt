@@ -1,69 +1,18 @@
--- `eals::print::put_text` meets its contract: the bytes left go behind those that are stored. Assumes nothing.
-use borrow.Author.Needs.{needs}
-use mathlib.Core.Path.{_≡_, refl, sym, _∙_}
-use Prim.Native.Nat.{_+_, _-_, _≤_}
-use native.Mathlib.Nat.{add-zero}
+-- `eals::print::put_text` meets its contract. Assumes nothing.
 use native.Mathlib.Omega.{arith}
-use lib.ListN.{length, drop, length-set}
-use lib.Seq.{sets}
-use Rattle.eals.proofs.Puts.{byte-put, all-put}
+use borrow.Author.Needs.{needs}
+use Rattle.eals.proofs.Puts.{text-put}
 use Rattle.eals.proofs.print.put_text.Statement.{statement}
 use Rattle.eals.proofs.print.put_text.Tie as tie
 
-abbrev Inv-loop : tie.InvT-loop
-Inv-loop out₀ at text i₀ out i =
-    (i ≤ length text) × (length out ≡ length out₀) × (sets out (at + i) (drop i text) ≡ sets out₀ at text)
-
-abbrev μ-loop : tie.MeasureT-loop
-μ-loop out₀ at text i₀ out i = length text - i
-
-loop-holds : tie.Need-loop-holds Inv-loop μ-loop
-loop-holds c = (omega arith, refl, rw add-zero refl)
-
-shared-slice-read-out : tie.Need-shared-slice-read-out Inv-loop μ-loop
-shared-slice-read-out c = search needs
-
-add-out : tie.Need-add-out Inv-loop μ-loop
-add-out c = search needs
-
-slice-write-out : tie.Need-slice-write-out Inv-loop μ-loop
-slice-write-out c = search needs
-
-add-i : tie.Need-add-i Inv-loop μ-loop
-add-i c = search needs
-
-loop-less : tie.Need-loop-less Inv-loop μ-loop
-loop-less c = search needs
-
-loop-again : tie.Need-loop-again Inv-loop μ-loop
-loop-again c =
-    let inv = c .before .before .loop .inv in
-    (omega arith, simp length-set (inv .1), byte-put _ _ _ _ (c .before .loop-test .taken) ∙ inv .2)
-
-add-result : tie.Need-add-result Inv-loop μ-loop
-add-result c = search needs
-
-same-length : tie.Need-same-length Inv-loop μ-loop
-same-length c = search needs
-
-returns : tie.Need-returns Inv-loop μ-loop
+returns : tie.Need-returns
 returns c =
-    let l = c .before .loop in
-    (omega arith, sym (all-put _ _ _ _ (c .loop-test .left)) ∙ l .inv .2)
+    let s = c .before .before .before .before .before .before in
+    let told = c .before .before .copy .ensures in
+    record { ends = omega arith; holds = text-put (s .args .out .now) (s .args .text .now) _ (s .args .at) (s .pre) (told .1) }
 
 pub put-text-spec : {M : Type 1} → statement M
 put-text-spec =
     tie.close
-    (tie.spec
-    Inv-loop
-    μ-loop
-    loop-holds
-    shared-slice-read-out
-    add-out
-    slice-write-out
-    add-i
-    loop-less
-    loop-again
-    add-result
-    same-length
-    returns)
+    (tie.spec (λ c. search needs) (λ c. search needs) (λ c. search needs) (λ c κs. search needs) (λ c. search needs)
+    (λ c. search needs) returns)

@@ -7,9 +7,6 @@ use borrow.Author.Needs.{needs}
 use Rattle.eals.proofs.text.is_only.Statement.{statement}
 use Rattle.eals.proofs.text.is_only.Tie as tie
 
-shared-slice-read-result : tie.Need-shared-slice-read-result
-shared-slice-read-result c = search needs
-
 returns : tie.Need-returns
 unfolding isOnly
 returns c = rw (eq-eqb (length (c .before .before .args .word .now)) 1 (c .before .if1 .taken)) refl
@@ -19,4 +16,4 @@ unfolding isOnly
 returns-2 c = rw (ne-eqb (length (c .before .args .word .now)) 1 (c .if1 .left)) refl
 
 pub is-only-spec : {M : Type 1} → statement M
-is-only-spec = tie.close (tie.spec shared-slice-read-result returns returns-2)
+is-only-spec = tie.close (tie.spec (λ c. search needs) returns returns-2)

@@ -1,11 +1,14 @@
 -- `eals::text::parse_number` meets its contract: what the digits left come to behind those read is the word's number. Assumes nothing.
+use mathlib.Core.Bool.{cond}
 use mathlib.Core.Path.{_≡_, sym, _∙_}
 use Prim.Native.Nat.{_-_, _≤_}
 use native.Mathlib.Omega.{arith}
 use borrow.Author.Needs.{needs}
 use borrow.Author.Tests.{le-leb, lt-leb}
+use lib.Dec.{leb}
 use lib.ListN.{length, drop}
 use Rattle.eals.specs.Text.{numberOf}
+use Rattle.eals.specs.declared.text.Number.the-variants.{Value, NoNumber}
 use Rattle.eals.proofs.Numbers.{numberFrom, number-empty, number-start, number-end, number-on, number-below, number-above, number-over}
 use Rattle.eals.proofs.text.parse_number.Statement.{statement}
 use Rattle.eals.proofs.text.parse_number.Tie as tie
@@ -22,12 +25,6 @@ returns c = number-empty _ _ (c .if1 .taken)
 loop-holds : tie.Need-loop-holds Inv-loop μ-loop
 loop-holds c = (omega arith, number-start _ _ (omega (arith, c .if1 .left)))
 
-shared-slice-read-wide : tie.Need-shared-slice-read-wide Inv-loop μ-loop
-shared-slice-read-wide c = search needs
-
-wide-requires : tie.Need-wide-requires Inv-loop μ-loop
-wide-requires c κs = search needs
-
 returns-2 : tie.Need-returns-2 Inv-loop μ-loop
 returns-2 c =
     let l = c .before .before .before .before .loop in
@@ -40,26 +37,11 @@ returns-3 c =
     let high = rw (c .before .before .wide .ensures .0) at (c .if3 .taken) in
     number-above _ _ _ _ (c .before .before .before .before .loop-test .taken) high ∙ l .inv .1
 
-sub-if4 : tie.Need-sub-if4 Inv-loop μ-loop
-sub-if4 c = search needs
-
 returns-4 : tie.Need-returns-4 Inv-loop μ-loop
 returns-4 c =
     let l = c .before .before .before .before .before .before .loop in
     let byte = c .before .before .before .wide .ensures .0 in
     number-over _ _ _ _ (c .before .before .before .before .before .loop-test .taken) (omega (arith, byte)) ∙ l .inv .1
-
-mul-value : tie.Need-mul-value Inv-loop μ-loop
-mul-value c = search needs
-
-add-value : tie.Need-add-value Inv-loop μ-loop
-add-value c = search needs
-
-add-i : tie.Need-add-i Inv-loop μ-loop
-add-i c = search needs
-
-loop-less : tie.Need-loop-less Inv-loop μ-loop
-loop-less c = search needs
 
 loop-again : tie.Need-loop-again Inv-loop μ-loop
 loop-again c =
@@ -69,36 +51,21 @@ loop-again c =
     let on = number-on (a .largest) (a .word .now) (l .value) (l .i) (c .before .before .before .before .before .loop-test .taken) (omega (arith, byte)) (omega (arith, byte)) in
     (omega arith, rw byte (on ∙ l .inv .1))
 
+-- all digits are read
+ended : (c : tie.After-loop Inv-loop μ-loop)
+    → let a = c .before .before .before .before .args in
+    cond (leb (c .before .loop .value) (a .largest)) (Value (c .before .loop .value)) NoNumber ≡ numberOf (a .largest) (a .word .now)
+ended c = sym (number-end _ _ _ _ (c .loop-test .left)) ∙ c .before .loop .inv .1
+
 returns-5 : tie.Need-returns-5 Inv-loop μ-loop
-returns-5 c =
-    let l = c .before .before .loop in
-    let a = c .before .before .before .before .before .args in
-    sym (rw (lt-leb (l .value) (a .largest) (c .if5 .taken)) at (number-end (a .largest) (a .word .now) (l .value) (l .i) (c .before .loop-test .left))) ∙ l .inv .1
+returns-5 c = rw (lt-leb _ _ (c .if5 .taken)) at (ended (c .before))
 
 returns-6 : tie.Need-returns-6 Inv-loop μ-loop
-returns-6 c =
-    let l = c .before .before .loop in
-    let a = c .before .before .before .before .before .args in
-    sym (rw (le-leb (l .value) (a .largest) (c .if5 .left)) at (number-end (a .largest) (a .word .now) (l .value) (l .i) (c .before .loop-test .left))) ∙ l .inv .1
+returns-6 c = rw (le-leb _ _ (c .if5 .left)) at (ended (c .before))
 
 pub parse-number-spec : {M : Type 1} → statement M
 parse-number-spec =
     tie.close
-    (tie.spec
-    Inv-loop
-    μ-loop
-    returns
-    loop-holds
-    shared-slice-read-wide
-    wide-requires
-    returns-2
-    returns-3
-    sub-if4
-    returns-4
-    mul-value
-    add-value
-    add-i
-    loop-less
-    loop-again
-    returns-5
-    returns-6)
+    (tie.spec Inv-loop μ-loop returns loop-holds (λ c. search needs) (λ c κs. search needs) returns-2 returns-3
+    (λ c. search needs) returns-4 (λ c. search needs) (λ c. search needs) (λ c. search needs) (λ c. search needs)
+    loop-again returns-5 returns-6)

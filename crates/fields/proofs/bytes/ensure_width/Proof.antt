@@ -5,11 +5,8 @@ use Rattle.fields.proofs.Fields.{width-passed, width-refused}
 use Rattle.fields.proofs.bytes.ensure_width.Statement.{statement}
 use Rattle.fields.proofs.bytes.ensure_width.Tie as tie
 
-returns : tie.Need-returns
-returns c = width-passed _ _ (sym (c .before .is-width .ensures) ∙ c .if1 .taken)
-
-returns-2 : tie.Need-returns-2
-returns-2 c = width-refused _ _ (sym (c .before .is-width .ensures) ∙ c .if1 .left)
-
 pub ensure-width-spec : {M : Type 1} → statement M
-ensure-width-spec = tie.close (tie.spec (search needs) returns returns-2)
+ensure-width-spec =
+    tie.close
+    (tie.spec (search needs) (λ c. width-passed _ _ (sym (c .before .is-width .ensures) ∙ c .if1 .taken))
+    (λ c. width-refused _ _ (sym (c .before .is-width .ensures) ∙ c .if1 .left)))

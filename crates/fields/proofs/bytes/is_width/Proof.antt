@@ -4,11 +4,7 @@ use Rattle.fields.proofs.Widths.{is-width, no-width}
 use Rattle.fields.proofs.bytes.is_width.Statement.{statement}
 use Rattle.fields.proofs.bytes.is_width.Tie as tie
 
-returns : tie.Need-returns
-returns c = sym (is-width _ (c .match .keys1))
-
-returns-2 : tie.Need-returns-2
-returns-2 c = sym (no-width _ (c .match .rest .1))
-
 pub is-width-spec : {M : Type 1} → statement M
-is-width-spec = tie.close (tie.spec returns returns-2)
+is-width-spec =
+    tie.close
+    (tie.spec (λ c. sym (is-width _ (c .match .keys1))) (λ c. sym (no-width _ (c .match .rest .1))))

@@ -4,17 +4,10 @@ use borrow.Author.Needs.{needs}
 use Rattle.fields.proofs.bytes.read_le.Statement.{statement}
 use Rattle.fields.proofs.bytes.read_le.Tie as tie
 
-returns : tie.Need-returns
-returns c = rw (c .before .match .keys1) (c .read-u16-le .ensures, omega arith)
-
-returns-2 : tie.Need-returns-2
-returns-2 c = rw (c .before .match .keys2) (c .read-u32-le .ensures, omega arith)
-
-returns-3 : tie.Need-returns-3
-returns-3 c = rw (c .before .match .keys3) (c .read-u64-le .ensures, omega arith)
-
 pub read-le-spec : {M : Type 1} → statement M
 read-le-spec =
     tie.close
-    (tie.spec (search needs) (search needs) (search needs) (search needs) (search needs) (search needs) returns
-    returns-2 returns-3 (search needs))
+    (tie.spec (search needs) (search needs) (search needs) (search needs) (search needs) (search needs)
+    (λ c. rw (c .before .match .keys1) (c .read-u16-le .ensures, omega arith))
+    (λ c. rw (c .before .match .keys2) (c .read-u32-le .ensures, omega arith))
+    (λ c. rw (c .before .match .keys3) (c .read-u64-le .ensures, omega arith)) (search needs))

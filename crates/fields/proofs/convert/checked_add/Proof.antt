@@ -6,11 +6,8 @@ use Rattle.fields.proofs.Numbers.{fits, overflows}
 use Rattle.fields.proofs.convert.checked_add.Statement.{statement}
 use Rattle.fields.proofs.convert.checked_add.Tie as tie
 
-returns : tie.Need-returns
-returns c = fits (c .before .args .a + c .before .args .b) (omega arith)
-
-returns-2 : tie.Need-returns-2
-returns-2 c = overflows (c .before .args .a + c .before .args .b) (omega arith)
-
 pub checked-add-spec : {M : Type 1} → statement M
-checked-add-spec = tie.close (tie.spec (search needs) (search needs) returns returns-2)
+checked-add-spec =
+    tie.close
+    (tie.spec (search needs) (search needs) (λ c. fits (c .before .args .a + c .before .args .b) (omega arith))
+    (λ c. overflows (c .before .args .a + c .before .args .b) (omega arith)))

@@ -5,11 +5,8 @@ use Rattle.fields.proofs.Numbers.{narrow, too-wide}
 use Rattle.fields.proofs.convert.u32_from.Statement.{statement}
 use Rattle.fields.proofs.convert.u32_from.Tie as tie
 
-returns : tie.Need-returns
-returns c = narrow (c .before .args .value) (omega arith)
-
-returns-2 : tie.Need-returns-2
-returns-2 c = too-wide (c .before .args .value) (omega arith) (omega arith)
-
 pub u32-from-spec : {M : Type 1} → statement M
-u32-from-spec = tie.close (tie.spec (search needs) returns returns-2)
+u32-from-spec =
+    tie.close
+    (tie.spec (search needs) (λ c. narrow (c .before .args .value) (omega arith))
+    (λ c. too-wide (c .before .args .value) (omega arith) (omega arith)))

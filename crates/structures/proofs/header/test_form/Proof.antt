@@ -10,24 +10,9 @@ use borrow.Author.Needs.{needs}
 use Rattle.structures.proofs.header.test_form.Statement.{statement}
 use Rattle.structures.proofs.header.test_form.Tie as tie
 
-test-signature-requires : tie.Need-test-signature-requires
-test-signature-requires c κs = search needs
-
-enum-told : tie.Need-enum-told
-enum-told c = search needs
-
-enum-told-2 : tie.Need-enum-told-2
-enum-told-2 c = search needs
-
 returns : tie.Need-returns
 unfolding formTest
 returns c = c .enum-told2 .given .1 ∙ then-first _ _ (sym (c .enum-told2 .given .1) ∙ c .before .before .test-signature .ensures)
-
-add-version : tie.Need-add-version
-add-version c = search needs
-
-shared-slice-read-version : tie.Need-shared-slice-read-version
-shared-slice-read-version c = search needs
 
 returns-2 : tie.Need-returns-2
 unfolding formTest refuse
@@ -47,13 +32,5 @@ returns-3 c =
 pub test-form-spec : {M : Type 1} → statement M
 test-form-spec =
     tie.close
-    (tie.spec
-    test-signature-requires
-    enum-told
-    enum-told-2
-    returns
-    add-version
-    shared-slice-read-version
-    returns-2
-    cast-t12
-    returns-3)
+    (tie.spec (λ c κs. search needs) (λ c. search needs) (λ c. search needs) returns (λ c. search needs)
+    (λ c. search needs) returns-2 cast-t12 returns-3)

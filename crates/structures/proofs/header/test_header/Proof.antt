@@ -14,15 +14,6 @@ use borrow.Author.Needs.{needs}
 use Rattle.structures.proofs.header.test_header.Statement.{statement}
 use Rattle.structures.proofs.header.test_header.Tie as tie
 
-ensure-len-requires : tie.Need-ensure-len-requires
-ensure-len-requires c κs = search needs
-
-enum-told : tie.Need-enum-told
-enum-told c = search needs
-
-enum-told-2 : tie.Need-enum-told-2
-enum-told-2 c = search needs
-
 returns : tie.Need-returns
 unfolding signedHeaderTest
 returns c = c .enum-told2 .given .1 ∙ then-first _ _ (sym (c .enum-told2 .given .1) ∙ c .before .before .ensure-len .ensures)
@@ -41,26 +32,11 @@ room c = inside _ _ _ (stands c)
 test-form-requires : tie.Need-test-form-requires
 test-form-requires c κs = omega (arith, room c)
 
-enum-told-3 : tie.Need-enum-told-3
-enum-told-3 c = search needs
-
-enum-told-4 : tie.Need-enum-told-4
-enum-told-4 c = search needs
-
 returns-2 : tie.Need-returns-2
 unfolding signedHeaderTest
 returns-2 c =
     let t = c .before .before in
     c .enum-told4 .given .1 ∙ then-first _ _ (sym (c .enum-told4 .given .1) ∙ t .test-form .ensures) ∙ then-second _ _ (stands (t .before))
-
-test-sizes-requires : tie.Need-test-sizes-requires
-test-sizes-requires c κs = search needs
-
-enum-told-5 : tie.Need-enum-told-5
-enum-told-5 c = search needs
-
-enum-told-6 : tie.Need-enum-told-6
-enum-told-6 c = search needs
 
 returns-3 : tie.Need-returns-3
 unfolding signedHeaderTest
@@ -73,17 +49,8 @@ returns-3 c =
 add-end : tie.Need-add-end
 add-end c = omega (arith, room (c .before .before .before .before .before .before))
 
-sub-verify-trailing : tie.Need-sub-verify-trailing
-sub-verify-trailing c = search needs
-
-part-verify-trailing-start : tie.Need-part-verify-trailing-start
-part-verify-trailing-start c = search needs
-
 part-verify-trailing-end : tie.Need-part-verify-trailing-end
 part-verify-trailing-end c = omega (arith, room (c .before .before .before .before .before .before))
-
-verify-trailing-requires : tie.Need-verify-trailing-requires
-verify-trailing-requires c κs = search needs
 
 returns-4 : tie.Need-returns-4
 unfolding signedHeaderTest
@@ -100,22 +67,7 @@ returns-4 c =
 pub test-header-spec : {M : Type 1} → statement M
 test-header-spec =
     tie.close
-    (tie.spec
-    ensure-len-requires
-    enum-told
-    enum-told-2
-    returns
-    test-form-requires
-    enum-told-3
-    enum-told-4
-    returns-2
-    test-sizes-requires
-    enum-told-5
-    enum-told-6
-    returns-3
-    add-end
-    sub-verify-trailing
-    part-verify-trailing-start
-    part-verify-trailing-end
-    verify-trailing-requires
+    (tie.spec (λ c κs. search needs) (λ c. search needs) (λ c. search needs) returns test-form-requires
+    (λ c. search needs) (λ c. search needs) returns-2 (λ c κs. search needs) (λ c. search needs) (λ c. search needs)
+    returns-3 add-end (λ c. search needs) (λ c. search needs) part-verify-trailing-end (λ c κs. search needs)
     returns-4)

@@ -8,18 +8,9 @@ use Rattle.structures.proofs.Masks.{mask-test}
 use Rattle.structures.proofs.page_bits.page_is_initialized.Statement.{statement}
 use Rattle.structures.proofs.page_bits.page_is_initialized.Tie as tie
 
-add-result : tie.Need-add-result
-add-result c = search needs
-
 shared-slice-read-result : tie.Need-shared-slice-read-result
 unfolding bitByte
 shared-slice-read-result c = omega arith
-
-cast-result : tie.Need-cast-result
-cast-result c = search needs
-
-shr-result : tie.Need-shr-result
-shr-result c = search needs
 
 returns : tie.Need-returns
 unfolding pageBit bitByte bitMask
@@ -29,4 +20,5 @@ returns c =
 
 pub page-is-initialized-spec : {M : Type 1} → statement M
 page-is-initialized-spec =
-    tie.close (tie.spec add-result shared-slice-read-result cast-result shr-result returns)
+    tie.close
+    (tie.spec (λ c. search needs) shared-slice-read-result (λ c. search needs) (λ c. search needs) returns)
