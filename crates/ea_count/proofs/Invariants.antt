@@ -24,7 +24,7 @@ use Rattle.ea_geometry.specs.Extents.{elementStride, blockElementAt}
 use Rattle.ea_geometry.specs.Place.{inPages}
 use Rattle.ea_geometry.specs.Slots.{firstSlot}
 use Rattle.ea_geometry.proofs.Counts.{all-few, pages-exact}
-use Rattle.ea_geometry.proofs.Places.{next-slot}
+use Rattle.ea_geometry.proofs.Places.{in-pages-over, next-slot}
 use Rattle.ea_blocks.specs.declared.ExtensibleArray.{ExtensibleArray}
 use Rattle.ea_blocks.specs.declared.enter.Ahead.{Ahead}
 use Rattle.ea_blocks.specs.declared.enter.Ahead.the-variants.{Unknown}
@@ -36,7 +36,6 @@ use Rattle.ea_blocks.specs.Values.{PointerInFile, PageBitInFile}
 use Rattle.ea_blocks.specs.Entered.{EnteredSuper, EnteredBlock, EnteredPage, TestedAhead}
 use Rattle.ea_blocks.proofs.StructureTests.{not-direct}
 use Rattle.ea_blocks.proofs.Entering.{entered-super-room, entered-block-room, entered-head-room, entered-page-room}
-use Rattle.ea_walk.proofs.Walks.{in-pages-over}
 use Rattle.ea_count.specs.Values.{WalkFrom}
 use Rattle.ea_count.proofs.WalkStates.{AtSuper, AtBlock, AtPage, BehindBlock, Done, Counts, ends-at, at-first, supers-done, super-ended, super-skip, super-refused, super-in, blocks-done, block-behind, block-ended, block-skip, block-refused, block-run, block-run-refused, block-pages, pages-done, page-skip, page-refused, page-run-refused, page-run-last, page-run-on, slot-few, block-few, entered-at, count-few, page-ends, paged-behind, unpaged-room}
 

@@ -33,7 +33,7 @@ use Rattle.ea_geometry.specs.Extents.{elementStride, elementAt, blockElementAt}
 use Rattle.ea_geometry.specs.Place.{inPages}
 use Rattle.ea_geometry.specs.Slots.{firstSlot}
 use Rattle.ea_geometry.proofs.Counts.{elements-before-few, pages-exact}
-use Rattle.ea_geometry.proofs.Places.{next-slot}
+use Rattle.ea_geometry.proofs.Places.{in-pages-over, next-slot}
 use Rattle.ea_blocks.specs.declared.ExtensibleArray.{ExtensibleArray}
 use Rattle.ea_blocks.specs.declared.enter.Entered.the-variants.{Absent, At, Refused as EnteredRefused}
 use Rattle.ea_blocks.specs.Array.{Array, arrayOf}
@@ -41,7 +41,6 @@ use Rattle.ea_blocks.specs.Structures.{pagesOf, isDirect, superAt, blockAt, dat
 use Rattle.ea_blocks.specs.Entered.{EnteredSuper, EnteredBlock, EnteredPage}
 use Rattle.ea_blocks.proofs.StructureTests.{is-direct, not-direct}
 use Rattle.ea_walk.specs.Walk.{blocksFrom, supersFrom}
-use Rattle.ea_walk.proofs.Walks.{in-pages-over}
 use Rattle.ea_walk.proofs.Turns as turns
 
 module _ (f : List ℕ) (array : ExtensibleArray) (r : ElementReader) (first begin end : ℕ) (chunk bound down : List ℕ) where
