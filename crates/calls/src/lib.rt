@@ -1,7 +1,11 @@
-// What every call from C shares, for any kind of index: the order that it is given, and the number that it answers.
+// What every call from C shares, for any kind of index: the shapes that it is given, and the number that it answers.
 ghost use mathlib.Core.Path.{_≡_};
-ghost use Rattle.calls.specs.Call.{orderOf};
+ghost use Rattle.chunk_grid.specs.Grid.{gridTest};
+ghost use Rattle.chunk_grid.specs.Values.{gridOf, whereTested};
+ghost use Rattle.calls.specs.Call.{orderOf, gridGiven};
 ghost use Rattle.calls.specs.Answer.{isNamed, refusalNumber, picked, refusedAnswer, countedAnswer};
+use chunk_grid::Built;
+use chunk_grid::ChunkGrid;
 use chunk_grid::GridOrder;
 use refusal::Counted;
 use refusal::Refusal;
@@ -17,6 +21,22 @@ pub fn grid_order(order: u64) -> GridOrder
         return GridOrder::RowMajor;
     }
     GridOrder::UnlimitedFirst
+}
+
+// The grid of a dataset's shapes, each in 8 bytes a dimension; a maximum is given unless its flag is 0.
+pub fn read_grid(
+    order: u64,
+    rank: u64,
+    chunk: &[u8],
+    present: &[u8],
+    has_maximum: u64,
+    maximum: &[u8],
+) -> Built
+    ensures { λ r. ⌜ (let grid = gridGiven order rank (now (chunk .entry)) (now (present .entry)) «has_maximum» (now (maximum .entry)) in
+        (r .checked ≡ gridTest grid) × (gridOf (r .grid) ≡ whereTested (r .checked) grid)) ⌝ }
+{
+    let order = grid_order(order);
+    ChunkGrid::from_bytes(rank, chunk, present, has_maximum != 0, maximum, order)
 }
 
 // Whether a number that is asked for is one of the named ones.

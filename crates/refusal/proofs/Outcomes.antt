@@ -8,7 +8,7 @@ use lib.ListN.{length}
 use Rattle.refusal.specs.declared.Refusal.{Refusal}
 use Rattle.refusal.specs.declared.Checked.{Checked}
 use Rattle.refusal.specs.declared.Checked.the-variants.{Passed, Refused}
-use Rattle.refusal.specs.Refusals.{refuse}
+use Rattle.refusal.specs.Refusals.{refuse, _then_}
 use Rattle.refusal.specs.Outcome.{Outcome, refused, accepted, _yields_, also, inRoom}
 use Rattle.refusal.proofs.Tests.{refuse-inv}
 
@@ -28,6 +28,13 @@ yields-passed t a h = rw h refl
 pub yields-refused : {A : Type 0} (t : Checked) (a : Outcome A) (r : Refusal) → t ≡ Refused r → t yields a ≡ refused r
 unfolding _yields_
 yields-refused t a r h = rw h refl
+
+-- the first of two tests, and an outcome that the second would refuse
+pub yields-stopped : {A : Type 0} (t u : Checked) (a : Outcome A) (r : Refusal) → t then u ≡ Refused r → (u ≡ Refused r → a ≡ refused r)
+    → t yields a ≡ refused r
+unfolding _then_ _yields_
+yields-stopped Passed u a r e f = f e
+yields-stopped (Refused q) u a r e f = cc
 
 pub also-inv : {A : Type 0} (x : A) (a : Outcome (List A)) (l : List A) → also x a ≡ accepted l → (m : List A) × (a ≡ accepted m) × (l ≡ x ∷ m)
 unfolding also
