@@ -4,7 +4,7 @@ ghost use mathlib.Core.Path.{_≡_};
 ghost use Rattle.ea_header.specs.Values.{Served};
 use ea_geometry::EaGeometry;
 use ea_geometry::Place;
-use ea_geometry::page_bits::page_is_initialized;
+use structures::page_bits::page_is_initialized;
 use ea_header::Parameters;
 use libc::STDOUT_FILENO;
 use std::num::wrapping_add_u64;
