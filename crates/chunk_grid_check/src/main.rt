@@ -360,24 +360,12 @@ fn print_case(
         return;
     }
     print_text(b"R");
-    let rows = ChunkGrid::new(
-        rank,
-        chunk,
-        present,
-        has_maximum,
-        maximum,
-        GridOrder::RowMajor,
-    );
+    let order = GridOrder::RowMajor;
+    let rows = ChunkGrid::new(rank, chunk, present, has_maximum, maximum, order);
     print_built(rows, from, to, corner);
     print_text(b"U");
-    let first = ChunkGrid::new(
-        rank,
-        chunk,
-        present,
-        has_maximum,
-        maximum,
-        GridOrder::UnlimitedFirst,
-    );
+    let order = GridOrder::UnlimitedFirst;
+    let first = ChunkGrid::new(rank, chunk, present, has_maximum, maximum, order);
     print_built(first, from, to, corner);
 }
 

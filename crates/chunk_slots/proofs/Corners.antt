@@ -166,7 +166,7 @@ module _ (qs cs ms : List ℕ) where
 abbrev pub cornerQuotients : ℕ → List ℕ → List ℕ → List ℕ
 cornerQuotients u corner chunk = pairwise _/_ (toFront u corner) (inOrder (length corner) u chunk)
 
--- For a built grid, its numbers at hand.
+-- For a built grid with its numbers.
 module _ (g : Grid) (corner : List ℕ) (u : ℕ) (chunk counts down : List ℕ) (n : Numbers (length corner) u chunk down g) (k : Counted (length corner) counts g) where
   pub counts-room : length corner ≤ length counts
   counts-room = omega (arith, sym (length-take (length corner) counts) ∙ ap length k ∙ accepted g (n .built) .counted, n .ranked)

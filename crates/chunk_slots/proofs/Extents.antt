@@ -125,7 +125,7 @@ unfolding insideOr refuse
 picked true inside = refl
 picked false inside = refl
 
--- For a built grid, its numbers at hand.
+-- For a built grid with its numbers.
 module _ (g : Grid) (rank u : ℕ) (chunk down : List ℕ) (n : Numbers rank u chunk down g) where
   b : Accepted g
   b = accepted g (n .built)

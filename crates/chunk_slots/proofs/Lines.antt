@@ -132,7 +132,7 @@ back-set u l i v k h =
     go j lt (no n) =
         getD-set-other l i j v 0 n ∙ sym (getD-set-other (fromFront u l) (dimAt u i) (dimAt u j) v 0 (λ q. n (dim-inj u j i q)) ∙ back-at u j l k lt)
 
--- For a built grid, its numbers at hand, and a slot in the present extents.
+-- For a built grid with its numbers, and a slot in the present extents.
 module _ (g : Grid) (rank u : ℕ) (chunk down : List ℕ) (n : Numbers rank u chunk down g) (numbers : Bool) (bound : List ℕ) (x : Extents rank numbers bound g)
     (slot : ℕ) (h : inExtent g slot ≡ Inside) {slots rest i : ℕ} (l : Lining slot rank down slots rest i) where
   b : Accepted g

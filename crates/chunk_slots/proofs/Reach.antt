@@ -71,7 +71,7 @@ module _ {n rank u : ℕ} {bound down : List ℕ} {rests i : ℕ} (a : Asking n 
       whole = sym (step ∙ rw (le-leb (ceilDiv rests (getD down i 0)) (getD bound (dimAt u i) 0) l) refl) ∙ a .whole;
     }
 
--- For a built grid, its numbers at hand.
+-- For a built grid with its numbers.
 module _ (g : Grid) (rank u : ℕ) (chunk down : List ℕ) (n : Numbers rank u chunk down g) (numbers : Bool) (bound : List ℕ) (x : Extents rank numbers bound g) (k : ℕ) where
   pub asked : numbers ≡ true → allBelow k (take rank down) (inOrder rank u bound) ≡ allInside g k
   unfolding allInside

@@ -6,15 +6,10 @@ use borrow.Author.Needs.{needs}
 use Rattle.chunk_grid_check.proofs.bytes_of.Statement.{statement}
 use Rattle.chunk_grid_check.proofs.bytes_of.Tie as tie
 
-abbrev Inv-loop : tie.InvT-loop
-Inv-loop out₀ numbers i₀ out i = (i ≤ length out₀) × (length out ≡ length out₀)
-
-abbrev μ-loop : tie.MeasureT-loop
-μ-loop out₀ numbers i₀ out i = length out₀ - i
-
 pub bytes-of-spec : {M : Type 1} → statement M
 bytes-of-spec =
     tie.close
-    (tie.spec Inv-loop μ-loop (search needs) (search needs) (search needs) (search needs) (search needs)
-    (search needs) (search needs) (search needs) (search needs) (λ c. search needs) (search needs)
-    (search needs))
+    (tie.spec (λ out₀ numbers i₀ out i. (i ≤ length out₀) × (length out ≡ length out₀))
+    (λ out₀ numbers i₀ out i. length out₀ - i) (search needs) (search needs) (search needs) (search needs)
+    (search needs) (search needs) (search needs) (search needs) (search needs) (λ c. search needs)
+    (search needs) (search needs))

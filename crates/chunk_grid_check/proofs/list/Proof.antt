@@ -6,15 +6,10 @@ use lib.ListN.{length}
 use Rattle.chunk_grid_check.proofs.list.Statement.{statement}
 use Rattle.chunk_grid_check.proofs.list.Tie as tie
 
-abbrev Inv-loop : tie.InvT-loop
-Inv-loop out₀ s from n at₀ i₀ out at i = (i ≤ length out₀) × (length out ≡ length out₀)
-
-abbrev μ-loop : tie.MeasureT-loop
-μ-loop out₀ s from n at₀ i₀ out at i = length out₀ - i
-
 pub list-spec : {M : Type 1} → statement M
 list-spec =
     tie.close
-    (tie.spec Inv-loop μ-loop (search needs) (search needs) (search needs) (search needs) (search needs)
-    (search needs) (search needs) (λ c. search needs) (search needs) (search needs) (search needs)
-    (search needs))
+    (tie.spec (λ out₀ s from n at₀ i₀ out at i. (i ≤ length out₀) × (length out ≡ length out₀))
+    (λ out₀ s from n at₀ i₀ out at i. length out₀ - i) (search needs) (search needs) (search needs)
+    (search needs) (search needs) (search needs) (search needs) (λ c. search needs) (search needs)
+    (search needs) (search needs) (search needs))

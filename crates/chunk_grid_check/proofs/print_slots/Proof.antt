@@ -4,14 +4,9 @@ use Prim.Native.Nat.{_-_, _≤_}
 use Rattle.chunk_grid_check.proofs.print_slots.Statement.{statement}
 use Rattle.chunk_grid_check.proofs.print_slots.Tie as tie
 
-abbrev Inv-loop : tie.InvT-loop
-Inv-loop from to rank numbering chunk bound down s₀ s = from ≤ s
-
-abbrev μ-loop : tie.MeasureT-loop
-μ-loop from to rank numbering chunk bound down s₀ s = to - s
-
 pub print-slots-spec : {M : Type 1} → statement M
 print-slots-spec =
     tie.close
-    (tie.spec Inv-loop μ-loop (search needs) (λ c κs. c .before .before .pre) (search needs) (search needs)
-    (search needs) (search needs))
+    (tie.spec (λ from to rank numbering chunk bound down s₀ s. from ≤ s)
+    (λ from to rank numbering chunk bound down s₀ s. to - s) (search needs) (λ c κs. c .before .before .pre)
+    (search needs) (search needs) (search needs) (search needs))

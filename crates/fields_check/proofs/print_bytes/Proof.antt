@@ -6,15 +6,9 @@ use borrow.Author.Needs.{needs}
 use Rattle.fields_check.proofs.print_bytes.Statement.{statement}
 use Rattle.fields_check.proofs.print_bytes.Tie as tie
 
-abbrev Inv-loop : tie.InvT-loop
-Inv-loop s i₀ i = i ≤ length s
-
-abbrev μ-loop : tie.MeasureT-loop
-μ-loop s i₀ i = length s - i
-
 pub print-bytes-spec : {M : Type 1} → statement M
 print-bytes-spec =
     tie.close
-    (tie.spec Inv-loop μ-loop (search needs) (search needs)
+    (tie.spec (λ s i₀ i. i ≤ length s) (λ s i₀ i. length s - i) (search needs) (search needs)
     (λ c. omega (arith, c .shared-slice-known2 .given (c .before .before .loop .i))) (search needs)
     (search needs) (search needs) (search needs) (search needs))

@@ -4,15 +4,10 @@ use borrow.Author.Needs.{needs}
 use Rattle.fields_check.proofs.print_stored.Statement.{statement}
 use Rattle.fields_check.proofs.print_stored.Tie as tie
 
-abbrev Inv-loop : tie.InvT-loop
-Inv-loop value width₀ t4 t5 width = width ≤ 10
-
-abbrev μ-loop : tie.MeasureT-loop
-μ-loop value width₀ t4 t5 width = 10 - width
-
 pub print-stored-spec : {M : Type 1} → statement M
 print-stored-spec =
     tie.close
-    (tie.spec Inv-loop μ-loop (search needs) (search needs) (search needs) (search needs) (search needs)
+    (tie.spec (λ value width₀ t4 t5 width. width ≤ 10) (λ value width₀ t4 t5 width. 10 - width) (search needs)
     (search needs) (search needs) (search needs) (search needs) (search needs) (search needs) (search needs)
-    (search needs) (search needs) (search needs) (search needs) (search needs) (search needs) (search needs))
+    (search needs) (search needs) (search needs) (search needs) (search needs) (search needs) (search needs)
+    (search needs) (search needs) (search needs) (search needs))

@@ -4,15 +4,9 @@ use borrow.Author.Needs.{needs}
 use Rattle.fields_check.proofs.print_undefined.Statement.{statement}
 use Rattle.fields_check.proofs.print_undefined.Tie as tie
 
-abbrev Inv-loop : tie.InvT-loop
-Inv-loop value width₀ width = width ≤ 10
-
-abbrev μ-loop : tie.MeasureT-loop
-μ-loop value width₀ width = 10 - width
-
 pub print-undefined-spec : {M : Type 1} → statement M
 print-undefined-spec =
     tie.close
-    (tie.spec Inv-loop μ-loop (search needs) (search needs) (search needs) (search needs) (search needs)
+    (tie.spec (λ value width₀ width. width ≤ 10) (λ value width₀ width. 10 - width) (search needs)
     (search needs) (search needs) (search needs) (search needs) (search needs) (search needs) (search needs)
-    (search needs) (search needs))
+    (search needs) (search needs) (search needs) (search needs) (search needs) (search needs))

@@ -4,14 +4,8 @@ use borrow.Author.Needs.{needs}
 use Rattle.fields_check.proofs.print_widths.Statement.{statement}
 use Rattle.fields_check.proofs.print_widths.Tie as tie
 
-abbrev Inv-loop : tie.InvT-loop
-Inv-loop s pos width₀ width = width ≤ 10
-
-abbrev μ-loop : tie.MeasureT-loop
-μ-loop s pos width₀ width = 10 - width
-
 pub print-widths-spec : {M : Type 1} → statement M
 print-widths-spec =
     tie.close
-    (tie.spec Inv-loop μ-loop (search needs) (search needs) (search needs) (search needs) (search needs)
-    (search needs))
+    (tie.spec (λ s pos width₀ width. width ≤ 10) (λ s pos width₀ width. 10 - width) (search needs)
+    (search needs) (search needs) (search needs) (search needs) (search needs))
