@@ -28,9 +28,12 @@ use Rattle.span_walk.proofs.Turns.{supers-none, supers-next, blocks-none, block
 -- a count, or a refusal, with one span more
 pub counted-more : (s : Span) (a : Spanning) (n : ℕ) → Count n ≡ countedOf a → Count (n + 1) ≡ countedOf (also s a)
 unfolding countedOf also
-counted-more s a n h = let i = counted-inv a n h in rw (i .1) (ap Count (let z : n + 1 ≡ suc (length (i .0)) = omega (arith, i .2) in z))
+counted-more s a n h =
+    let i = counted-inv a n h in
+    rw (i .1) (ap Count (let z : n + 1 ≡ suc (length (i .0)) = omega (arith, i .2) in z))
 
-pub refused-more : (s : Span) (a : Spanning) (r : Refusal) → CountedRefused r ≡ countedOf a → CountedRefused r ≡ countedOf (also s a)
+pub refused-more : (s : Span) (a : Spanning) (r : Refusal) → CountedRefused r ≡ countedOf a
+    → CountedRefused r ≡ countedOf (also s a)
 unfolding countedOf also
 refused-more s a r h = rw (refused-inv a r h) refl
 
@@ -60,7 +63,8 @@ before-next : (u : ℕ) → blocksBefore (u + 1) ≡ blocksBefore u + blocks u
 unfolding blocksBefore
 before-next u = rw (add-one u) refl
 
-supers-length : (a : Array) (j u : ℕ) (l : List Span) → supersFrom a j u ≡ accepted l → length l + blocksBefore u ≤ j + blocksBefore (u + j)
+supers-length : (a : Array) (j u : ℕ) (l : List Span) → supersFrom a j u ≡ accepted l
+    → length l + blocksBefore u ≤ j + blocksBefore (u + j)
 unfolding supersFrom
 supers-length a zero u l h =
     let e : l ≡ [] = cc in
@@ -69,16 +73,25 @@ supers-length a zero u l h =
 supers-length a (suc j) u l h =
     let p = joined-inv _ _ l h in
     let z : u + suc j ≡ u + 1 + j = omega arith in
-    rw z (omega (arith, super-few a u (p .first) (p .first-is), supers-length a j (u + 1) (p .second) (p .second-is), before-next u, ap length (p .is), length-append (p .first) (p .second)))
+    rw z (omega (
+      arith,
+      super-few a u (p .first) (p .first-is),
+      supers-length a j (u + 1) (p .second) (p .second-is),
+      before-next u,
+      ap length (p .is),
+      length-append (p .first) (p .second),
+    ))
 
 -- so they are few
-supers-bound : (a : Array) (l : List Span) → Served (a .parameters) → supersFrom a (superBlocks (a .parameters)) 0 ≡ accepted l → length l < 2 ^ 34
+supers-bound : (a : Array) (l : List Span) → Served (a .parameters) → supersFrom a (superBlocks (a .parameters)) 0 ≡ accepted l
+    → length l < 2 ^ 34
 supers-bound a l v h =
     let n = superBlocks (a .parameters) in
     let z : 0 + n ≡ n = omega arith in
     omega (arith, rw z at (supers-length a n 0 l h), blocks-before-few (a .parameters) v n (omega arith), supers-few (a .parameters) v)
 
-pub supers-bounded : (a : Array) (n : ℕ) → Served (a .parameters) → Count n ≡ countedOf (supersFrom a (superBlocks (a .parameters)) 0) → n < 2 ^ 34
+pub supers-bounded : (a : Array) (n : ℕ) → Served (a .parameters)
+    → Count n ≡ countedOf (supersFrom a (superBlocks (a .parameters)) 0) → n < 2 ^ 34
 supers-bounded a n v h = let i = counted-inv _ n h in omega (arith, i .2, supers-bound a (i .0) v (i .1))
 
 pub index-bounded : (a : Array) (n : ℕ) → Served (a .parameters) → Count n ≡ countedOf (indexSpans a) → n < 2 ^ 35
@@ -127,7 +140,8 @@ module _ (a : Array) (n : ℕ) where
     supers-done le = sym (plus-none total _ (supers-none a u n le)) ∙ s .rest
 
     module _ (lt : u < n) where
-      pub super-refused : (r : Refusal) → CountedRefused r ≡ countedOf (superSpans a u) → CountedRefused r ≡ countedOf (supersFrom a n 0)
+      pub super-refused : (r : Refusal) → CountedRefused r ≡ countedOf (superSpans a u)
+          → CountedRefused r ≡ countedOf (supersFrom a n 0)
       super-refused r e = sym (plus-refused total r _ _ e) ∙ ap (plus total) (sym (supers-next a u n lt)) ∙ s .rest
 
       pub super-counted : (m : ℕ) → Count m ≡ countedOf (superSpans a u) → AtSuper (total + m) (u + 1)

@@ -19,13 +19,14 @@ use Rattle.span_walk.proofs.Heads.{head-passed}
 use Rattle.ea_spans.specs.SpanList.{filled, addressOf, lengthOf}
 
 -- what is answered, and what two lists are then
-abbrev pub Answers : Spanning → Counted → List ℕ → List ℕ → List ℕ → List ℕ → Type 0
-Answers a r addresses lengths A L = (r ≡ countedOf a) × (A ≡ filled addressOf a 0 addresses) × (L ≡ filled lengthOf a 0 lengths)
+abbrev pub ListedAs : Spanning → Counted → List ℕ → List ℕ → List ℕ → List ℕ → Type 0
+ListedAs a r addresses lengths A L = (r ≡ countedOf a) × (A ≡ filled addressOf a 0 addresses) × (L ≡ filled lengthOf a 0 lengths)
 
 -- a refusal leaves both lists
-pub answers-refused : (a : Spanning) (r : Refusal) (addresses lengths : List ℕ) → a ≡ refused r → Answers a (CountedRefused r) addresses lengths addresses lengths
+pub listed-refused : (a : Spanning) (r : Refusal) (addresses lengths : List ℕ) → a ≡ refused r
+    → ListedAs a (CountedRefused r) addresses lengths addresses lengths
 unfolding countedOf filled
-answers-refused a r addresses lengths e = rw e (refl, refl, refl)
+listed-refused a r addresses lengths e = rw e (refl, refl, refl)
 
 -- the header's tests
 module _ (f : List ℕ) (address o l : ℕ) where
@@ -34,8 +35,10 @@ module _ (f : List ℕ) (address o l : ℕ) where
   spans-refused r e = rw (sym e) refl
 
   -- behind them, the header's span and those of its index
-  pub spans-are : Passed ≡ headTest f address o l → length f < 2 ^ 63 → (array : ExtensibleArray) → arrayOf f array ≡ arrayFrom f (headerAt f address o l) o
-      → (n : ℕ) → n ≡ figure (headerBytes o l) → also (record { address = address; length = n }) (indexSpans (arrayOf f array)) ≡ spans f address o l
+  pub spans-are : Passed ≡ headTest f address o l → length f < 2 ^ 63
+      → (array : ExtensibleArray) → arrayOf f array ≡ arrayFrom f (headerAt f address o l) o
+      → (n : ℕ) → n ≡ figure (headerBytes o l)
+      → also (record { address = address; length = n }) (indexSpans (arrayOf f array)) ≡ spans f address o l
   unfolding spans _yields_ headerSpan figure
   spans-are e short array q n s =
       let p = head-passed f address o l e in

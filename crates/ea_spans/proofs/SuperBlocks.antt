@@ -17,7 +17,8 @@ use Rattle.span_walk.specs.Spans.{spannedTest}
 
 module _ (a : Array) (u at : ℕ) where
   -- a super block that has passed its tests
-  pub entered-tested : isDirect a u ≡ false → superUndefined a u ≡ false → at ≡ superAt a u → spannedTest a (superBlock u) ≡ Passed → EnteredSuper a u (At at)
+  pub entered-tested : isDirect a u ≡ false → superUndefined a u ≡ false → at ≡ superAt a u
+      → spannedTest a (superBlock u) ≡ Passed → EnteredSuper a u (At at)
   unfolding spannedTest
   entered-tested d w e t = inr (d, w, then-inv _ _ t .1, e)
 
@@ -25,7 +26,8 @@ module _ (a : Array) (u at : ℕ) where
   entered-at e d = ⊎-elim (λ (x : isDirect a u ≡ true). absurd (false-true (sym d ∙ x))) (λ x. x .3) e
 
   -- the pointer to its data block k, by what was read
-  module _ (e : EnteredSuper a u (At at)) (k : ℕ) {p : Pointer} (q : (isDirect a u ≡ false → at ≡ superAt a u) → p ≡ pointerOf (blockUndefined a u k) (blockAt a u k)) where
+  module _ (e : EnteredSuper a u (At at)) (k : ℕ) {p : Pointer}
+      (q : (isDirect a u ≡ false → at ≡ superAt a u) → p ≡ pointerOf (blockUndefined a u k) (blockAt a u k)) where
     pub block-undefined : p ≡ Undefined → blockUndefined a u k ≡ true
     block-undefined r = pointer-undefined _ _ (sym r ∙ q (entered-at e))
 

@@ -15,7 +15,7 @@ use Rattle.span_walk.specs.Walk.{Spanning, joined, blockSpans}
 use Rattle.span_walk.proofs.Joined.{Parts, joined-inv, also-joined}
 use Rattle.span_walk.proofs.Turns.{blocks-undefined, blocks-defined}
 use Rattle.ea_spans.specs.SpanList.{each, filled, addressOf, lengthOf}
-use Rattle.ea_spans.specs.Values.{Room, behind}
+use Rattle.ea_spans.specs.Values.{Room, endOf}
 
 -- two lists of spans, one behind the other
 sets-each : (part : Span → ℕ) (l m : List Span) (out : List ℕ) (n : ℕ)
@@ -33,20 +33,21 @@ length-filled part (refused r) n out = refl
 length-filled part (accepted l) n out = length-sets out n (each part l)
 
 module _ (a b : Spanning) (l : List Span) (p : Parts a b l) (n : ℕ) where
-  filled-joined : (part : Span → ℕ) (out : List ℕ) → filled part (joined a b) n out ≡ filled part b (behind n a) (filled part a n out)
-  unfolding filled joined behind
+  filled-joined : (part : Span → ℕ) (out : List ℕ)
+      → filled part (joined a b) n out ≡ filled part b (endOf n a) (filled part a n out)
+  unfolding filled joined endOf
   filled-joined part out = rw (p .first-is, p .second-is) (sets-each part (p .first) (p .second) out n)
 
-  behind-joined : (behind n (joined a b) ≡ behind (behind n a) b) × (behind n a ≡ n + length (p .first))
-  unfolding joined behind
-  behind-joined = rw (p .first-is, p .second-is) (omega (arith, length-append (p .first) (p .second)), refl)
+  end-joined : (endOf n (joined a b) ≡ endOf (endOf n a) b) × (endOf n a ≡ n + length (p .first))
+  unfolding joined endOf
+  end-joined = rw (p .first-is, p .second-is) (omega (arith, length-append (p .first) (p .second)), refl)
 
 -- The spans a, written from number n on, make of two lists what the spans b, written from number m on, make of xs and ls.
 pub record Going (b : Spanning) (m : ℕ) (xs ls : List ℕ) (a : Spanning) (n : ℕ) (addresses lengths : List ℕ) : Type 0 where
   pub room : Room a n addresses lengths
   pub first : filled addressOf a n addresses ≡ filled addressOf b m xs
   pub second : filled lengthOf a n lengths ≡ filled lengthOf b m ls
-  pub end : behind n a ≡ behind m b
+  pub end : endOf n a ≡ endOf m b
 
 pub going-whole : {b : Spanning} {m : ℕ} {xs ls : List ℕ} → Room b m xs ls → Going b m xs ls b m xs ls
 going-whole r = record { room = r; first = refl; second = refl; end = refl }
@@ -57,15 +58,17 @@ module _ {b : Spanning} {m : ℕ} {xs ls : List ℕ} {n : ℕ} {addresses length
   going-as q g = subst (λ (x : Spanning). Going b m xs ls x n addresses lengths) q g
 
   -- no list has become longer or shorter
-  pub going-lengths : (a : Spanning) → Going b m xs ls a n addresses lengths → (length addresses ≡ length xs) × (length lengths ≡ length ls)
+  pub going-lengths : (a : Spanning) → Going b m xs ls a n addresses lengths
+      → (length addresses ≡ length xs) × (length lengths ≡ length ls)
   going-lengths a g = (
     sym (length-filled addressOf a n addresses) ∙ ap length (g .first) ∙ length-filled addressOf b m xs,
     sym (length-filled lengthOf a n lengths) ∙ ap length (g .second) ∙ length-filled lengthOf b m ls,
   )
 
   -- nothing is left
-  pub going-none : Going b m xs ls (accepted []) n addresses lengths → (addresses ≡ filled addressOf b m xs) × (lengths ≡ filled lengthOf b m ls) × (n ≡ behind m b)
-  unfolding filled each behind
+  pub going-none : Going b m xs ls (accepted []) n addresses lengths
+      → (addresses ≡ filled addressOf b m xs) × (lengths ≡ filled lengthOf b m ls) × (n ≡ endOf m b)
+  unfolding filled each endOf
   going-none g = (g .first, g .second, let z = g .end in omega arith)
 
   -- the first part fits, and what is left behind it
@@ -77,13 +80,13 @@ module _ {b : Spanning} {m : ℕ} {xs ls : List ℕ} {n : ℕ} {addresses length
         let k = ap length (p .is) ∙ length-append (p .first) (p .second) in
         record { list = p .first; is = p .first-is; first = omega (arith, r .first); second = omega (arith, r .second) }
 
-    pub going-behind : {next : ℕ} {to other : List ℕ} → to ≡ filled addressOf a n addresses → other ≡ filled lengthOf a n lengths → next ≡ behind n a
-        → Going b m xs ls d next to other
+    pub going-behind : {next : ℕ} {to other : List ℕ} → to ≡ filled addressOf a n addresses → other ≡ filled lengthOf a n lengths
+        → next ≡ endOf n a → Going b m xs ls d next to other
     going-behind x y z =
         let r = g .room in
         let p = joined-inv a d (r .list) (r .is) in
         let k = ap length (p .is) ∙ length-append (p .first) (p .second) in
-        let j = behind-joined a d _ p n in
+        let j = end-joined a d _ p n in
         record {
           room = record {
             list = p .second;
@@ -104,13 +107,16 @@ module _ {b : Spanning} {m : ℕ} {xs ls : List ℕ} {n : ℕ} {addresses length
         let z : s ∷ [] ≡ r .list = cc in
         (omega (arith, r .first, ap length z), omega (arith, r .second, ap length z))
 
-    pub going-put : {to other : List ℕ} → to ≡ set addresses n (s .address) → other ≡ set lengths n (s .length) → Going b m xs ls a (n + 1) to other
-    unfolding filled each behind
+    pub going-put : {to other : List ℕ} → to ≡ set addresses n (s .address) → other ≡ set lengths n (s .length)
+        → Going b m xs ls a (n + 1) to other
+    unfolding filled each endOf
     going-put x y = going-behind _ _ (going-as (also-joined s a) g) x y refl
 
   -- one data block of super block u
-  module _ (a : Array) (u j k : ℕ) (lt : k < j) (g : Going b m xs ls (accepted (blockSpans a u (j - k) k)) n addresses lengths) where
-    pub going-skip : blockUndefined a u k ≡ true → Going b m xs ls (accepted (blockSpans a u (j - (k + 1)) (k + 1))) n addresses lengths
+  module _ (a : Array) (u j k : ℕ) (lt : k < j)
+      (g : Going b m xs ls (accepted (blockSpans a u (j - k) k)) n addresses lengths) where
+    pub going-skip : blockUndefined a u k ≡ true
+        → Going b m xs ls (accepted (blockSpans a u (j - (k + 1)) (k + 1))) n addresses lengths
     going-skip e = going-as (ap accepted (blocks-undefined a u j k lt e)) g
 
     pub going-block : blockUndefined a u k ≡ false → (s : Span) → s ≡ spanOf a (dataBlock u k)

@@ -53,7 +53,8 @@ pub fn index_undefined(array: ExtensibleArray) -> bool
 // Tests and counts the super blocks, and counts their data blocks.
 fn count_supers(file: &[u8], array: ExtensibleArray) -> Counted
     requires { ⌜ IndexInFile (now file) array ⌝ }
-    ensures { λ r. ⌜ (let a = arrayOf (now (file .entry)) array in r ≡ countedOf (supersFrom a (superBlocks (a .parameters)) 0)) ⌝ }
+    ensures { λ r. ⌜ (let a = arrayOf (now (file .entry)) array in
+        r ≡ countedOf (supersFrom a (superBlocks (a .parameters)) 0)) ⌝ }
 {
     let supers = array.geometry.super_blocks();
     let mut total = 0;
@@ -86,9 +87,11 @@ fn count_super(file: &[u8], array: ExtensibleArray, u: u64) -> Counted
     }
 }
 
-// Counts the data blocks of super block u that are pointed to. It lies at super_at, unless the index block names them.
+// Counts the data blocks of super block u that are pointed to. The super block lies at super_at, which plays no part where the
+// index block names the data blocks.
 fn count_blocks(file: &[u8], array: ExtensibleArray, u: u64, super_at: u64) -> u64
-    requires { ⌜ (u < superBlocks (array .geometry .parameters)) × IndexInFile (now file) array × EnteredSuper (arrayOf (now file) array) u (At «super_at») ⌝ }
+    requires { ⌜ (u < superBlocks (array .geometry .parameters)) × IndexInFile (now file) array
+        × EnteredSuper (arrayOf (now file) array) u (At «super_at») ⌝ }
     ensures { λ r. ⌜ (let a = arrayOf (now (file .entry)) array in r ≡ length (blockSpans a u (blocks u) 0)) ⌝ }
 {
     let blocks = array.geometry.blocks(u);

@@ -1,5 +1,5 @@
-// The spans of an index: the bytes of its own structures, which are its header, its index block, and every super block and data block
-// that is pointed to.
+// The spans of an index: the bytes of its own structures, which are its header, its index block, and every super block and
+// data block that is pointed to.
 ghost use mathlib.Core.Path.{_≡_};
 ghost use mathlib.Core.Bool.{true};
 ghost use Rattle.refusal.specs.declared.Counted.the-variants.{Refused};
@@ -22,11 +22,12 @@ use refusal::Refusal;
 use span_walk::Span;
 
 mod count;
+mod spans;
 mod tests;
 mod write;
 
-// Lists the spans of the index whose header lies at an address: their addresses and their lengths, from number 0 on. The answer is how
-// many they are. After a refusal both lists are as they were; 9 tells how many numbers each list must hold.
+// Lists the spans of the index whose header lies at an address: their addresses and their lengths, from number 0 on. The
+// answer is how many they are. After a refusal both lists are as they were; 9 tells how many numbers each list must hold.
 pub fn extensible_array_index_spans(
     file: &[u8],
     address: u64,
@@ -35,7 +36,8 @@ pub fn extensible_array_index_spans(
     addresses: &mut [u64],
     lengths: &mut [u64],
 ) -> Counted
-    ensures { λ r. ⌜ (let s = spansInto (now (file .entry)) address «offset_size» «length_size» (now (addresses .entry)) (now (lengths .entry)) in
+    ensures { λ r. ⌜ (let s = spansInto (now (file .entry)) address «offset_size» «length_size»
+        (now (addresses .entry)) (now (lengths .entry)) in
         (r ≡ countedOf s) × (now (addresses .exit) ≡ filled addressOf s 0 (now (addresses .entry)))
         × (now (lengths .exit) ≡ filled lengthOf s 0 (now (lengths .entry)))) ⌝ }
 {
@@ -61,7 +63,8 @@ fn list_spans(
     lengths: &mut [u64],
 ) -> Counted
     requires { ⌜ Bounded (array .geometry) × (isWidth (array .geometry .«offset_size») ≡ true) ⌝ }
-    ensures { λ r. ⌜ (let s = inRoom (also header (indexSpans (arrayOf (now (file .entry)) array))) (roomOf (now (addresses .entry)) (now (lengths .entry))) in
+    ensures { λ r. ⌜ (let s = inRoom (also header (indexSpans (arrayOf (now (file .entry)) array)))
+        (roomOf (now (addresses .entry)) (now (lengths .entry))) in
         (r ≡ countedOf s) × (now (addresses .exit) ≡ filled addressOf s 0 (now (addresses .entry)))
         × (now (lengths .exit) ≡ filled lengthOf s 0 (now (lengths .entry)))) ⌝ }
 {

@@ -11,6 +11,8 @@ ghost use Rattle.ea_blocks.specs.Array.{arrayOf};
 ghost use Rattle.ea_blocks.specs.Structures.{indexBlock, superBlock, superAt};
 ghost use Rattle.span_walk.specs.Spans.{headerSpan, spanTest, spannedTest};
 ghost use Rattle.span_walk.specs.Walk.{headTest};
+use crate::spans::index_span;
+use crate::spans::super_span;
 use ea_blocks::ExtensibleArray;
 use ea_blocks::tests::test_index_block;
 use ea_blocks::tests::test_super_block;
@@ -22,8 +24,8 @@ use refusal::Checked;
 use refusal::Refusal;
 use span_walk::Span;
 
-// The header's 31. Its length may be past 2^64 - 1 itself, so what is looked at is the address of its last byte: the end is past
-// 2^64 - 1 where that is 2^64 - 1 or more.
+// The header's 31. Its length may be past 2^64 - 1 itself, so what is looked at is the address of its last byte: the end is
+// past 2^64 - 1 where that is 2^64 - 1 or more.
 fn test_header_span(address: u64, offset_size: u64, length_size: u64) -> Checked
     ensures { λ r. ⌜ r ≡ spanTest (headerSpan address «offset_size» «length_size») ⌝ }
 {
@@ -80,11 +82,7 @@ pub fn test_index(file: &[u8], array: ExtensibleArray) -> Checked
     requires { ⌜ Bounded (array .geometry) ⌝ }
     ensures { λ r. ⌜ (let a = arrayOf (now (file .entry)) array in r ≡ spannedTest a indexBlock) ⌝ }
 {
-    let span = Span {
-        address: array.index_at,
-        length: array.geometry.index_extent(),
-    };
-    test_span(span, test_index_block(file, array))
+    test_span(index_span(array), test_index_block(file, array))
 }
 
 // Tests super block u, which lies at `at`: 31, then 20, 25, 26.
@@ -92,9 +90,8 @@ pub fn test_super(file: &[u8], array: ExtensibleArray, u: u64, at: u64) -> Check
     requires { ⌜ (u < superBlocks (array .geometry .parameters)) × Bounded (array .geometry) ⌝ }
     ensures { λ r. ⌜ (let a = arrayOf (now (file .entry)) array in at ≡ superAt a u → r ≡ spannedTest a (superBlock u)) ⌝ }
 {
-    let span = Span {
-        address: at,
-        length: array.geometry.super_extent(u),
-    };
-    test_span(span, test_super_block(file, array, u, at))
+    test_span(
+        super_span(array, u, at),
+        test_super_block(file, array, u, at),
+    )
 }

@@ -11,16 +11,17 @@ ghost use Rattle.ea_blocks.specs.Array.{arrayOf};
 ghost use Rattle.ea_blocks.specs.Entered.{EnteredSuper};
 ghost use Rattle.ea_blocks.specs.Values.{IndexInFile};
 ghost use Rattle.ea_blocks.specs.declared.enter.Entered.the-variants.{At};
-ghost use Rattle.span_walk.specs.Spans.{blockLength};
 ghost use Rattle.span_walk.specs.Walk.{blockSpans, superSpans, supersFrom, indexSpans};
 ghost use Rattle.ea_spans.specs.SpanList.{filled, addressOf, lengthOf};
-ghost use Rattle.ea_spans.specs.Values.{Room, behind};
+ghost use Rattle.ea_spans.specs.Values.{Room, endOf};
 use crate::count::index_undefined;
+use crate::spans::block_length;
+use crate::spans::index_span;
+use crate::spans::super_span;
 use ea_blocks::ExtensibleArray;
 use ea_blocks::pointers::Pointer;
 use ea_blocks::pointers::block_pointer;
 use ea_blocks::pointers::super_pointer;
-use ea_geometry::EaGeometry;
 use span_walk::Span;
 
 // Stores a span as number i of the two lists.
@@ -44,18 +45,14 @@ pub fn write_index(file: &[u8], array: ExtensibleArray, addresses: &mut [u64], l
     if index_undefined(array) {
         return;
     }
-    let span = Span {
-        address: array.index_at,
-        length: array.geometry.index_extent(),
-    };
-    put_span(addresses, lengths, 1, span);
+    put_span(addresses, lengths, 1, index_span(array));
     write_supers(file, array, addresses, lengths)
 }
 
 // Writes the spans of the super blocks and of their data blocks, from number 2 on.
 fn write_supers(file: &[u8], array: ExtensibleArray, addresses: &mut [u64], lengths: &mut [u64])
     requires { ⌜ IndexInFile (now file) array
-        × Room (supersFrom (arrayOf (now file) array) (superBlocks (array .geometry .parameters)) 0) 2 (now addresses) (now lengths) ⌝ }
+        × (let a = arrayOf (now file) array in Room (supersFrom a (superBlocks (a .parameters)) 0) 2 (now addresses) (now lengths)) ⌝ }
     ensures { λ _. ⌜ (let a = arrayOf (now (file .entry)) array in let s = supersFrom a (superBlocks (a .parameters)) 0 in
         (now (addresses .exit) ≡ filled addressOf s 2 (now (addresses .entry)))
         × (now (lengths .exit) ≡ filled lengthOf s 2 (now (lengths .entry)))) ⌝ }
@@ -70,8 +67,8 @@ fn write_supers(file: &[u8], array: ExtensibleArray, addresses: &mut [u64], leng
     }
 }
 
-// Writes the span of super block u, unless the index block names its data blocks, and those of its data blocks, from number n on.
-// The answer is the number behind the last.
+// Writes the span of super block u, unless the index block names its data blocks, and the spans of these, from number n on. The
+// answer is the number behind the last.
 fn write_super(
     file: &[u8],
     array: ExtensibleArray,
@@ -84,23 +81,22 @@ fn write_super(
         × Room (superSpans (arrayOf (now file) array) u) n (now addresses) (now lengths) ⌝ }
     ensures { λ r. ⌜ (let s = superSpans (arrayOf (now (file .entry)) array) u in
         (now (addresses .exit) ≡ filled addressOf s n (now (addresses .entry)))
-        × (now (lengths .exit) ≡ filled lengthOf s n (now (lengths .entry))) × (r ≡ behind n s)) ⌝ }
+        × (now (lengths .exit) ≡ filled lengthOf s n (now (lengths .entry))) × (r ≡ endOf n s)) ⌝ }
 {
     if u < array.geometry.direct_super_blocks() {
         return write_blocks(file, array, u, 0, n, addresses, lengths);
     }
     match super_pointer(file, array, u) {
         Pointer::Undefined => n,
-        Pointer::At(address) => {
-            let length = array.geometry.super_extent(u);
-            put_span(addresses, lengths, n, Span { address, length });
-            write_blocks(file, array, u, address, n + 1, addresses, lengths)
+        Pointer::At(at) => {
+            put_span(addresses, lengths, n, super_span(array, u, at));
+            write_blocks(file, array, u, at, n + 1, addresses, lengths)
         }
     }
 }
 
-// Writes the spans of the data blocks of super block u that are pointed to, from number n on. It lies at super_at, unless the index block
-// names them. The answer is the number behind the last.
+// Writes the spans of the data blocks of super block u that are pointed to, from number n on. The super block lies at super_at,
+// which plays no part where the index block names the data blocks. The answer is the number behind the last.
 fn write_blocks(
     file: &[u8],
     array: ExtensibleArray,
@@ -110,11 +106,12 @@ fn write_blocks(
     addresses: &mut [u64],
     lengths: &mut [u64],
 ) -> usize
-    requires { ⌜ (u < superBlocks (array .geometry .parameters)) × IndexInFile (now file) array × EnteredSuper (arrayOf (now file) array) u (At «super_at»)
+    requires { ⌜ (u < superBlocks (array .geometry .parameters)) × IndexInFile (now file) array
+        × EnteredSuper (arrayOf (now file) array) u (At «super_at»)
         × Room (accepted (blockSpans (arrayOf (now file) array) u (blocks u) 0)) n (now addresses) (now lengths) ⌝ }
     ensures { λ r. ⌜ (let s = accepted (blockSpans (arrayOf (now (file .entry)) array) u (blocks u) 0) in
         (now (addresses .exit) ≡ filled addressOf s n (now (addresses .entry)))
-        × (now (lengths .exit) ≡ filled lengthOf s n (now (lengths .entry))) × (r ≡ behind n s)) ⌝ }
+        × (now (lengths .exit) ≡ filled lengthOf s n (now (lengths .entry))) × (r ≡ endOf n s)) ⌝ }
 {
     let blocks = array.geometry.blocks(u);
     let length = block_length(array.geometry, u);
@@ -129,15 +126,4 @@ fn write_blocks(
         k += 1;
     }
     next
-}
-
-// The bytes of a data block of super block u: paged where it has more elements than a page.
-fn block_length(geometry: EaGeometry, u: u64) -> u64
-    requires { ⌜ (u < superBlocks (geometry .parameters)) × Bounded geometry ⌝ }
-    ensures { λ r. ⌜ r ≡ blockLength (geometry .parameters) (geometry .«offset_size») u ⌝ }
-{
-    if geometry.over_page(u) {
-        return geometry.paged_extent(u);
-    }
-    geometry.data_extent(u)
 }

@@ -28,7 +28,7 @@ use Rattle.ea_blocks.specs.Places.{blockReached, leadingTo, structures}
 use Rattle.span_walk.specs.declared.Span.{Span}
 use Rattle.span_walk.specs.Spans.{headerSpan, blockLength, bytesOf, spanOf}
 use Rattle.span_walk.specs.Walk.{supersFrom, indexSpans, arrayFrom, spans}
-use Rattle.span_walk.specs.Covered.{Within, Covered}
+use Rattle.span_walk.specs.Covered.{InSpan, Covered}
 use Rattle.span_walk.proofs.Heads.{head-passed}
 use Rattle.span_walk.proofs.Turns.{index-defined}
 use Rattle.span_walk.proofs.Members.{among-cons, head-cons, Holds, supers-in}
@@ -44,7 +44,8 @@ module _ (h : Parameters) (o u : ℕ) (v : Served h) (m : u < superBlocks h) whe
   unfolding blockLength dataExtent blockElementAt pagedExtent pageAt pagedHeadExtent pageExtent elementAt
   first-enough =
       by-cond (λ (x : ℕ). x ≤ blockLength h o u) (inPages h u) (λ p. rw (paged-length p) (omega arith))
-      (λ p. by-cond (λ (x : ℕ). dataExtent h o u ≤ x) (overPage h u) (λ q. rw (sym (pages-exact h v u m q)) (omega arith)) (λ q. omega arith))
+      (λ p. by-cond (λ (x : ℕ). dataExtent h o u ≤ x) (overPage h u)
+      (λ q. rw (sym (pages-exact h v u m q)) (omega arith)) (λ q. omega arith))
 
   -- a page
   page-enough : (p : ℕ) → inPages h u ≡ true → p < pages h u → pageAt h o p + pageExtent h o ≤ blockLength h o u
@@ -53,25 +54,26 @@ module _ (h : Parameters) (o u : ℕ) (v : Served h) (m : u < superBlocks h) whe
 module _ (a : Array) (v : Served (a .parameters)) (l : List Span) (index : List·Memᴰ (spanOf a indexBlock) l)
     (holds : (u : ℕ) → u < superBlocks (a .parameters) → Holds a u l) where
   -- a structure that has a span of its own
-  span-within : (x : Structure) → extentOf a x ≤ bytesOf a x → List·Memᴰ (spanOf a x) l → Within a l x
+  span-within : (x : Structure) → extentOf a x ≤ bytesOf a x → List·Memᴰ (spanOf a x) l → InSpan a l x
   unfolding spanOf
   span-within x le m = record { span = spanOf a x; listed = m; starts = omega arith; ends = omega arith }
 
-  index-within : Within a l indexBlock
+  index-within : InSpan a l indexBlock
   unfolding bytesOf
   index-within = span-within indexBlock (omega arith) index
 
   module _ (u : ℕ) (m : u < superBlocks (a .parameters)) where
-    super-within : isDirect a u ≡ false → superUndefined a u ≡ false → Within a l (superBlock u)
+    super-within : isDirect a u ≡ false → superUndefined a u ≡ false → InSpan a l (superBlock u)
     unfolding bytesOf
     super-within d w = span-within (superBlock u) (omega arith) (holds u m .super d w)
 
     module _ (k : ℕ) (lt : k < blocks u) where
-      block-within : blockReached a u k ≡ true → Within a l (dataBlock u k)
+      block-within : blockReached a u k ≡ true → InSpan a l (dataBlock u k)
       unfolding extentOf bytesOf
       block-within r = span-within (dataBlock u k) (first-enough (a .parameters) (a .offsetSize) u v m) (holds u m .block k lt r)
 
-      page-within : (p : ℕ) → p < pages (a .parameters) u → inPages (a .parameters) u ≡ true → blockReached a u k ≡ true → Within a l (dataPage u k p)
+      page-within : (p : ℕ) → p < pages (a .parameters) u → inPages (a .parameters) u ≡ true → blockReached a u k ≡ true
+          → InSpan a l (dataPage u k p)
       unfolding startOf extentOf spanOf bytesOf dataPageAt
       page-within p lp q r = record {
         span = spanOf a (dataBlock u k);
@@ -82,16 +84,17 @@ module _ (a : Array) (v : Served (a .parameters)) (l : List Span) (index : List�
 
   -- all structures of a list
   abbrev All : List Structure → Type 0
-  All xs = (x : Structure) → List·Memᴰ x xs → Within a l x
+  All xs = (x : Structure) → List·Memᴰ x xs → InSpan a l x
 
   all-none : All []
   all-none x m = absurd (List·Memᴰ·not-nil m)
 
-  all-cons : (y : Structure) (xs : List Structure) → Within a l y → All xs → All (y ∷ xs)
-  all-cons y xs w f x m = ⊎-elim (λ (e : x ≡ y). subst (Within a l) (sym e) w) (λ t. f x t) (List·Memᴰ·cases-cons m)
+  all-cons : (y : Structure) (xs : List Structure) → InSpan a l y → All xs → All (y ∷ xs)
+  all-cons y xs w f x m = ⊎-elim (λ (e : x ≡ y). subst (InSpan a l) (sym e) w) (λ t. f x t) (List·Memᴰ·cases-cons m)
 
   -- those that lead to a data block and to what is in it
-  leading-within : (u k : ℕ) (m : u < superBlocks (a .parameters)) (lt : k < blocks u) (inner : List Structure) → (blockReached a u k ≡ true → All inner) → All (leadingTo a u k inner)
+  leading-within : (u k : ℕ) (m : u < superBlocks (a .parameters)) (lt : k < blocks u) (inner : List Structure)
+      → (blockReached a u k ≡ true → All inner) → All (leadingTo a u k inner)
   unfolding leadingTo blockReached
   leading-within u k m lt inner f =
       by-cond All (isDirect a u) (λ d. block (rw d refl))
@@ -111,7 +114,8 @@ module _ (a : Array) (v : Served (a .parameters)) (l : List Span) (index : List�
       let b = o .0 in
       let lp : p < pages (a .parameters) u = rw (o .2) (page-below (a .parameters) v u i (b .super) (o .1) (b .element)) in
       leading-within u k (b .super) (b .block) _
-      (λ r. by-cond All (bitSet a u n) (λ t. all-cons _ _ (page-within u (b .super) k (b .block) p lp (o .1) r) all-none) (λ t. all-none))
+      (λ r. by-cond All (bitSet a u n)
+      (λ t. all-cons _ _ (page-within u (b .super) k (b .block) p lp (o .1) r) all-none) (λ t. all-none))
   path-within s Nowhere o = all-none
 
   pub covered : Covered a l
@@ -128,9 +132,10 @@ index-inv : (a : Array) (l : List Span) → undefined (a .offsetSize) (a .indexA
     → (m : List Span) × (supersFrom a (superBlocks (a .parameters)) 0 ≡ accepted m) × (l ≡ spanOf a indexBlock ∷ m)
 index-inv a l u h = also-inv _ _ l (yields-inv _ _ l (sym (index-defined a u) ∙ h) .1)
 
--- The spans of a file are accepted, and its index block is defined: the header has its span, and every structure that a list or a lookup
--- of any dataset with this index tests lies in one.
-pub spans-cover : (f : List ℕ) (address o l : ℕ) (s : List Span) → spans f address o l ≡ accepted s → undefined o (headerAt f address o l .«index_block_address») ≡ false
+-- The spans of a file are accepted, and its index block is defined: the header has its span, and every structure that a list or
+-- a lookup of any dataset with this index tests lies in one.
+pub spans-cover : (f : List ℕ) (address o l : ℕ) (s : List Span) → spans f address o l ≡ accepted s
+    → undefined o (headerAt f address o l .«index_block_address») ≡ false
     → List·Memᴰ (headerSpan address o l) s × Covered (arrayFrom f (headerAt f address o l) o) s
 unfolding spans
 spans-cover f address o l s e u =
@@ -141,5 +146,6 @@ spans-cover f address o l s e u =
     let i = index-inv a (q .0) u (q .1) in (
       head-cons (q .2),
       covered a v s (among-cons (q .2) _ (head-cons (i .2)))
-          (λ w lt. supers-in a (superBlocks (a .parameters)) 0 s (i .0) (i .1) (λ x m. among-cons (q .2) x (among-cons (i .2) x m)) w (omega arith) (omega arith)),
+          (λ w lt. supers-in a (superBlocks (a .parameters)) 0 s (i .0) (i .1)
+          (λ x m. among-cons (q .2) x (among-cons (i .2) x m)) w (omega arith) (omega arith)),
     )

@@ -30,14 +30,17 @@ pub head-cons : {s : Span} {m l : List Span} → l ≡ s ∷ m → List·Memᴰ 
 head-cons {s} e = subst (List·Memᴰ s) (sym e) (List·Memᴰ·head refl)
 
 -- those of the data blocks from k on
-blocks-in : (a : Array) (u j k i : ℕ) → k ≤ i → i < k + j → blockUndefined a u i ≡ false → List·Memᴰ (spanOf a (dataBlock u i)) (blockSpans a u j k)
+blocks-in : (a : Array) (u j k i : ℕ) → k ≤ i → i < k + j → blockUndefined a u i ≡ false
+    → List·Memᴰ (spanOf a (dataBlock u i)) (blockSpans a u j k)
 unfolding blockSpans
 blocks-in a u zero k i le lt e = absurd (omega arith)
 blocks-in a u (suc j) k i le lt e =
-    let later : k < i → List·Memᴰ (spanOf a (dataBlock u i)) (blockSpans a u j (k + 1)) = λ q. blocks-in a u j (k + 1) i (omega arith) (omega arith) e in
+    let later : k < i → List·Memᴰ (spanOf a (dataBlock u i)) (blockSpans a u j (k + 1))
+    = λ q. blocks-in a u j (k + 1) i (omega arith) (omega arith) e in
     by-cond (List·Memᴰ (spanOf a (dataBlock u i))) (blockUndefined a u k)
     (λ t. ⊎-elim (λ (q : k ≡ i). absurd (false-true (sym e ∙ ap (blockUndefined a u) (sym q) ∙ t))) later (eq-or-lt-of-le le))
-    (λ t. ⊎-elim (λ (q : k ≡ i). List·Memᴰ·head (ap (λ (x : ℕ). spanOf a (dataBlock u x)) (sym q))) (λ q. List·Memᴰ·tail (later q)) (eq-or-lt-of-le le))
+    (λ t. ⊎-elim (λ (q : k ≡ i). List·Memᴰ·head (ap (λ (x : ℕ). spanOf a (dataBlock u x)) (sym q)))
+    (λ q. List·Memᴰ·tail (later q)) (eq-or-lt-of-le le))
 
 -- those of super block u
 pub record Holds (a : Array) (u : ℕ) (l : List Span) : Type 0 where

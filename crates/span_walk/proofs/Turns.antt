@@ -58,10 +58,12 @@ module _ (a : Array) where
       unfolding blockSpans
       blocks-none h = let z : n - k ≡ 0 = omega arith in rw z refl
 
-      pub blocks-undefined : k < n → blockUndefined a u k ≡ true → blockSpans a u (n - k) k ≡ blockSpans a u (n - (k + 1)) (k + 1)
+      pub blocks-undefined : k < n → blockUndefined a u k ≡ true
+          → blockSpans a u (n - k) k ≡ blockSpans a u (n - (k + 1)) (k + 1)
       unfolding blockSpans
       blocks-undefined h e = rw (less n k h, e) refl
 
-      pub blocks-defined : k < n → blockUndefined a u k ≡ false → blockSpans a u (n - k) k ≡ spanOf a (dataBlock u k) ∷ blockSpans a u (n - (k + 1)) (k + 1)
+      pub blocks-defined : k < n → blockUndefined a u k ≡ false
+          → blockSpans a u (n - k) k ≡ spanOf a (dataBlock u k) ∷ blockSpans a u (n - (k + 1)) (k + 1)
       unfolding blockSpans
       blocks-defined h e = rw (less n k h, e) refl

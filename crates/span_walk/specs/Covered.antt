@@ -11,20 +11,22 @@ use Rattle.ea_blocks.specs.Places.{blockReached, structures}
 use Rattle.span_walk.specs.declared.Span.{Span}
 
 -- The bytes that its test covers lie in a span of the list.
-pub record Within (a : Array) (l : List Span) (x : Structure) : Type 0 where
+pub record InSpan (a : Array) (l : List Span) (x : Structure) : Type 0 where
   pub span : Span
   pub listed : List·Memᴰ span l
   pub starts : span .address ≤ startOf a x
   pub ends : startOf a x + extentOf a x ≤ span .address + span .length
 
 pub record Covered (a : Array) (l : List Span) : Type 0 where
-  pub index : Within a l indexBlock
+  pub index : InSpan a l indexBlock
   -- every super block that is pointed to, ..
-  pub super : (u : ℕ) → u < superBlocks (a .parameters) → isDirect a u ≡ false → superUndefined a u ≡ false → Within a l (superBlock u)
+  pub super : (u : ℕ) → u < superBlocks (a .parameters) → isDirect a u ≡ false → superUndefined a u ≡ false
+      → InSpan a l (superBlock u)
   -- .. every data block, ..
-  pub block : (u k : ℕ) → u < superBlocks (a .parameters) → k < blocks u → blockReached a u k ≡ true → Within a l (dataBlock u k)
+  pub block : (u k : ℕ) → u < superBlocks (a .parameters) → k < blocks u → blockReached a u k ≡ true
+      → InSpan a l (dataBlock u k)
   -- .. and its pages, where it is read by pages;
-  pub page : (u k p : ℕ) → u < superBlocks (a .parameters) → k < blocks u → p < pages (a .parameters) u → inPages (a .parameters) u ≡ true → blockReached a u k ≡ true
-      → Within a l (dataPage u k p)
+  pub page : (u k p : ℕ) → u < superBlocks (a .parameters) → k < blocks u → p < pages (a .parameters) u
+      → inPages (a .parameters) u ≡ true → blockReached a u k ≡ true → InSpan a l (dataPage u k p)
   -- so all structures that lead to the place of a slot
-  pub path : (s : ℕ) (x : Structure) → List·Memᴰ x (structures a (place (a .parameters) s)) → Within a l x
+  pub path : (s : ℕ) (x : Structure) → List·Memᴰ x (structures a (place (a .parameters) s)) → InSpan a l x

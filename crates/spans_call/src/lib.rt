@@ -18,7 +18,8 @@ pub extern "C" fn cellumaq_test_spans(
     lengths: &mut [u64],
     which: u64,
 ) -> u64
-    ensures { λ r. ⌜ (let s = spansInto (now (file .entry)) address «offset_size» «length_size» (now (addresses .entry)) (now (lengths .entry)) in
+    ensures { λ r. ⌜ (let s = spansInto (now (file .entry)) address «offset_size» «length_size»
+        (now (addresses .entry)) (now (lengths .entry)) in
         (r ≡ picked which (countedOf s)) × (now (addresses .exit) ≡ filled addressOf s 0 (now (addresses .entry)))
         × (now (lengths .exit) ≡ filled lengthOf s 0 (now (lengths .entry)))) ⌝ }
 {

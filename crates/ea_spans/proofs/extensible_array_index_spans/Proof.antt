@@ -12,7 +12,7 @@ use Rattle.ea_blocks.specs.Array.{arrayOf}
 use Rattle.span_walk.specs.Walk.{indexSpans, headTest, spans}
 use Rattle.span_walk.proofs.Heads.{head-passed}
 use Rattle.ea_spans.specs.SpanList.{spansInto}
-use Rattle.ea_spans.proofs.SpanList.{answers-refused, spans-refused, spans-are}
+use Rattle.ea_spans.proofs.SpanList.{listed-refused, spans-refused, spans-are}
 use Rattle.ea_spans.proofs.extensible_array_index_spans.Statement.{statement}
 use Rattle.ea_spans.proofs.extensible_array_index_spans.Tie as tie
 
@@ -36,7 +36,8 @@ listed : (c : tie.After-from-header)
     → let k = c .before .before in
     let a = k .before .before .before .before .before .before .before .args in
     also (record { address = a .address; length = c .before .serialized-size .result })
-    (indexSpans (arrayOf (a .file .now) (record { geometry = c .from-header .result; «index_at» = k .before .header .given .0 .0 .«index_block_address» })))
+    (indexSpans (arrayOf (a .file .now)
+    (record { geometry = c .from-header .result; «index_at» = k .before .header .given .0 .0 .«index_block_address» })))
     ≡ spans (a .file .now) (a .address) (a .offset-size) (a .length-size)
 listed c =
     let r = read (c .before .before) in
@@ -47,7 +48,7 @@ returns : tie.Need-returns
 unfolding spansInto
 returns c =
     let t = c .before .before .before in
-    answers-refused _ _ _ _ (room-refused _ _ _ (spans-refused _ _ _ _ _ (refused-is _ _ _ (sym (c .before .r .given .1) ∙ t .parse-served .ensures))))
+    listed-refused _ _ _ _ (room-refused _ _ _ (spans-refused _ _ _ _ _ (refused-is _ _ _ (sym (c .before .r .given .1) ∙ t .parse-served .ensures))))
 
 returns-2 : tie.Need-returns-2
 unfolding spansInto

@@ -15,7 +15,7 @@ use Rattle.span_walk.specs.Walk.{Spanning, indexSpans}
 use Rattle.ea_spans.specs.SpanList.{roomOf}
 use Rattle.ea_spans.proofs.Counting.{counted-more, refused-more, index-bounded}
 use Rattle.ea_spans.proofs.Writing.{Going, going-whole, going-put}
-use Rattle.ea_spans.proofs.SpanList.{Answers, answers-refused}
+use Rattle.ea_spans.proofs.SpanList.{ListedAs, listed-refused}
 use Rattle.ea_spans.proofs.list_spans.Statement.{statement}
 use Rattle.ea_spans.proofs.list_spans.Tie as tie
 
@@ -33,12 +33,16 @@ add-needed : tie.Need-add-needed
 add-needed c =
     let t = c .before .before .before in
     let s = t .before .before .before .before in
-    omega (arith, index-bounded (arrayOf (s .args .file .now) (s .args .array)) _ (s .pre .0 .served) (sym (c .before .n .given .1) ∙ t .count-index .ensures))
+    omega (
+      arith,
+      index-bounded (arrayOf (s .args .file .now) (s .args .array)) _ (s .pre .0 .served)
+          (sym (c .before .n .given .1) ∙ t .count-index .ensures),
+    )
 
 returns : tie.Need-returns
 returns c =
     let t = c .before .before .before in
-    answers-refused _ _ _ _ (room-refused _ _ _ (refused-inv _ _ (refused-more _ _ _ (sym (c .before .r .given .1) ∙ t .count-index .ensures))))
+    listed-refused _ _ _ _ (room-refused _ _ _ (refused-inv _ _ (refused-more _ _ _ (sym (c .before .r .given .1) ∙ t .count-index .ensures))))
 
 abbrev start : tie.After-known-told → tie.Start
 start c = c .before .before .before .before .before .before .before
@@ -54,8 +58,9 @@ small : (c : tie.After-known-told)
     → let s = start c in
     let n = c .before .n .given .0 .0 + 1 in
     room s < n
-    → Answers (inRoom (whole s) (room s)) (Refused (record { number = 9; first = n; second = 0 })) (s .args .addresses .now) (s .args .lengths .now) (s .args .addresses .now) (s .args .lengths .now)
-small c lt = let i = listed c in answers-refused _ _ _ _ (room-small _ (room (start c)) (i .0) (i .1) _ (i .2) lt)
+    → ListedAs (inRoom (whole s) (room s)) (Refused (record { number = 9; first = n; second = 0 }))
+    (s .args .addresses .now) (s .args .lengths .now) (s .args .addresses .now) (s .args .lengths .now)
+small c lt = let i = listed c in listed-refused _ _ _ _ (room-small _ (room (start c)) (i .0) (i .1) _ (i .2) lt)
 
 returns-2 : tie.Need-returns-2
 returns-2 c =

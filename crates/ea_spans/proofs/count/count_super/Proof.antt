@@ -74,7 +74,12 @@ count-blocks-requires-2 c κs =
 add-t14 : tie.Need-add-t14
 add-t14 c =
     let s = c .before .before .before .before .before .before .before .before .before .before .before in
-    omega (arith, c .count-blocks2 .ensures, block-spans-few (array s) (s .args .u) (blocks (s .args .u)) 0, blocks-few (s .args .array .geometry .parameters) (s .pre .1 .bounded .served) (s .args .u) (s .pre .0))
+    omega (
+      arith,
+      c .count-blocks2 .ensures,
+      block-spans-few (array s) (s .args .u) (blocks (s .args .u)) 0,
+      blocks-few (s .args .array .geometry .parameters) (s .pre .1 .bounded .served) (s .args .u) (s .pre .0),
+    )
 
 returns-3 : tie.Need-returns-3
 unfolding countedOf
@@ -89,7 +94,8 @@ returns-4 c =
     let t = c .before .before .before in
     let k = t .before in
     let q = found k in
-    ap countedOf (sym (super-defined _ _ (beyond (k .before .before .before .before)) (q .0) ∙ yields-refused _ _ _ (sym (t .test-super .ensures (q .1)) ∙ c .before .r .given .1)))
+    ap countedOf (sym (super-defined _ _ (beyond (k .before .before .before .before)) (q .0)
+    ∙ yields-refused _ _ _ (sym (t .test-super .ensures (q .1)) ∙ c .before .r .given .1)))
 
 pub count-super-spec : {M : Type 1} → statement M
 count-super-spec =

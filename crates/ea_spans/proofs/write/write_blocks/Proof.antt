@@ -54,8 +54,10 @@ spanned : (c : tie.After-address Inv-loop μ-loop)
     → let i = c .before .before .before .before in
     let s = start i in
     let a = arrayOf (s .args .file .now) (s .args .array) in
-    Going (accepted (blockSpans a (s .args .u) (i .before .before .blocks2 .result) 0)) (s .args .n) (s .args .addresses .now) (s .args .lengths .now)
-    (also (record { address = c .address .given .0 .0; length = i .before .block-length .result }) (left i)) (i .loop .next) (i .loop .addresses) (i .loop .lengths)
+    Going (accepted (blockSpans a (s .args .u) (i .before .before .blocks2 .result) 0))
+    (s .args .n) (s .args .addresses .now) (s .args .lengths .now)
+    (also (record { address = c .address .given .0 .0; length = i .before .block-length .result }) (left i))
+    (i .loop .next) (i .loop .addresses) (i .loop .lengths)
 unfolding startOf bytesOf
 spanned c =
     let i = c .before .before .before .before in
@@ -81,7 +83,8 @@ loop-again c =
           (λ w.
           let g = spanned (record { before = record { before = c .before; match = w .0 }; address = w .1 }) in
           rw (w .12) (going-put _ _ g (w .10 ∙ w .5 .ensures .0) (w .11 ∙ w .5 .ensures .1)))
-          (λ w. rw (w .2, w .3, w .4) (going-skip _ _ _ _ (omega arith) (i .loop .inv .1) (block-undefined _ _ _ (start i .pre .2) _ (c .before .block-pointer .ensures) (w .1 .given .1))))
+          (λ w. rw (w .2, w .3, w .4) (going-skip _ _ _ _ (omega arith) (i .loop .inv .1)
+          (block-undefined _ _ _ (start i .pre .2) _ (c .before .block-pointer .ensures) (w .1 .given .1))))
           (c .match .came),
     )
 

@@ -1,23 +1,19 @@
 -- `ea_spans::write::write_index` meets its contract. Assumes nothing.
-use mathlib.Core.Path.{_≡_, refl, sym, _∙_}
+use mathlib.Core.Path.{_≡_, sym, _∙_}
 use mathlib.Core.Bool.{false}
-use native.Mathlib.Omega.{arith}
 use borrow.Author.Needs.{needs}
 use Rattle.refusal.specs.declared.Checked.the-variants.{Passed}
 use Rattle.refusal.specs.Outcome.{also}
-use Rattle.refusal.specs.Refusals.{figure}
 use Rattle.refusal.proofs.Tests.{then-inv}
 use Rattle.refusal.proofs.Outcomes.{yields-inv, yields-passed}
 use Rattle.fields.specs.Fields.{undefined}
 use Rattle.ea_geometry.specs.Sizes.{superBlocks}
-use Rattle.ea_geometry.specs.Extents.{indexExtent}
 use Rattle.ea_blocks.specs.Array.{Array, arrayOf}
-use Rattle.ea_blocks.specs.Structures.{startOf, extentOf, indexBlock}
+use Rattle.ea_blocks.specs.Structures.{indexBlock}
 use Rattle.ea_blocks.proofs.StructureTests.{index-in-file}
-use Rattle.span_walk.specs.Spans.{bytesOf, spannedTest}
+use Rattle.span_walk.specs.Spans.{spannedTest}
 use Rattle.span_walk.specs.Walk.{supersFrom, indexSpans}
 use Rattle.span_walk.proofs.Turns.{index-none, index-defined}
-use Rattle.ea_spans.proofs.SpanTests.{span-is, index-exact}
 use Rattle.ea_spans.proofs.Writing.{Going, going-whole, going-as, going-none, going-fits, going-put}
 use Rattle.ea_spans.proofs.write.write_index.Statement.{statement}
 use Rattle.ea_spans.proofs.write.write_index.Tie as tie
@@ -32,7 +28,9 @@ returns c =
     (g .0, g .1)
 
 -- there is an index block
-there : (c : tie.Else1) → let a = array (c .before .before .before .before .before) in undefined (a .offsetSize) (a .indexAt) ≡ false
+there : (c : tie.Else1)
+    → let a = array (c .before .before .before .before .before) in
+    undefined (a .offsetSize) (a .indexAt) ≡ false
 there c = sym (c .before .index-undefined .ensures) ∙ c .if1 .left
 
 passed : (c : tie.Else1) → spannedTest (array (c .before .before .before .before .before)) indexBlock ≡ Passed
@@ -40,24 +38,20 @@ passed c =
     let r = c .before .before .before .before .before .pre .2 in
     yields-inv _ _ _ (sym (index-defined _ (there c)) ∙ r .is) .0
 
--- the bytes of the index block fit 64 bits
-exact : (s : tie.Start) → let a = array s in figure (indexExtent (a .parameters) (a .offsetSize)) ≡ indexExtent (a .parameters) (a .offsetSize)
-exact s = index-exact (s .args .array .geometry) (omega arith) (omega arith) (s .pre .0)
-
 -- the index block's span comes next
-spanned : (c : tie.After-index-extent)
-    → let s = c .before .before .before .before .before .before in
+spanned : (c : tie.After-index-span)
+    → let s = c .before .before .before .before .before .before .before .before in
     let a = array s in
     Going (indexSpans a) 1 (s .args .addresses .now) (s .args .lengths .now)
-    (also (record { address = a .indexAt; length = c .index-extent .result }) (supersFrom a (superBlocks (a .parameters)) 0)) 1 (s .args .addresses .now) (s .args .lengths .now)
-unfolding startOf extentOf bytesOf
+    (also (c .index-span .result) (supersFrom a (superBlocks (a .parameters)) 0)) 1 (s .args .addresses .now) (s .args .lengths .now)
 spanned c =
-    let b = c .before in
+    let b = c .before .before .before in
     let s = b .before .before .before .before .before in
-    rw (span-is (array s) indexBlock _ _ refl (c .index-extent .ensures ∙ exact s)) (going-as (index-defined _ (there b) ∙ yields-passed _ _ (passed b)) (going-whole (s .pre .2)))
+    rw (c .index-span .ensures (s .args .file .now))
+    (going-as (index-defined _ (there b) ∙ yields-passed _ _ (passed b)) (going-whole (s .pre .2)))
 
 put-span-requires : tie.Need-put-span-requires
-put-span-requires c κs = going-fits _ _ (spanned (c .before .before))
+put-span-requires c κs = going-fits _ _ (spanned c)
 
 -- what follows it comes next
 behind : (c : tie.After-put-span)
@@ -65,7 +59,7 @@ behind : (c : tie.After-put-span)
     let a = array s in
     Going (indexSpans a) 1 (s .args .addresses .now) (s .args .lengths .now)
     (supersFrom a (superBlocks (a .parameters)) 0) 2 (c .put-span .last .0) (c .put-span .last .1 .0)
-behind c = going-put _ _ (spanned (c .before .before .before)) (c .put-span .ensures .0) (c .put-span .ensures .1)
+behind c = going-put _ _ (spanned (c .before)) (c .put-span .ensures .0) (c .put-span .ensures .1)
 
 write-supers-requires : tie.Need-write-supers-requires
 unfolding spannedTest

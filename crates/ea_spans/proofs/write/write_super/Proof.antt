@@ -10,13 +10,12 @@ use Rattle.refusal.specs.Outcome.{accepted, also}
 use Rattle.refusal.proofs.Outcomes.{yields-inv, yields-passed}
 use Rattle.ea_geometry.specs.Sizes.{blocks}
 use Rattle.ea_blocks.specs.Array.{Array, arrayOf}
-use Rattle.ea_blocks.specs.Structures.{startOf, extentOf, superBlock, isDirect, superAt, superUndefined}
+use Rattle.ea_blocks.specs.Structures.{superBlock, isDirect, superAt, superUndefined}
 use Rattle.ea_blocks.proofs.PointerValues.{pointer-undefined, pointer-at}
 use Rattle.ea_blocks.proofs.StructureTests.{is-direct, not-direct}
-use Rattle.span_walk.specs.Spans.{bytesOf, spannedTest}
+use Rattle.span_walk.specs.Spans.{spannedTest}
 use Rattle.span_walk.specs.Walk.{Spanning, blockSpans, superSpans}
 use Rattle.span_walk.proofs.Turns.{super-direct, super-none, super-defined}
-use Rattle.ea_spans.proofs.SpanTests.{span-is}
 use Rattle.ea_spans.proofs.SuperBlocks.{entered-tested}
 use Rattle.ea_spans.proofs.Writing.{Going, going-whole, going-as, going-none, going-fits, going-put}
 use Rattle.ea_spans.proofs.write.write_super.Statement.{statement}
@@ -27,13 +26,17 @@ array s = arrayOf (s .args .file .now) (s .args .array)
 
 -- the spans of super block u are left to write
 abbrev Left : tie.Start → Spanning → Type 0
-Left s a = Going (superSpans (array s) (s .args .u)) (s .args .n) (s .args .addresses .now) (s .args .lengths .now) a (s .args .n) (s .args .addresses .now) (s .args .lengths .now)
+Left s a =
+    Going (superSpans (array s) (s .args .u)) (s .args .n) (s .args .addresses .now) (s .args .lengths .now)
+    a (s .args .n) (s .args .addresses .now) (s .args .lengths .now)
 
 abbrev inner : tie.Start → Spanning
 inner s = accepted (blockSpans (array s) (s .args .u) (blocks (s .args .u)) 0)
 
 -- the index block names the data blocks, ..
-direct : (c : tie.Then1) → let s = c .before .before .before .before .before in (isDirect (array s) (s .args .u) ≡ true) × Left s (inner s)
+direct : (c : tie.Then1)
+    → let s = c .before .before .before .before .before in
+    (isDirect (array s) (s .args .u) ≡ true) × Left s (inner s)
 direct c =
     let s = c .before .before .before .before .before in
     let e = c .before .direct-super-blocks .ensures in
@@ -64,41 +67,42 @@ returns-2 : tie.Need-returns-2
 returns-2 c =
     let b = c .before .before in
     let s = b .before .before .before .before .before .before in
-    going-none (going-as (super-none _ _ (beyond (b .before)) (pointer-undefined _ _ (sym (c .enum-told .given .1) ∙ b .super-pointer .ensures))) (going-whole (s .pre .2)))
+    going-none (going-as (super-none _ _ (beyond (b .before))
+    (pointer-undefined _ _ (sym (c .enum-told .given .1) ∙ b .super-pointer .ensures))) (going-whole (s .pre .2)))
 
 -- where it lies, and that it has passed its tests
 found : (c : tie.After-known-told)
     → let s = c .before .before .before .before .before .before .before .before .before in
-    (superUndefined (array s) (s .args .u) ≡ false) × (c .before .address .given .0 .0 ≡ superAt (array s) (s .args .u))
+    (superUndefined (array s) (s .args .u) ≡ false) × (c .before .at .given .0 .0 ≡ superAt (array s) (s .args .u))
     × (spannedTest (array s) (superBlock (s .args .u)) ≡ Passed)
 found c =
     let b = c .before .before .before in
     let s = b .before .before .before .before .before .before in
-    let q = pointer-at _ _ _ (sym (c .before .address .given .1) ∙ b .super-pointer .ensures) in
+    let q = pointer-at _ _ _ (sym (c .before .at .given .1) ∙ b .super-pointer .ensures) in
     let r = s .pre .2 in
     (q .0, q .1, yields-inv _ _ _ (sym (super-defined _ _ (beyond (b .before)) (q .0)) ∙ r .is) .0)
 
 -- its span comes next
-spanned : (c : tie.After-super-extent)
-    → let s = c .before .before .before .before .before .before .before .before .before .before in
-    Left s (also (record { address = c .before .before .address .given .0 .0; length = c .super-extent .result }) (inner s))
-unfolding startOf extentOf bytesOf
+spanned : (c : tie.After-super-span)
+    → let s = c .before .before .before .before .before .before .before .before .before .before .before .before in
+    Left s (also (c .super-span .result) (inner s))
 spanned c =
-    let k = c .before in
+    let k = c .before .before .before in
     let b = k .before .before .before .before in
     let s = b .before .before .before .before .before in
     let q = found k in
-    rw (span-is (array s) (superBlock (s .args .u)) _ _ (q .1) (c .super-extent .ensures)) (going-as (super-defined _ _ (beyond b) (q .0) ∙ yields-passed _ _ (q .2)) (going-whole (s .pre .2)))
+    rw (c .super-span .ensures (s .args .file .now) (q .1))
+    (going-as (super-defined _ _ (beyond b) (q .0) ∙ yields-passed _ _ (q .2)) (going-whole (s .pre .2)))
 
 put-span-requires : tie.Need-put-span-requires
-put-span-requires c κs = going-fits _ _ (spanned (c .before .before))
+put-span-requires c κs = going-fits _ _ (spanned c)
 
 -- its data blocks come next
 behind : (c : tie.After-put-span)
     → let s = c .before .before .before .before .before .before .before .before .before .before .before .before .before in
     Going (superSpans (array s) (s .args .u)) (s .args .n) (s .args .addresses .now) (s .args .lengths .now)
     (inner s) (s .args .n + 1) (c .put-span .last .0) (c .put-span .last .1 .0)
-behind c = going-put _ _ (spanned (c .before .before .before)) (c .put-span .ensures .0) (c .put-span .ensures .1)
+behind c = going-put _ _ (spanned (c .before)) (c .put-span .ensures .0) (c .put-span .ensures .1)
 
 write-blocks-requires-2 : tie.Need-write-blocks-requires-2
 write-blocks-requires-2 c κs =

@@ -1,0 +1,14 @@
+-- `ea_spans::spans::super_span` meets its contract. Assumes nothing.
+use borrow.Author.Needs.{needs}
+use Rattle.ea_blocks.specs.Structures.{startOf, extentOf}
+use Rattle.span_walk.specs.Spans.{bytesOf}
+use Rattle.ea_spans.proofs.SpanTests.{span-is}
+use Rattle.ea_spans.proofs.spans.super_span.Statement.{statement}
+use Rattle.ea_spans.proofs.spans.super_span.Tie as tie
+
+returns : tie.Need-returns
+unfolding startOf extentOf bytesOf
+returns c f e = span-is _ _ _ _ e (c .super-extent .ensures)
+
+pub super-span-spec : {M : Type 1} → statement M
+super-span-spec = tie.close (tie.spec (search needs) returns)
