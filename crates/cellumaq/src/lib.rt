@@ -3,7 +3,7 @@ ghost use mathlib.Core.Path.{_≡_};
 ghost use mathlib.Core.Bool.{true};
 ghost use mathlib.Core.List.{List};
 ghost use mathlib.Core.Option.{Option};
-ghost use Prim.Native.Nat.{ℕ, _<_};
+ghost use Prim.Native.Nat.{ℕ, _/_, _<_};
 ghost use lib.ListN.{length};
 ghost use Rattle.refusal.specs.declared.Counted.the-variants.{Count};
 ghost use Rattle.refusal.specs.Outcome.{accepted, countedOf};
@@ -12,11 +12,10 @@ ghost use Rattle.chunk_grid.specs.Grid.{isChunk};
 ghost use Rattle.chunk_grid.specs.Shapes.{shapeOf};
 ghost use Rattle.index.specs.Index.{Rec};
 ghost use Rattle.index.specs.ExactList.{ExactList, Answers, Agrees};
-ghost use Rattle.records.specs.Records.{listContent, recordsIn};
+ghost use Rattle.records.specs.Records.{recordLength, listContent, recordsIn};
 ghost use Rattle.calls.specs.Call.{callOf};
 ghost use Rattle.calls.specs.Answer.{picked, countedAnswer, chunkNames, ZeroAccepts};
-ghost use Rattle.ea_calls.specs.Call.{callIndex};
-ghost use Rattle.ea_list.specs.ListInto.{listAt};
+ghost use Rattle.ea_calls.specs.Call.{callIndex, listAt};
 ghost use Rattle.ea_lookup.specs.Call.{lookupAt, lookupAnswer};
 use calls::CHUNK_NAMES;
 use calls::counted_number;
@@ -52,7 +51,7 @@ pub extern "C" fn cellumaq_list(
 ) -> u64
     ensures { λ r. ⌜ (let call = callOf (now (file .entry)) «offset_size» «length_size» address «element_bytes» order rank
         (now (chunk .entry)) (now (present .entry)) «has_maximum» (now (maximum .entry)) in
-        let answer = listAt call (length (now (list .entry))) in
+        let answer = listAt call (length (now (list .entry)) / recordLength rank) in
         (r ≡ picked which (countedAnswer chunkNames (countedOf answer)))
         × ZeroAccepts answer which r
         × (now (list .exit) ≡ listContent answer (now (list .entry)))

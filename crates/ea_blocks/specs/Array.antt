@@ -3,6 +3,7 @@ use Prim.Native.Nat.{ℕ}
 use mathlib.Core.List.{List}
 use Rattle.checksum.specs.Lookup3.{lookup3}
 use Rattle.ea_header.specs.declared.Parameters.{Parameters}
+use Rattle.ea_header.specs.declared.ExtensibleArrayHeader.{ExtensibleArrayHeader}
 use Rattle.ea_blocks.specs.declared.ExtensibleArray.{ExtensibleArray}
 
 -- The file, the checksum, the array's parameters, the size of an address, and the file's position of the index block.
@@ -23,3 +24,7 @@ arrayOf file a = record {
   offsetSize = a .geometry .«offset_size»;
   indexAt = a .«index_at»;
 }
+
+-- those of a header with this offset size
+abbrev pub headed : ExtensibleArrayHeader → ℕ → ExtensibleArray
+headed h o = record { geometry = record { parameters = h .parameters; «offset_size» = o }; «index_at» = h .«index_block_address» }

@@ -1,14 +1,16 @@
 -- What is read of a call, and what the call is answered from that. Assumes nothing.
+use Prim.Native.Nat.{ℕ}
 use mathlib.Core.Path.{_≡_, refl, sym, _∙_}
 use Rattle.refusal.specs.declared.Refusal.{Refusal}
 use Rattle.refusal.specs.declared.Checked.the-variants.{Passed, Refused}
-use Rattle.refusal.specs.Outcome.{Outcome, refused}
+use Rattle.refusal.specs.Outcome.{Outcome, refused, countedOf}
 use Rattle.refusal.proofs.Tests.{refused-passed, then-first, then-second, then-inv}
 use Rattle.refusal.proofs.Outcomes.{yields-passed, yields-stopped}
-use Rattle.refusal.proofs.Numbered.{Told, told-yields}
+use Rattle.refusal.proofs.Numbered.{Told, told-yields, told-room}
 use Rattle.checksum.specs.Lookup3.{lookup3}
 use Rattle.chunk_grid.specs.Grid.{gridTest}
 use Rattle.chunk_grid.specs.Values.{gridOf, whereTested}
+use Rattle.index.specs.Index.{Listing}
 use Rattle.elements.specs.Elements.{Elements}
 use Rattle.ea_header.specs.declared.Parsed.{Parsed}
 use Rattle.ea_header.specs.declared.Parsed.the-variants.{Header, Refused as ParsedRefused}
@@ -18,8 +20,11 @@ use Rattle.ea_header.proofs.Numbered.{header-numbered}
 use Rattle.ea_geometry.specs.Extents.{formOf}
 use Rattle.ea_blocks.specs.Array.{Array}
 use Rattle.ea_walk.specs.Given.{arrayFrom, elementsIn}
+use Rattle.ea_walk.proofs.Numbered.{list-told}
 use Rattle.calls.specs.Call.{Call}
-use Rattle.ea_calls.specs.Call.{callArray, callElements, callAnswer}
+use Rattle.calls.specs.Answer.{picked, refusedAnswer, countedAnswer, chunkNames, ZeroAccepts}
+use Rattle.calls.proofs.Answers.{zero-accepts}
+use Rattle.ea_calls.specs.Call.{callArray, callElements, callAnswer, listAt}
 use Rattle.ea_calls.specs.declared.CallRead.{CallRead}
 use Rattle.ea_calls.specs.Read.{callTest, ReadAs}
 
@@ -50,6 +55,14 @@ module _ (c : Call) where
   pub answer-told : {A : Type 0} (answer : Array → Elements → Outcome A) → Told (answer (callArray c) (callElements c)) → Told (callAnswer answer c)
   unfolding callAnswer
   answer-told answer t = told-yields _ _ (header-numbered lookup3 _ _ _ _) t
+
+  -- The number 0, asked of a list's refusal, says that the call is accepted.
+  pub list-zero : (room which number : ℕ) → number ≡ picked which (countedAnswer chunkNames (countedOf (listAt c room)))
+      → ZeroAccepts (listAt c room) which number
+  unfolding countedOf countedAnswer refusedAnswer
+  list-zero room which number e =
+      zero-accepts (λ (a : Listing). countedAnswer chunkNames (countedOf a)) (λ r. refl) _
+      (answer-told _ (told-room _ room (list-told _ _ call-form))) which number e
 
 -- a call that is read
 module _ (c : Call) (r : CallRead) (k : ReadAs c r) where

@@ -1,14 +1,14 @@
 -- The extensible array of a call from C, and what the call is answered.
-use mathlib.Core.List.{List}
-use Rattle.refusal.specs.Outcome.{Outcome, _yields_}
+use Prim.Native.Nat.{ℕ}
+use Rattle.refusal.specs.Outcome.{Outcome, _yields_, inRoom}
 use Rattle.checksum.specs.Lookup3.{lookup3}
-use Rattle.index.specs.Index.{Index}
+use Rattle.index.specs.Index.{Index, Listing}
 use Rattle.elements.specs.Elements.{Elements}
 use Rattle.located.specs.Located.{indexOf}
 use Rattle.ea_header.specs.declared.ExtensibleArrayHeader.{ExtensibleArrayHeader}
 use Rattle.ea_header.specs.Header.{headerAt, headerTest}
 use Rattle.ea_blocks.specs.Array.{Array}
-use Rattle.ea_walk.specs.Walk.{located}
+use Rattle.ea_walk.specs.Walk.{located, list}
 use Rattle.ea_walk.specs.Given.{arrayFrom, elementsIn}
 use Rattle.calls.specs.Call.{Call}
 
@@ -32,3 +32,7 @@ callIndex c = indexOf (located (callArray c) (callElements c))
 unfoldable pub callAnswer : {A : Type 0} → (Array → Elements → Outcome A) → Call → Outcome A
 callAnswer answer c =
     headerTest lookup3 (c .file) (c .address) (c .offsetSize) (c .lengthSize) yields answer (callArray c) (callElements c)
+
+-- The call's list, where there is room for so many records.
+abbrev pub listAt : Call → ℕ → Listing
+listAt c room = callAnswer (λ (a : Array) (e : Elements). inRoom (list a e) room) c

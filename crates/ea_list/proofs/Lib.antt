@@ -1,10 +1,3 @@
-pub mod Judging
-pub mod Writing
-pub mod PlaceRuns
-pub mod ChunkBytes
-pub mod SeenRuns
-pub mod Written
-pub mod Rooms
-pub mod Doors
-pub mod Numbered
-pub mod ReadBack
+pub mod SlotRuns
+pub mod Lists
+pub mod Calls

@@ -1,46 +1,37 @@
--- What the code's values stand for: runs of slots.
-use Prim.Native.Nat.{ℕ, _+_, _*_, _<_, _≤_}
+-- What the code's values stand for: an accepted walk, and the runs of its slots.
+use Prim.Native.Nat.{ℕ}
 use mathlib.Core.Path.{_≡_}
-use mathlib.Core.Bool.{true, false}
 use mathlib.Core.List.{List}
-use mathlib.Core.Option.{Option}
-use lib.ListN.{length}
-use Rattle.ea_geometry.specs.Extents.{elementStride}
-use Rattle.ea_geometry.specs.Place.{place}
-use Rattle.ea_geometry.specs.declared.EaGeometry.{EaGeometry}
 use Rattle.refusal.specs.declared.Checked.the-variants.{Passed}
 use Rattle.refusal.specs.Outcome.{accepted}
-use Rattle.ea_blocks.specs.Call.{Call}
-use Rattle.ea_elements.specs.Elements.{Rec}
-use Rattle.ea_blocks.specs.Values.{Sees}
-use Rattle.ea_blocks.specs.Structures.{indexBlock, testOf, isDirect, superAt, blockAt, superUndefined}
-use Rattle.ea_elements.specs.Places.{blockReached, reached, positionOf, path}
-use Rattle.ea_list.specs.declared.runs.Reach.{Reach}
-use Rattle.ea_list.specs.declared.runs.Reach.the-variants.{NoSuper, NoBlock, Block}
-use Rattle.ea_list.specs.declared.runs.Run.{Run}
-use Rattle.ea_list.specs.declared.runs.Run.the-variants.{Gap, Elements}
+use Rattle.fields.specs.Fields.{widthTest}
+use Rattle.index.specs.Index.{Rec}
+use Rattle.elements.specs.declared.ElementReader.{ElementReader}
+use Rattle.elements.specs.Elements.{Elements}
+use Rattle.elements.specs.Values.{elementsOf}
+use Rattle.located.specs.declared.Run.{Run}
+use Rattle.located.specs.Runs.{RunOf}
+use Rattle.ea_geometry.specs.Extents.{formOf}
+use Rattle.ea_geometry.specs.Place.{place}
+use Rattle.ea_blocks.specs.declared.ExtensibleArray.{ExtensibleArray}
+use Rattle.ea_blocks.specs.Array.{Array, arrayOf}
+use Rattle.ea_blocks.specs.Structures.{arrayTest}
+use Rattle.ea_blocks.specs.Places.{placeTest}
+use Rattle.ea_walk.specs.Walk.{located, walk}
+use Rattle.ea_walk.specs.Given.{ReadBy}
 
--- slot s has its element at pos
-pub record HasAt (c : Call) (s pos : ℕ) : Type 0 where
-  pub reach : reached c (place (c .header) s) ≡ true
-  pub position : positionOf c (place (c .header) s) ≡ pos
+-- The walk of an array, by this reader of its elements, is accepted with the records l.
+pub record Walked (file : List ℕ) (a : ExtensibleArray) (r : ElementReader) (chunk bound down : List ℕ) (l : List Rec) : Type 0 where
+  pub by : ReadBy a r chunk bound down
+  pub accepts : walk (arrayOf file a) (elementsOf file r (by .grid) (by .elementBytes)) ≡ accepted l
 
--- the slots from s on are such a run
-abbrev pub RunOf : Call → ℕ → Run → Type 0
-RunOf c s (Gap n) = (0 < n) × ((i : ℕ) → i < n → reached c (place (c .header) (s + i)) ≡ false)
-RunOf c s (Elements pos n) =
-    (0 < n)
-    × (pos + n * elementStride (c .header) (c .offsetSize) ≤ length (c .file))
-    × ((i : ℕ) → i < n → HasAt c (s + i) (pos + i * elementStride (c .header) (c .offsetSize)))
+-- Slot s is one of an accepted walk: the way into the array has passed, its addresses have a width, and the structures that lead to the
+-- slot's place have passed their tests.
+pub record TestedTo (a : Array) (s : ℕ) : Type 0 where
+  pub array : arrayTest a ≡ Passed
+  pub wide : widthTest 1 (a .offsetSize) ≡ Passed
+  pub place : placeTest a (place (a .parameters) s) ≡ Passed
 
--- how far the pointers to data block k of super block u lead
-abbrev pub ReachedBy : Call → ℕ → ℕ → Reach → Type 0
-ReachedBy c u k NoSuper = (isDirect c u ≡ false) × (superUndefined c u ≡ true)
-ReachedBy c u k NoBlock = blockReached c u k ≡ false
-ReachedBy c u k (Block super at) = (blockReached c u k ≡ true) × (at ≡ blockAt c u k) × (isDirect c u ≡ false → super ≡ superAt c u)
-
--- a call whose file and geometry these are, whose index block has passed its test, and whose path to slot s is accepted
-pub record Leads (c : Call) (file : List ℕ) (g : EaGeometry) (s : ℕ) : Type 0 where
-  pub sees : Sees c file g
-  pub index : testOf c indexBlock ≡ Passed
-  pub way : (x : Option Rec) × (path c s ≡ accepted x)
+-- The slots from s on are such a run, whatever elements of the array's form its file holds.
+abbrev pub RunIn : Array → ℕ → Run → Type 0
+RunIn a s run = (e : Elements) → e .file ≡ a .file → formOf (a .parameters) (a .offsetSize) ≡ e .form → RunOf (located a e) s run

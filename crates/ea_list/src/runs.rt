@@ -1,119 +1,90 @@
 // Runs of slots: where in the file the elements of a slot and of those that follow it lie.
-ghost use mathlib.Core.Path.{_≡_};
-ghost use mathlib.Core.Bool.{true, false};
-ghost use Prim.Native.Nat.{_/_, _<_};
-ghost use Rattle.refusal.specs.declared.Checked.the-variants.{Passed};
-ghost use Rattle.fields.specs.Fields.{isWidth};
-ghost use Rattle.ea_geometry.specs.Bounded.{Bounded};
-ghost use Rattle.ea_geometry.specs.Sizes.{superBlocks, blocks, pageElements};
-ghost use Rattle.ea_geometry.specs.Place.{inPages};
 ghost use Rattle.ea_geometry.specs.Slots.{InBlock};
-ghost use Rattle.ea_blocks.specs.Call.{Call};
-ghost use Rattle.ea_blocks.specs.Structures.{indexBlock, superBlock, testOf, isDirect, superUndefined};
-ghost use Rattle.ea_blocks.specs.Values.{Sees};
-ghost use Rattle.ea_list.specs.Runs.{ReachedBy, RunOf, Leads};
-use ea_blocks::structures::Pointer;
-use ea_blocks::structures::block_pointer;
-use ea_blocks::structures::page_set;
-use ea_blocks::structures::super_pointer;
-use ea_geometry::EaGeometry;
+ghost use Rattle.ea_blocks.specs.declared.enter.Entered.the-variants.{At};
+ghost use Rattle.ea_blocks.specs.Array.{arrayOf};
+ghost use Rattle.ea_blocks.specs.Entered.{EnteredSuper, EnteredBlock};
+ghost use Rattle.ea_list.specs.Runs.{TestedTo, RunIn};
+use ea_blocks::ExtensibleArray;
+use ea_blocks::pointers::Pointer;
+use ea_blocks::pointers::block_pointer;
+use ea_blocks::pointers::page_set;
+use ea_blocks::pointers::super_pointer;
 use ea_geometry::Place;
-
-// The slots from some slot on: so many of them have no element, or so many have theirs in the file from a position on.
-pub enum Run {
-    Gap(u64),
-    Elements { pos: u64, slots: u64 },
-}
-
-// How far the pointers to a data block lead: the super block's or the data block's is undefined, or where both lie (for a data block
-// that the index block names the super block's position is 0).
-pub enum Reach {
-    NoSuper,
-    NoBlock,
-    Block { super_at: u64, at: u64 },
-}
-
-// Follows the pointers to data block k of super block u.
-fn reach_block(file: &[u8], geometry: EaGeometry, u: u64, k: u64) -> Reach
-    requires { ⌜ (u < superBlocks (geometry .header)) × (k < blocks u) × Bounded geometry × (isWidth (geometry .«offset_size») ≡ true)
-        × ((c : Call) × Sees c (now file) geometry × (testOf c indexBlock ≡ Passed)
-        × (isDirect c u ≡ false → superUndefined c u ≡ false → testOf c (superBlock u) ≡ Passed)) ⌝ }
-    ensures { λ r. ⌜ ((c : Call) → Sees c (now (file .entry)) geometry → ReachedBy c u k r) ⌝ }
-{
-    let mut super_at = 0;
-    if geometry.direct_super_blocks() <= u {
-        match super_pointer(file, geometry, u) {
-            Pointer::Undefined => return Reach::NoSuper,
-            Pointer::At(at) => {
-                super_at = at;
-            }
-        }
-    }
-    match block_pointer(file, geometry, u, k, super_at) {
-        Pointer::Undefined => Reach::NoBlock,
-        Pointer::At(at) => Reach::Block { super_at, at },
-    }
-}
+use located::Run;
 
 // The run that a slot begins, where the path to it is accepted.
-pub fn run_of(file: &[u8], geometry: EaGeometry, slot: u64) -> Run
-    requires { ⌜ (slot < geometry .header .«num_elements») × Bounded geometry × (isWidth (geometry .«offset_size») ≡ true)
-        × ((c : Call) × Leads c (now file) geometry slot) ⌝ }
-    ensures { λ r. ⌜ ((c : Call) → Leads c (now (file .entry)) geometry slot → RunOf c slot r) ⌝ }
+pub fn run_of(file: &[u8], array: ExtensibleArray, slot: u64) -> Run
+    requires { ⌜ TestedTo (arrayOf (now file) array) slot ⌝ }
+    ensures { λ r. ⌜ RunIn (arrayOf (now (file .entry)) array) slot r ⌝ }
 {
-    match geometry.place_of(slot) {
+    match array.geometry.place_of(slot) {
         Place::Inline(i) => Run::Elements {
-            pos: geometry.header.index_block_address + geometry.inline_element_at(i),
-            slots: geometry.header.idx_blk_elmts as u64 - i,
+            pos: array.index_at + array.geometry.inline_element_at(i),
+            slots: array.geometry.parameters.idx_blk_elmts as u64 - i,
         },
         Place::Block {
             super_block,
             block,
             element,
-        } => block_run(file, geometry, slot, super_block, block, element),
+        } => block_run(file, array, slot, super_block, block, element),
         Place::Page {
             super_block,
             block,
             element,
-            page,
+            page: _,
             bit: _,
-        } => page_run(file, geometry, slot, super_block, block, element, page),
-        Place::Nowhere => Run::Gap(geometry.header.num_elements - slot),
+        } => block_run(file, array, slot, super_block, block, element),
+        Place::Nowhere => Run::Gap(u64::MAX),
     }
 }
 
-// The run of a slot that is element i of data block k of super block u, in a block that is read unpaged.
-fn block_run(file: &[u8], geometry: EaGeometry, slot: u64, u: u64, k: u64, i: u64) -> Run
-    requires { ⌜ InBlock (geometry .header) slot u k i × (inPages (geometry .header) u ≡ false) × Bounded geometry × (isWidth (geometry .«offset_size») ≡ true)
-        × ((c : Call) × Leads c (now file) geometry slot) ⌝ }
-    ensures { λ r. ⌜ ((c : Call) → Leads c (now (file .entry)) geometry slot → RunOf c slot r) ⌝ }
+// The run of a slot that is element i of data block k of super block u: a gap up to the next super block or data block,
+// where the pointer to its own is undefined.
+fn block_run(file: &[u8], array: ExtensibleArray, slot: u64, u: u64, k: u64, i: u64) -> Run
+    requires { ⌜ TestedTo (arrayOf (now file) array) slot × InBlock (array .geometry .parameters) slot u k i ⌝ }
+    ensures { λ r. ⌜ RunIn (arrayOf (now (file .entry)) array) slot r ⌝ }
 {
-    match reach_block(file, geometry, u, k) {
-        Reach::NoSuper => Run::Gap(geometry.first_slot(u + 1) - slot),
-        Reach::NoBlock => Run::Gap(geometry.block_elements(u) - i),
-        Reach::Block { super_at: _, at } => Run::Elements {
-            pos: at + geometry.block_element_at(i),
-            slots: geometry.block_elements(u) - i,
-        },
+    let geometry = array.geometry;
+    let mut super_at = 0;
+    if geometry.direct_super_blocks() <= u {
+        let Pointer::At(at) = super_pointer(file, array, u) else {
+            return Run::Gap(geometry.first_slot(u + 1) - slot);
+        };
+        super_at = at;
     }
+    let Pointer::At(at) = block_pointer(file, array, u, k, super_at) else {
+        return Run::Gap(geometry.block_elements(u) - i);
+    };
+    run_in_block(file, array, slot, u, k, i, super_at, at)
 }
 
-// The same in a block that is read by pages: the element lies in page p.
-fn page_run(file: &[u8], geometry: EaGeometry, slot: u64, u: u64, k: u64, i: u64, p: u64) -> Run
-    requires { ⌜ InBlock (geometry .header) slot u k i × (inPages (geometry .header) u ≡ true) × (p ≡ i / pageElements (geometry .header)) × Bounded geometry
-        × (isWidth (geometry .«offset_size») ≡ true) × ((c : Call) × Leads c (now file) geometry slot) ⌝ }
-    ensures { λ r. ⌜ ((c : Call) → Leads c (now (file .entry)) geometry slot → RunOf c slot r) ⌝ }
+// The same in a data block that lies at `at`, below a super block at super_at: up to the end of the block, or of the
+// page that the element lies in, where the block is read by pages.
+fn run_in_block(
+    file: &[u8],
+    array: ExtensibleArray,
+    slot: u64,
+    u: u64,
+    k: u64,
+    i: u64,
+    super_at: u64,
+    at: u64,
+) -> Run
+    requires { ⌜ TestedTo (arrayOf (now file) array) slot × InBlock (array .geometry .parameters) slot u k i
+        × EnteredSuper (arrayOf (now file) array) u (At «super_at») × EnteredBlock (arrayOf (now file) array) u k (At at) ⌝ }
+    ensures { λ r. ⌜ RunIn (arrayOf (now (file .entry)) array) slot r ⌝ }
 {
-    match reach_block(file, geometry, u, k) {
-        Reach::NoSuper => Run::Gap(geometry.first_slot(u + 1) - slot),
-        Reach::NoBlock => Run::Gap(geometry.block_elements(u) - i),
-        Reach::Block { super_at, at } => {
-            let slots = geometry.page_elements() - i % geometry.page_elements();
-            if page_set(file, geometry, super_at, u, k, p) {
-                let pos = at + geometry.paged_element_at(i);
-                return Run::Elements { pos, slots };
-            }
-            Run::Gap(slots)
-        }
+    let geometry = array.geometry;
+    if !geometry.in_pages(u) {
+        let pos = at + geometry.block_element_at(i);
+        let slots = geometry.block_elements(u) - i;
+        return Run::Elements { pos, slots };
     }
+    let page = geometry.page_elements();
+    let slots = page - i % page;
+    if !page_set(file, array, super_at, u, k, i / page) {
+        return Run::Gap(slots);
+    }
+    let pos = at + geometry.paged_element_at(i);
+    Run::Elements { pos, slots }
 }

@@ -1,2 +1,4 @@
 pub mod PathEnds
 pub mod Lookups
+pub mod Calls
+pub mod Numbered

@@ -1,3 +1,4 @@
 pub mod Lookup
 pub mod Found
 pub mod PathEnds
+pub mod Call

@@ -33,6 +33,7 @@ use index::Entry;
 use refusal::Checked;
 use refusal::Refusal;
 
+pub mod call;
 mod paths;
 
 // What a lookup finds: the chunk's entry, that no chunk is stored at the corner, or why there is no answer.

@@ -1,42 +1,39 @@
 -- The induction over the walk of an array: a relation of listings that each step of a walk keeps holds of the walk's
 -- parts, where it holds of what is walked behind them, and of the whole walk, where it holds of its end. Assumes
 -- nothing.
-use Prim.Native.Nat.{ℕ, zero, suc, _+_, _*_, _/_, _%_, _<_, _≤_}
-use mathlib.Core.Path.{_≡_, refl, sym, ap, subst, _∙_}
+use Prim.Native.Nat.{ℕ, zero, suc, _+_, _*_, _<_, _≤_}
+use mathlib.Core.Path.{_≡_, sym, ap, _∙_}
 use mathlib.Core.Bool.{true, false, not, _&&_}
 use mathlib.Core.List.{[]}
 use mathlib.Core.Logic.{inl, inr}
 use native.Mathlib.Omega.{arith}
-use native.Mathlib.Nat.{div-lt-iff-lt-mul, mod-lt, mul-le-mul-right, div-add-mod'}
+use native.Mathlib.Nat.{mul-le-mul-right}
 use borrow.Author.Tests.{leb-true}
-use lib.Arith.{digits-lt, digits-div, digits-mod}
 use lib.Dec.{leb}
 use Rattle.refusal.specs.declared.Checked.{Checked}
 use Rattle.refusal.specs.declared.Checked.the-variants.{Passed}
 use Rattle.refusal.specs.Outcome.{accepted}
 use Rattle.refusal.proofs.Tests.{both}
 use Rattle.fields.specs.Fields.{widthTest}
-use Rattle.element_form.specs.Form.{stride}
 use Rattle.index.specs.Index.{Listing}
 use Rattle.elements.specs.Elements.{Elements}
-use Rattle.elements.specs.Runs.{elementsFrom}
-use Rattle.elements.proofs.Induction.{Steps, by-conds, PagesAt, at-slot, lacks-kept, elements-kept, pages-kept}
+use Rattle.elements.proofs.Induction.{Steps, by-conds, at-slot, lacks-kept, elements-kept, pages-kept}
 use Rattle.located.proofs.Paths.{LeadsTo, LeadsNowhere}
 use Rattle.ea_header.specs.declared.Parameters.{Parameters}
 use Rattle.ea_header.specs.Values.{Served}
-use Rattle.ea_geometry.specs.Sizes.{superBlocks, blocks, blockElements, pageElements, pages}
-use Rattle.ea_geometry.specs.Extents.{formOf, elementStride, elementAt, inlineElementAt, blockElementAt, pagedElementAt, pageAt}
-use Rattle.ea_geometry.specs.Place.{inPages, placeIn, place}
-use Rattle.ea_geometry.specs.Slots.{firstSlot, capacity, slotIn}
-use Rattle.ea_geometry.specs.declared.Place.the-variants.{Inline}
-use Rattle.ea_geometry.proofs.Counts.{elements-pos, pages-exact}
-use Rattle.ea_geometry.proofs.Places.{in-pages-over, place-is, place-inline, place-past, next-slot, first-slot-zero, first-slot-mono}
+use Rattle.ea_geometry.specs.Sizes.{superBlocks, blocks, blockElements, pages}
+use Rattle.ea_geometry.specs.Extents.{formOf}
+use Rattle.ea_geometry.specs.Place.{inPages}
+use Rattle.ea_geometry.specs.Slots.{firstSlot, capacity}
+use Rattle.ea_geometry.proofs.Counts.{pages-exact}
+use Rattle.ea_geometry.proofs.Places.{in-pages-over, next-slot, first-slot-zero, first-slot-mono}
 use Rattle.ea_blocks.specs.Array.{Array}
-use Rattle.ea_blocks.specs.Structures.{Structure, indexBlock, superBlock, dataBlock, dataPage, testOf, arrayTest, pagesOf, isDirect, blockAt, dataPageAt, superUndefined, blockUndefined, pageSet}
-use Rattle.ea_blocks.specs.Places.{blockReached, positionOf}
+use Rattle.ea_blocks.specs.Structures.{Structure, indexBlock, superBlock, dataBlock, dataPage, testOf, arrayTest, pagesOf, isDirect, superUndefined, blockUndefined, pageSet}
+use Rattle.ea_blocks.specs.Places.{blockReached}
 use Rattle.ea_blocks.proofs.StructureTests.{array-passed}
 use Rattle.ea_walk.specs.Walk.{located, block, blocksFrom, supersFrom, behindInline, walk}
-use Rattle.ea_walk.proofs.Paths.{Ready, ready-reached, no-super, no-block, in-block, in-clear, in-page, in-index, no-place}
+use Rattle.ea_walk.proofs.Paths.{Ready, ready-reached}
+use Rattle.ea_walk.proofs.Slots.{Begins, inline-slots, past-slots, super-slots, undefined-slots, block-slots, page-slots}
 
 -- a data block that is pointed to, and any structure
 abbrev BlockPointed : Array → ℕ → ℕ → Type 0
@@ -56,76 +53,10 @@ module _ (a : Array) (e : Elements) (form : formOf (a .parameters) (a .offsetSiz
   abbrev h : Parameters
   h = a .parameters
 
-  abbrev st : ℕ
-  st = elementStride (a .parameters) (a .offsetSize)
-
-  abbrev Lead : ℕ → ℕ → Type 0
-  Lead = LeadsTo (located a e)
-
-  abbrev Miss : ℕ → Type 0
-  Miss = LeadsNowhere (located a e)
-
-  own-stride : st ≡ stride (e .form)
-  own-stride = ap stride form
-
-  -- j elements from pos on, in the array's own stride
-  own-kept : (j pos s : ℕ) (x y : Listing) → ((i : ℕ) → i < j → Lead (s + i) (pos + i * st)) → R (s + j) x y
-      → R s (elementsFrom e pos j s x) (elementsFrom e pos j s y)
-  own-kept j pos s x y p r = elements-kept steps j pos s x y (λ i lt. subst (λ (n : ℕ). Lead (s + i) (pos + i * n)) own-stride (p i lt)) r
-
   module _ (v : Served (a .parameters)) (wide : widthTest 1 (a .offsetSize) ≡ Passed) where
-    -- the slots of data block k of super block u begin at s
     module _ (u : ℕ) (hu : u < superBlocks (a .parameters)) where
-      abbrev Begins : ℕ → ℕ → Type 0
-      Begins k s = s ≡ firstSlot h u + k * blockElements h u
-
-      place-at : (k i s : ℕ) → k < blocks u → i < blockElements h u → Begins k s → place h (s + i) ≡ placeIn h u k i
-      unfolding slotIn
-      place-at k i s hk hi b =
-          let z : s + i ≡ firstSlot h u + (k * blockElements h u + i) = omega arith in
-          place-is h v (s + i) u k i (record { super = hu; block = hk; element = hi; slot = z })
-
-      module _ (r : Ready a u) (k s : ℕ) (hk : k < blocks u) (hs : Begins k s) (t : blockUndefined a u k ≡ false) (x y : Listing)
+      module _ (r : Ready a u) (k s : ℕ) (hk : k < blocks u) (hs : Begins (a .parameters) u k s) (t : blockUndefined a u k ≡ false) (x y : Listing)
           (after : R (s + blockElements (a .parameters) u) x y) where
-        module _ (p : testOf a (dataBlock u k) ≡ Passed) where
-          -- an unpaged block
-          unpaged-kept : inPages h u ≡ false → let pos = blockAt a u k + blockElementAt h (a .offsetSize) 0 in
-              R s (elementsFrom e pos (blockElements h u) s x) (elementsFrom e pos (blockElements h u) s y)
-          unfolding blockElementAt elementAt
-          unpaged-kept q =
-              own-kept (blockElements h u) _ s x y
-              (λ i hi. subst (Lead (s + i)) (at i) (in-block a e u k i (s + i) wide (place-at k i s hk hi hs) r t p q)) after
-            where
-              at : (i : ℕ) → blockAt a u k + blockElementAt h (a .offsetSize) i ≡ blockAt a u k + blockElementAt h (a .offsetSize) 0 + i * st
-              at i = omega arith
-
-          -- the pages of a block
-          module _ (q : inPages (a .parameters) u ≡ true) (exact : pages (a .parameters) u * pageElements (a .parameters) ≡ blockElements (a .parameters) u) where
-            abbrev pe : ℕ
-            pe = pageElements h
-
-            fits : (g i : ℕ) → g < pages h u → i < pe → g * pe + i < blockElements h u
-            fits g i hg hi = subst (λ (n : ℕ). g * pe + i < n) exact (digits-lt hg hi)
-
-            clear : (g i : ℕ) → g < pages h u → i < pe → pageSet a u k g ≡ false → Miss (s + (g * pe + i))
-            clear g i hg hi b =
-                in-clear a e u k (g * pe + i) (s + (g * pe + i)) wide (place-at k (g * pe + i) s hk (fits g i hg hi) hs) r t p q (rw (digits-div g hi) b)
-
-            set : (g i : ℕ) → g < pages h u → i < pe → pageSet a u k g ≡ true → testOf a (dataPage u k g) ≡ Passed → Lead (s + (g * pe + i)) (dataPageAt a u k g + i * st)
-            unfolding dataPageAt pagedElementAt elementAt
-            set g i hg hi b d =
-                let w = in-page a e u k (g * pe + i) (s + (g * pe + i)) wide (place-at k (g * pe + i) s hk (fits g i hg hi) hs) r t p q (rw (digits-div g hi) b) (rw (digits-div g hi) d) in
-                subst (Lead (s + (g * pe + i))) (at (rw (digits-div g hi, digits-mod g hi) refl)) w
-              where
-                at : {n : ℕ} → n ≡ pageAt h (a .offsetSize) g + i * st → blockAt a u k + n ≡ blockAt a u k + pageAt h (a .offsetSize) g + i * st
-                at z = omega arith
-
-            paged-at : PagesAt Lead Miss (stride (e .form)) (pagesOf a u k) (pages h u) s
-            paged-at = record {
-              clear = clear;
-              set = λ g i hg hi b d. subst (λ (n : ℕ). Lead (s + (g * pe + i)) (dataPageAt a u k g + i * n)) own-stride (set g i hg hi b d);
-            }
-
         pointed : BlockPointed a u k
         pointed = (hu, hk, ready-reached a u k r ∙ ap not t)
 
@@ -136,13 +67,12 @@ module _ (a : Array) (e : Elements) (form : formOf (a .parameters) (a .offsetSiz
             steps .test _ s _ _ (tests (dataBlock u k) pointed) (λ p.
             by-conds (R s) (inPages h u)
             (λ q.
-            let exact = pages-exact h v u hu (in-pages-over h u q) in
-            pages-kept steps (pagesOf a u k) (pages h u) s (paged-at p q exact) (λ g hg b. tests (dataPage u k g) (pointed, q, hg, b)) x y
-            (at-slot steps _ _ x y (ap (λ (n : ℕ). s + n) (sym exact)) after))
-            (λ q. unpaged-kept p q))
+            pages-kept steps (pagesOf a u k) (pages h u) s (page-slots a e form v wide u hu r k s hk hs t p q) (λ g hg b. tests (dataPage u k g) (pointed, q, hg, b)) x y
+            (at-slot steps _ _ x y (ap (λ (n : ℕ). s + n) (sym (pages-exact h v u hu (in-pages-over h u q)))) after))
+            (λ q. elements-kept steps (blockElements h u) _ s x y (block-slots a e form v wide u hu r k s hk hs t p q) after))
 
       -- the data blocks of super block u from block k on
-      pub blocks-kept : Ready a u → (x y : Listing) → R (firstSlot h (u + 1)) x y → (j k s : ℕ) → k + j ≡ blocks u → Begins k s
+      pub blocks-kept : Ready a u → (x y : Listing) → R (firstSlot h (u + 1)) x y → (j k s : ℕ) → k + j ≡ blocks u → Begins h u k s
           → R s (blocksFrom a e u j k s x) (blocksFrom a e u j k s y)
       unfolding blocksFrom
       blocks-kept r x y after zero k s hk hs =
@@ -153,30 +83,20 @@ module _ (a : Array) (e : Elements) (form : formOf (a .parameters) (a .offsetSiz
           by-conds (R s) (isDirect a u && leb (e .count) s)
           (λ b. let c = leb-true (e .count) s (both (isDirect a u) (leb (e .count) s) b .1) in steps .past s _ x y c (end c hs) after)
           (λ b. by-conds (R s) (blockUndefined a u k)
-          (λ t. lacks-kept steps (blockElements h u) s _ _ (λ i hi. no-block a e u k i (s + i) wide (place-at k i s (omega arith) hi hs) r t) next)
+          (λ t. lacks-kept steps (blockElements h u) s _ _ (undefined-slots a e form v wide u hu r k s (omega arith) hs t) next)
           (λ t. block-kept r k s (omega arith) hs t _ _ next))
         where
-          more : Begins k s → Begins (k + 1) (s + blockElements h u)
+          more : Begins h u k s → Begins h u (k + 1) (s + blockElements h u)
           more b = omega arith
 
-          end : e .count ≤ s → Begins k s → e .count ≤ firstSlot h (u + 1)
+          end : e .count ≤ s → Begins h u k s → e .count ≤ firstSlot h (u + 1)
           end c b = let n = next-slot h u in let m = mul-le-mul-right {m = k} {n = blocks u} (blockElements h u) (omega arith) in omega arith
 
       -- a super block whose pointer is undefined
       gone-kept : isDirect a u ≡ false → superUndefined a u ≡ true → (x y : Listing) → R (firstSlot h (u + 1)) x y → R (firstSlot h u) x y
       gone-kept d t x y r =
-          lacks-kept steps (blocks u * n) from x y (λ i hi.
-          let w = elements-pos h v u in
-          let q : i / n < blocks u = div-lt-iff-lt-mul w .1 hi in
-          let z : from + i / n * n + i % n ≡ from + i = (let m = div-add-mod' i n in omega arith) in
-          subst Miss z (no-super a e u (i / n) (i % n) _ wide (place-at (i / n) (i % n) (from + i / n * n) q (mod-lt i w) refl) d t))
+          lacks-kept steps (blocks u * blockElements h u) (firstSlot h u) x y (super-slots a e form v wide u hu d t)
           (at-slot steps _ _ x y (sym (next-slot h u)) r)
-        where
-          n : ℕ
-          n = blockElements (a .parameters) u
-
-          from : ℕ
-          from = firstSlot (a .parameters) u
 
     -- the super blocks from u on
     pub supers-kept : (x y : Listing) (j u s : ℕ) → u + j ≤ superBlocks h → s ≡ firstSlot h u → R (firstSlot h (u + j)) x y
@@ -213,14 +133,7 @@ module _ (a : Array) (e : Elements) (form : formOf (a .parameters) (a .offsetSiz
     -- past the last super block there is nothing
     past-kept : (s : ℕ) → Served h → capacity h ≤ s → R s (accepted []) (accepted [])
     past-kept s v c =
-        lacks-kept steps (e .count) s _ _ (λ i hi. no-place a e (s + i) (place-past h v (s + i) (omega arith))) (end (s + e .count) (omega arith))
-
-    inline-leads : Served h → (i : ℕ) → i < h .«idx_blk_elmts» → Lead (0 + i) (a .indexAt + inlineElementAt h (a .offsetSize) 0 + i * st)
-    unfolding positionOf inlineElementAt elementAt
-    inline-leads v i lt =
-        let z : i ≡ 0 + i = omega arith in
-        let at : positionOf a (Inline i) ≡ a .indexAt + inlineElementAt h (a .offsetSize) 0 + i * st = omega arith in
-        subst (λ (n : ℕ). Lead n (a .indexAt + inlineElementAt h (a .offsetSize) 0 + i * st)) z (subst (Lead i) at (in-index a e i (place-inline h v i lt)))
+        lacks-kept steps (e .count) s _ _ (λ i hi. past-slots a e form v s c i) (end (s + e .count) (omega arith))
 
     behind-kept : Served h → R (0 + h .«idx_blk_elmts») (behindInline a e) (behindInline a e)
     unfolding behindInline capacity
@@ -238,4 +151,4 @@ module _ (a : Array) (e : Elements) (form : formOf (a .parameters) (a .offsetSiz
     walk-kept =
         steps .test _ 0 _ _ inner (λ t.
         let v = array-passed a t .0 in
-        own-kept (h .«idx_blk_elmts») _ 0 _ _ (inline-leads v) (behind-kept v))
+        elements-kept steps (h .«idx_blk_elmts») _ 0 _ _ (inline-slots a e form v) (behind-kept v))

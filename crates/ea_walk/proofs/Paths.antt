@@ -27,7 +27,7 @@ pub record Ready (a : Array) (u : ℕ) : Type 0 where
   pub named : (isDirect a u ≡ true) ⊎ ((isDirect a u ≡ false) × (superUndefined a u ≡ false) × (testOf a (superBlock u) ≡ Passed))
 
 module _ (a : Array) (u k : ℕ) (r : Ready a u) where
-  ready-tested : (inner : List Structure) → tested a (leadingTo a u k inner) ≡ tested a (cond (blockUndefined a u k) [] (dataBlock u k ∷ inner))
+  pub ready-tested : (inner : List Structure) → tested a (leadingTo a u k inner) ≡ tested a (cond (blockUndefined a u k) [] (dataBlock u k ∷ inner))
   unfolding leadingTo tested _then_
   ready-tested inner = ⊎-elim (λ (d : isDirect a u ≡ true). rw d refl) (λ d. rw (d .0, d .1, d .2) refl) (r .named)
 

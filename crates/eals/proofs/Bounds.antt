@@ -13,13 +13,10 @@ use Rattle.refusal.specs.declared.Checked.the-variants.{Passed, Refused as Chec
 use Rattle.refusal.specs.Refusals.{refuse}
 use Rattle.refusal.specs.Outcome.{refused, accepted, _yields_, inRoom, countedOf}
 use Rattle.refusal.proofs.Tests.{by-cond}
-use Rattle.chunk_grid.specs.Shapes.{givenBytes, given}
 use Rattle.refusal.specs.declared.Counted.{Counted}
 use Rattle.records.specs.Records.{recordLength}
 use Rattle.index.specs.Index.{Listing}
-use Rattle.ea_list.specs.ListInto.{listInto, listAt}
-use Rattle.calls.specs.Call.{gridGiven}
-use Rattle.ea_calls.specs.Call.{callElements, callAnswer}
+use Rattle.ea_calls.specs.Call.{callAnswer}
 use Rattle.eals.specs.Text.{words, onFirst}
 use Rattle.eals.specs.Line.{lineOf, fits, wordNumber, ifNumber, noQuestion, withNumber, questionFrom, lineQuestion, questionOf}
 use Rattle.eals.specs.Program.{listingOf, countOf}
@@ -90,6 +87,6 @@ passed-count (CheckedRefused r) a n h = omega arith
 
 pub counted-room : (q : Question) (numbers file : List ℕ) (room : ℕ) (counted : Counted) → counted ≡ countedOf (listingOf q numbers file room)
     → countOf counted * recordLength (q .rank) ≤ room
-unfolding listingOf listAt listInto callAnswer callElements gridGiven givenBytes given recordLength
+unfolding listingOf callAnswer recordLength
 counted-room q numbers file room counted e =
     rw e (le-div-iff-mul-le {k = recordLength (q .rank)} (omega arith) .0 (passed-count _ _ _ (in-room _ _)))

@@ -1,5 +1,5 @@
 -- The program: what it prints of an input.
-use Prim.Native.Nat.{ℕ, _+_, _*_}
+use Prim.Native.Nat.{ℕ, _+_, _*_, _/_}
 use mathlib.Core.List.{List}
 use lib.ListN.{length, take, drop}
 use Rattle.refusal.specs.declared.Counted.{Counted}
@@ -7,9 +7,9 @@ use Rattle.refusal.specs.declared.Counted.the-variants.{Count, Refused}
 use Rattle.index.specs.Index.{Listing}
 use Rattle.refusal.specs.Outcome.{countedOf}
 use Rattle.calls.specs.Call.{callOf}
-use Rattle.ea_list.specs.ListInto.{listAt}
+use Rattle.ea_calls.specs.Call.{listAt}
 use Rattle.eals.specs.Line.{fileOf, questionOf, storedOf}
-use Rattle.records.specs.Records.{listContent, recordsIn}
+use Rattle.records.specs.Records.{recordLength, listContent, recordsIn}
 use Rattle.eals.specs.Printed.{listText, refusalText, unreadableText}
 use Rattle.eals.specs.declared.line.Question.{Question}
 use Rattle.eals.specs.declared.line.Parsed.{Parsed}
@@ -24,7 +24,7 @@ unfoldable pub listingOf : Question → List ℕ → List ℕ → ℕ → Listin
 listingOf q numbers file room =
     let rank = q .rank in
     listAt (callOf file (q .«offset_size») (q .«length_size») (q .address) (q .«element_bytes») (q .order) rank
-    (shapeAt rank 48 numbers) (shapeAt rank (48 + 8 * rank) numbers) 1 (shapeAt rank (48 + 16 * rank) numbers)) room
+    (shapeAt rank 48 numbers) (shapeAt rank (48 + 8 * rank) numbers) 1 (shapeAt rank (48 + 16 * rank) numbers)) (room / recordLength rank)
 
 -- the text of an answer: of the records that the lent list holds, or of the refusal
 unfoldable pub countedText : ℕ → Counted → List ℕ → List ℕ

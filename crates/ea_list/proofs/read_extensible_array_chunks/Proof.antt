@@ -2,119 +2,104 @@
 use borrow.Author.Needs.{needs}
 use Prim.Native.Nat.{ℕ, _<_, _≤_}
 use mathlib.Core.Path.{_≡_, refl, sym, ap, _∙_}
-use mathlib.Core.List.{List}
 use native.Mathlib.Omega.{arith}
-use lib.ListN.{getD}
+use lib.ListN.{length, getD}
 use Rattle.refusal.specs.declared.Checked.the-variants.{Passed}
 use Rattle.refusal.specs.Refusals.{largest64}
+use Rattle.refusal.specs.Outcome.{countedOf}
 use Rattle.chunk_grid.specs.Grid.{gridTest}
 use Rattle.chunk_grid.specs.Shapes.{given}
-use Rattle.chunk_grid.specs.Values.{gridOf}
-use Rattle.chunk_grid.proofs.Grids.{accepted as grid-accepted}
-use Rattle.ea_blocks.specs.Call.{Call, callOf}
-use Rattle.ea_elements.specs.Elements.{chunkBytes}
-use Rattle.ea_elements.specs.Runs.{Listing}
-use Rattle.refusal.specs.Outcome.{countedOf}
-use Rattle.ea_count.specs.Values.{Walks}
-use Rattle.ea_list.specs.Listing.{listContent}
-use Rattle.ea_list.proofs.Rooms.{walks-by, into-refused, into-passed, refused-count, delivered}
+use Rattle.chunk_grid.specs.Values.{gridOf, Numbers, Extents}
+use Rattle.index.specs.Index.{Listing}
+use Rattle.elements.specs.Elements.{Elements}
+use Rattle.elements.specs.Values.{Reads}
+use Rattle.records.specs.Records.{listContent}
+use Rattle.ea_geometry.specs.Extents.{formOf}
+use Rattle.ea_blocks.specs.Array.{Array}
+use Rattle.ea_walk.specs.Given.{arrayFrom, elementsIn}
+use Rattle.ea_list.proofs.Lists.{into-refused, into-read, into-exact, refused-count}
 use Rattle.ea_list.proofs.read_extensible_array_chunks.Statement.{statement}
 use Rattle.ea_list.proofs.read_extensible_array_chunks.Tie as tie
 
-slice-aggregate-numbering : tie.Need-slice-aggregate-numbering
-slice-aggregate-numbering c = search needs
+abbrev array : tie.Start → Array
+array c = arrayFrom (c .args .file .now) (c .args .header) (c .args .offset-size)
 
-slice-aggregate-numbering-2 : tie.Need-slice-aggregate-numbering-2
-slice-aggregate-numbering-2 c = search needs
+abbrev elements : tie.Start → Elements
+elements c = elementsIn (c .args .file .now) (c .args .header) (c .args .offset-size) (gridOf (c .args .grid)) (c .args .element-bytes)
 
-slice-aggregate-numbering-3 : tie.Need-slice-aggregate-numbering-3
-slice-aggregate-numbering-3 c = search needs
-
-numbering-requires : tie.Need-numbering-requires
-numbering-requires c κs = search needs
-
-enum-known-checked : tie.Need-enum-known-checked
-enum-known-checked c = search needs
+-- where the function begins
+abbrev start : tie.After-numbering → tie.Start
+start n = n .before .before .before .before .before .before
 
 returns : tie.Need-returns
+unfolding gridOf given
 returns c =
-    let t = sym (c .before .before .before .before .before .before .numbering .ensures .0) ∙ c .before .checked .given .1 in
-    let p = into-refused (callOf _ _ _ (gridOf _) _) _ _ _ t in
+    let n = c .before .before .before .before .before .before in
+    let s = start n in
+    let p = into-refused (array s) (elements s) _ _ _ (sym (n .numbering .ensures .0) ∙ c .before .checked .given .1) in
     (p .0, p .1, λ n h. absurd (refused-count _ n h))
 
-enum-told : tie.Need-enum-told
-enum-told c = search needs
+abbrev numbering : tie.After-enum-told → tie.After-numbering
+numbering c = c .before .before .before .before .before
 
--- the grid is built
-abbrev start : tie.After-enum-told → tie.Start
-start c = c .before .before .before .before .before .before .before .before .before .before .before
+passed : (c : tie.After-enum-told) → gridTest (gridOf (start (numbering c) .args .grid)) ≡ Passed
+passed c = sym (numbering c .numbering .ensures .0) ∙ c .enum-told .given .1
 
-passed : (c : tie.After-enum-told) → gridTest (gridOf (start c .args .grid)) ≡ Passed
-passed c = sym (c .before .before .before .before .before .numbering .ensures .0) ∙ c .enum-told .given .1
+-- what the grid's slots are numbered by
+numbered : (c : tie.After-enum-told)
+    → let n = numbering c in
+    let g = start n .args .grid in
+    let r = n .numbering in
+    Numbers (g .rank) (r .result .rotated) (g .chunk) (r .last .1 .1 .1 .0) (gridOf g) × Extents (g .rank) (r .result .numbers) (r .last .1 .1 .0) (gridOf g)
+numbered c = let x = numbering c .numbering .ensures .1 (c .enum-told .given .1) in (x .0, x .2)
 
-chunk-bytes-requires : tie.Need-chunk-bytes-requires
-unfolding gridOf given
-chunk-bytes-requires c κs =
-    let b = grid-accepted _ (passed (c .before .before)) in
-    (b .small, b .chunked)
+new-requires : tie.Need-new-requires
+new-requires c κs = (_, _, numbered (c .before .before .before .before) .0)
 
--- the call, and what it is walked by
-abbrev call : tie.After-chunk-bytes → Call
-call c =
-    let a = start (c .before .before .before) .args in
-    callOf (a .file .now) (a .header) (a .offset-size) (gridOf (a .grid)) (a .element-bytes)
+abbrev told : tie.After-new → tie.After-enum-told
+told c = c .before .before .before .before .before
 
-walks : (c : tie.After-chunk-bytes)
-    → let a = start (c .before .before .before) .args in
-    let n = c .before .before .before .before .before .before .before .before .numbering in
-    Walks (call c) (a .file .now) (record {
-      geometry = record { header = a .header; «offset_size» = a .offset-size };
-      «chunk_bytes» = c .chunk-bytes .result;
-      rank = a .grid .rank;
-      rotated = n .result .rotated;
-      numbers = n .result .numbers;
-    }) (a .grid .chunk) (n .last .1 .1 .0) (n .last .1 .1 .1 .0)
-unfolding gridOf given chunkBytes
-walks c =
-    let t = c .before .before .before in
-    let m = t .before .before .before .before .before .numbering .ensures .1 (t .enum-told .given .1) in
-    walks-by _ _ _ _ _ _ _ _ _ _ _ _ (m .0) (m .2) (c .chunk-bytes .ensures)
+-- the reader reads the array's elements
+reads : (c : tie.After-new)
+    → let n = numbering (told c) in
+    let a = start n .args in
+    let r = n .numbering in
+    Reads (c .new .result) (a .grid .chunk) (r .last .1 .1 .0) (r .last .1 .1 .1 .0) (gridOf (a .grid)) (a .element-bytes)
+reads c = let x = numbered (told c) in c .new .ensures .2 _ _ _ (x .0) (x .1)
+
+formed : (c : tie.After-new)
+    → let a = c .before .before .before .before .from-header .result in
+    c .new .result .form ≡ formOf (a .geometry .parameters) (a .geometry .«offset_size»)
+formed c = c .new .ensures .0 ∙ c .before .before .before .form .ensures
 
 list-walk-requires : tie.Need-list-walk-requires
-list-walk-requires c κs = let b = c .before .before .before .before in (call b, walks b)
+list-walk-requires c κs =
+    let n = c .before .before .before .before in
+    record { form = sym (formed n); grid = _; elementBytes = _; reads = reads n }
 
+-- the file holds bytes, and the count is a 64-bit number
 bytes : (c : tie.After-shared-slice-known) (i : ℕ) → getD (c .before .args .file .now) i 0 < 256
 bytes c i = omega (arith, c .shared-slice-known .given i)
 
 fits : (c : tie.Start) → c .args .header .«num_elements» ≤ largest64
-fits c = omega arith
-
-same-length : tie.Need-same-length
-same-length c = search needs
+fits c = search needs
 
 returns-2 : tie.Need-returns-2
 unfolding gridOf given
 returns-2 c =
     let l = c .before .before in
-    let b = l .before .before .before .before .before in
-    let e = l .list-walk .ensures (call b) (walks b) in
-    let i = into-passed (call b) _ (passed (b .before .before .before)) in
+    let n = l .before .before .before .before .before in
+    let m = numbering (told n) in
+    let s = start m in
+    let e = l .list-walk .ensures _ _ (reads n) in
+    let i = into-read (s .args .file .now) (s .args .header) (s .args .offset-size) _ (n .new .result) (gridOf (s .args .grid)) (s .args .element-bytes) (length (s .args .list .now))
+    (n .before .before .before .before .from-header .ensures) (formed n) (n .new .ensures .1) (reads n .numbered .ranked) (passed (told n)) in
     let counted = e .0 ∙ ap countedOf i in
-    let content = e .1 ∙ ap (λ (a : Listing). listContent a (start (b .before .before .before) .args .list .now)) i in
-    (counted, content, λ n h ranked. delivered (call b) (bytes (b .before .before .before .before .before .before .before .before .before .before .before .before .before)) ranked (fits (start (b .before .before .before))) (start (b .before .before .before) .args .list .now) _ _ counted content n h)
+    let content = e .1 ∙ ap (λ (x : Listing). listContent x (s .args .list .now)) i in
+    (counted, content, λ k h ranked. into-exact (array s) (elements s) refl (bytes (m .before .before .before .before .before)) ranked (fits s) (s .args .list .now) _ _ counted content k h)
 
 pub read-extensible-array-chunks-spec : {M : Type 1} → statement M
 read-extensible-array-chunks-spec =
     tie.close
-    (tie.spec
-    slice-aggregate-numbering
-    slice-aggregate-numbering-2
-    slice-aggregate-numbering-3
-    numbering-requires
-    enum-known-checked
-    returns
-    enum-told
-    chunk-bytes-requires
-    list-walk-requires
-    same-length
-    returns-2)
+    (tie.spec (search needs) (search needs) (search needs) (λ c κs. search needs) (search needs)
+    returns (search needs) (λ c κs. search needs) (λ c κs. search needs) new-requires list-walk-requires (search needs) returns-2)

@@ -6,9 +6,6 @@ use borrow.Author.Needs.{needs}
 use Rattle.ea_lookup.proofs.found_at.Statement.{statement}
 use Rattle.ea_lookup.proofs.found_at.Tie as tie
 
-read-element-requires : tie.Need-read-element-requires
-read-element-requires c κs = search needs
-
 returns : tie.Need-returns
 unfolding foundOf answerOf
 returns c = λ g n h. let e = sym (c .enum-told .given .1) ∙ c .before .before .read-element .ensures g n h in rw (← e) refl
@@ -24,4 +21,4 @@ returns-3 c = λ g n h. let e = sym (c .before .r .given .1) ∙ c .before .befo
 pub found-at-spec : {M : Type 1} → statement M
 found-at-spec =
     tie.close
-    (tie.spec read-element-requires (search needs) (search needs) (search needs) returns returns-2 returns-3)
+    (tie.spec (λ c κs. search needs) (search needs) (search needs) (search needs) returns returns-2 returns-3)

@@ -20,9 +20,6 @@ use borrow.Author.Needs.{needs}
 use Rattle.ea_lookup.proofs.lookup_chunk.Statement.{statement}
 use Rattle.ea_lookup.proofs.lookup_chunk.Tie as tie
 
-lookup-test-requires : tie.Need-lookup-test-requires
-lookup-test-requires c κs = search needs
-
 abbrev array : tie.Start → Array
 array c = arrayFrom (c .args .file .now) (c .args .header) (c .args .offset-size)
 
@@ -122,17 +119,5 @@ returns-2 c =
 pub lookup-chunk-spec : {M : Type 1} → statement M
 lookup-chunk-spec =
     tie.close
-    (tie.spec
-    (search needs)
-    (search needs)
-    (search needs)
-    (search needs)
-    lookup-test-requires
-    (search needs)
-    returns
-    (search needs)
-    slot-of-requires
-    (search needs)
-    new-requires
-    slot-path-requires
-    returns-2)
+    (tie.spec (search needs) (search needs) (search needs) (search needs) (λ c κs. search needs) (search needs)
+    returns (search needs) slot-of-requires (search needs) new-requires slot-path-requires returns-2)

@@ -55,16 +55,6 @@ returns-5 c = λ g n h. ended (c .before .before .before) g n (c .before .r .giv
 pub slot-path-spec : {M : Type 1} → statement M
 slot-path-spec =
     tie.close
-    (tie.spec
-    (search needs)
-    (search needs)
-    returns
-    returns-2
-    (λ c κs. c .before .before .before .before .before .before .pre .0)
-    (search needs)
-    (search needs)
-    found-at-requires
-    (search needs)
-    returns-3
-    returns-4
-    returns-5)
+    (tie.spec (search needs) (search needs) returns returns-2
+    (λ c κs. c .before .before .before .before .before .before .pre .0) (search needs) (search needs)
+    found-at-requires (search needs) returns-3 returns-4 returns-5)

@@ -1,95 +1,71 @@
--- `ea_list::runs::run_of` meets its contract. Assumes nothing.
-use mathlib.Core.Path.{_≡_, refl, sym, ap, subst, _∙_}
-use native.Mathlib.Omega.{arith}
-use lib.ListN.{length}
-use Rattle.ea_geometry.specs.declared.Place.{Place}
-use Rattle.ea_geometry.specs.Slots.{PlaceOf}
-use Rattle.ea_geometry.proofs.Places.{place-of}
-use Rattle.ea_list.proofs.SeenRuns.{run-inline, run-nowhere}
 use borrow.Author.Needs.{needs}
 use Rattle.ea_list.proofs.runs.run_of.Statement.{statement}
 use Rattle.ea_list.proofs.runs.run_of.Tie as tie
+use Rattle.ea_list.proofs.runs.run_of.Reads as reads
+use Rattle.ea_list.proofs.runs.run_of.Lts as lts
+use Rattle.ea_geometry.proofs.EaGeometry.inline_element_at.Reads as inline-element-at-reads
+use Rattle.ea_geometry.proofs.EaGeometry.place_of.Reads as place-of-reads
+use Rattle.ea_list.proofs.runs.block_run.Reads as block-run-reads
 
+-- src/runs.rt:20:11
 place-of-requires : tie.Need-place-of-requires
-place-of-requires c κs = search needs
+place-of-requires c κs = ?
 
--- the place that was found is the slot's
-placed : (c : tie.After-place-of) {p : Place} → c .place-of .result ≡ p → PlaceOf (c .before .before .args .geometry .header) (c .before .before .args .slot) p
-placed c e = subst (PlaceOf _ _) (sym (c .place-of .ensures) ∙ e) (place-of _ (c .before .before .pre .1 .served) _)
-
+-- src/runs.rt:21:23
 enum-known-i : tie.Need-enum-known-i
 enum-known-i c = search needs
 
+-- src/runs.rt:22:35
 inline-element-at-requires : tie.Need-inline-element-at-requires
-unfolding PlaceOf
-inline-element-at-requires c κs =
-    let q = placed (c .before .before .before) (c .before .i .given .1) in
-    (omega arith, c .before .before .before .before .before .pre .1)
+inline-element-at-requires c κs = ?
 
-add-t15 : tie.Need-add-t15
-unfolding PlaceOf
-add-t15 c =
-    let a = c .before .before .before .before .before .before .before in
-    let q = placed (c .before .before .before .before .before) (c .before .before .before .i .given .1) in
-    let p = a .pre .3 in
-    let x = run-inline (p .0) _ _ _ (p .1) (a .pre .1 .served) (omega arith) _ _ refl refl .1 in
-    let e = ap length (p .1 .sees .bytes) in
-    rw (c .before .inline-element-at .ensures, sym (q .0)) (omega arith)
+-- src/runs.rt:22:18
+add-t14 : tie.Need-add-t14
+add-t14 c = ?
 
-cast-t16 : tie.Need-cast-t16
-cast-t16 c = search needs
+-- src/runs.rt:23:20
+cast-t15 : tie.Need-cast-t15
+cast-t15 c = search needs
 
-sub-t17 : tie.Need-sub-t17
-unfolding PlaceOf
-sub-t17 c =
-    let q = placed (c .before .before .before .before .before .before) (c .before .before .before .before .i .given .1) in
-    omega arith
+-- src/runs.rt:23:20
+sub-t16 : tie.Need-sub-t16
+sub-t16 c = ?
 
+-- src/runs.rt:26:13
 enum-known-super-block : tie.Need-enum-known-super-block
 enum-known-super-block c = search needs
 
+-- src/runs.rt:29:14
 block-run-requires : tie.Need-block-run-requires
-unfolding PlaceOf
-block-run-requires c κs =
-    let a = c .before .before .before .before .before in
-    let q = placed (c .before .before .before) (c .before .super-block .given .1) in
-    (q .0, q .1, a .pre .1, a .pre .2, a .pre .3)
+block-run-requires c κs = ?
 
+-- src/runs.rt:31:13
 enum-known-super-block-2 : tie.Need-enum-known-super-block-2
 enum-known-super-block-2 c = search needs
 
-page-run-requires : tie.Need-page-run-requires
-unfolding PlaceOf
-page-run-requires c κs =
-    let a = c .before .before .before .before .before in
-    let q = placed (c .before .before .before) (c .before .super-block2 .given .1) in
-    (q .0, q .1, q .2, a .pre .1, a .pre .2, a .pre .3)
+-- src/runs.rt:36:14
+block-run-requires-2 : tie.Need-block-run-requires-2
+block-run-requires-2 c κs = ?
 
+-- src/runs.rt:37:27
 enum-told : tie.Need-enum-told
 enum-told c = search needs
 
-sub-t18 : tie.Need-sub-t18
-sub-t18 c = search needs
-
+-- src/runs.rt:16:1
 returns : tie.Need-returns
-unfolding PlaceOf
-returns c = λ k l.
-    let a = c .before .before .before .before .before .before .before .before in
-    let q = placed (c .before .before .before .before .before .before) (c .before .before .before .before .i .given .1) in
-    run-inline k _ _ _ l (a .pre .1 .served) (omega arith) _ _ (rw (c .before .before .inline-element-at .ensures, q .0) refl) (rw (q .0) refl)
+returns c = ?
 
+-- src/runs.rt:16:1
 returns-2 : tie.Need-returns-2
 returns-2 c = search needs
 
+-- src/runs.rt:16:1
 returns-3 : tie.Need-returns-3
 returns-3 c = search needs
 
+-- src/runs.rt:16:1
 returns-4 : tie.Need-returns-4
-unfolding PlaceOf
-returns-4 c = λ k l.
-    let a = c .before .before .before .before .before in
-    let q = placed (c .before .before .before) (c .before .enum-told .given .1) in
-    run-nowhere k _ _ _ l (a .pre .1 .served) q _ (omega (arith, a .pre .0))
+returns-4 c = ?
 
 pub run-of-spec : {M : Type 1} → statement M
 run-of-spec =
@@ -98,15 +74,14 @@ run-of-spec =
     place-of-requires
     enum-known-i
     inline-element-at-requires
-    add-t15
-    cast-t16
-    sub-t17
+    add-t14
+    cast-t15
+    sub-t16
     enum-known-super-block
     block-run-requires
     enum-known-super-block-2
-    page-run-requires
+    block-run-requires-2
     enum-told
-    sub-t18
     returns
     returns-2
     returns-3

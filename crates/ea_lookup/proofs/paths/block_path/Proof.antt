@@ -81,16 +81,5 @@ element-in-block-requires c κs =
 pub block-path-spec : {M : Type 1} → statement M
 block-path-spec =
     tie.close
-    (tie.spec
-    (search needs)
-    (search needs)
-    returns
-    (search needs)
-    enter-super-requires
-    (search needs)
-    returns-2
-    enter-block-requires
-    (search needs)
-    returns-3
-    element-in-block-requires
-    (λ c. c .element-in-block .ensures))
+    (tie.spec (search needs) (search needs) returns (search needs) enter-super-requires (search needs) returns-2
+    enter-block-requires (search needs) returns-3 element-in-block-requires (λ c. c .element-in-block .ensures))

@@ -115,16 +115,5 @@ returns-3 c = λ s b.
 pub element-in-block-spec : {M : Type 1} → statement M
 element-in-block-spec =
     tie.close
-    (tie.spec
-    (search needs)
-    block-element-at-requires
-    add-pos
-    returns
-    (search needs)
-    div-p
-    enter-page-requires
-    (search needs)
-    returns-2
-    paged-element-at-requires
-    add-pos-2
-    returns-3)
+    (tie.spec (search needs) block-element-at-requires add-pos returns (search needs) div-p enter-page-requires
+    (search needs) returns-2 paged-element-at-requires add-pos-2 returns-3)

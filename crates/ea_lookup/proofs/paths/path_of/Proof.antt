@@ -90,20 +90,6 @@ returns-4 c = c .block-path .ensures _ (within (c .before))
 pub path-of-spec : {M : Type 1} → statement M
 path-of-spec =
     tie.close
-    (tie.spec
-    place-of-requires
-    (search needs)
-    (search needs)
-    (search needs)
-    (search needs)
-    inline-element-at-requires
-    add-pos
-    (search needs)
-    (search needs)
-    (search needs)
-    (search needs)
-    block-path-requires
-    returns
-    returns-2
-    returns-3
-    returns-4)
+    (tie.spec place-of-requires (search needs) (search needs) (search needs) (search needs)
+    inline-element-at-requires add-pos (search needs) (search needs) (search needs) (search needs)
+    block-path-requires returns returns-2 returns-3 returns-4)

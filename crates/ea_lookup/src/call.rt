@@ -1,0 +1,82 @@
+// The lookup as it is called from C: on numbers and bytes, with the header read first, and with one number as its
+// answer.
+ghost use mathlib.Core.Path.{_≡_};
+ghost use Prim.Native.Nat.{ℕ};
+ghost use Rattle.chunk_grid.specs.Shapes.{shapeOf};
+ghost use Rattle.calls.specs.Call.{callOf};
+ghost use Rattle.calls.specs.Answer.{picked};
+ghost use Rattle.ea_calls.specs.Call.{callIndex, listAt};
+ghost use Rattle.ea_lookup.specs.Call.{lookupAt, foundAnswer};
+ghost use Rattle.ea_lookup.specs.Found.{foundOf, Answered, Agreed};
+use crate::Found;
+use crate::lookup_chunk;
+use calls::CHUNK_NAMES;
+use calls::pick;
+use calls::refused_number;
+use chunk_grid::read_shape;
+use ea_calls::read_call;
+use refusal::Checked;
+
+// Reads the header at an address, the shapes of a dataset and a corner, and looks up the chunk at the corner.
+pub fn lookup_at(
+    file: &[u8],
+    offset_size: u64,
+    length_size: u64,
+    address: u64,
+    element_bytes: u64,
+    order: u64,
+    rank: u64,
+    chunk: &[u8],
+    present: &[u8],
+    has_maximum: u64,
+    maximum: &[u8],
+    corner: &[u8],
+) -> Found
+    ensures { λ r. ⌜ (let call = callOf (now (file .entry)) «offset_size» «length_size» address «element_bytes» order rank
+        (now (chunk .entry)) (now (present .entry)) «has_maximum» (now (maximum .entry)) in
+        let at = shapeOf rank (now (corner .entry)) in
+        (r ≡ foundOf (lookupAt call at))
+        × Answered (lookupAt call at) (callIndex call) at r
+        × ((room : ℕ) → Agreed (listAt call room) (call .grid) at r)) ⌝ }
+{
+    let read = read_call(
+        file,
+        offset_size,
+        length_size,
+        address,
+        order,
+        rank,
+        chunk,
+        present,
+        has_maximum,
+        maximum,
+    );
+    let checked = read.checked;
+    if let Checked::Refused(r) = checked {
+        return Found::Refused(r);
+    }
+    let mut offsets = [0u64; 32];
+    let n = read_shape(&mut offsets, rank, corner) as usize;
+    lookup_chunk(
+        file,
+        read.header,
+        read.grid,
+        element_bytes,
+        offset_size,
+        &offsets[..n],
+    )
+}
+
+// The number of a lookup's answer that is asked for.
+pub fn found_number(found: Found, which: u64) -> u64
+    ensures { λ r. ⌜ r ≡ picked which (foundAnswer found) ⌝ }
+{
+    match found {
+        Found::Chunk(entry) => {
+            let numbers = [1, entry.address, entry.size as u64, entry.mask as u64];
+            pick(which, Checked::Passed.refusal(), &numbers)
+        }
+        Found::Absent => refused_number(which, Checked::Passed.refusal(), CHUNK_NAMES),
+        Found::Refused(r) => refused_number(which, r, CHUNK_NAMES),
+    }
+}
