@@ -4,11 +4,11 @@ ghost use mathlib.Core.Path.{_≡_};
 ghost use Rattle.ea_header.specs.Values.{Served};
 use ea_geometry::EaGeometry;
 use ea_geometry::Place;
-use structures::page_bits::page_is_initialized;
 use ea_header::Parameters;
 use libc::STDOUT_FILENO;
 use std::num::wrapping_add_u64;
 use std::num::wrapping_sub_u64;
+use structures::page_bits::page_is_initialized;
 
 // How many places were compared, and how many of them differ.
 struct Tally {

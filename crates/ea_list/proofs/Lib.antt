@@ -1,3 +1,4 @@
 pub mod SlotRuns
+pub mod Walked
 pub mod Lists
 pub mod Calls

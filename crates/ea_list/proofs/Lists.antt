@@ -30,15 +30,14 @@ use Rattle.ea_walk.specs.Given.{arrayFrom, elementsIn}
 use Rattle.ea_walk.proofs.Given.{elements-read}
 use Rattle.ea_walk.proofs.Walks.{walk-right}
 use Rattle.ea_list.specs.Runs.{Walked}
+use Rattle.ea_list.proofs.Walked.{walkedIn, walked-right}
 
 -- records that have room for their number have room for their bytes
 pub walked-fits : (f : List ℕ) (a : ExtensibleArray) (r : ElementReader) (chunk bound down : List ℕ) (l : List Rec) → Walked f a r chunk bound down l
     → (n : ℕ) → length l ≤ n / recordLength (r .rank) → length (listBytes l) ≤ n
 walked-fits f a r chunk bound down l w n le =
-    let e = elementsOf f r (w .by .grid) (w .by .elementBytes) in
     let b = w .by .reads .numbered in
-    list-fits (located (arrayOf f a) e) (b .built) l (walk-right (arrayOf f a) e (w .by .form) l (w .accepts)) n
-    (subst (λ (x : ℕ). length l ≤ n / recordLength x) (b .ranked) le)
+    list-fits (walkedIn w) (b .built) l (walked-right w) n (subst (λ (x : ℕ). length l ≤ n / recordLength x) (b .ranked) le)
 
 module _ (a : Array) (e : Elements) where
   -- a grid's refusal is the list's

@@ -4,7 +4,6 @@ use mathlib.Core.Path.{_≡_}
 use mathlib.Core.List.{List}
 use Rattle.refusal.specs.declared.Checked.the-variants.{Passed}
 use Rattle.refusal.specs.Outcome.{accepted}
-use Rattle.fields.specs.Fields.{widthTest}
 use Rattle.index.specs.Index.{Rec}
 use Rattle.elements.specs.declared.ElementReader.{ElementReader}
 use Rattle.elements.specs.Elements.{Elements}
@@ -15,7 +14,7 @@ use Rattle.ea_geometry.specs.Extents.{formOf}
 use Rattle.ea_geometry.specs.Place.{place}
 use Rattle.ea_blocks.specs.declared.ExtensibleArray.{ExtensibleArray}
 use Rattle.ea_blocks.specs.Array.{Array, arrayOf}
-use Rattle.ea_blocks.specs.Structures.{arrayTest}
+use Rattle.ea_blocks.specs.Values.{IndexInFile}
 use Rattle.ea_blocks.specs.Places.{placeTest}
 use Rattle.ea_walk.specs.Walk.{located, walk}
 use Rattle.ea_walk.specs.Given.{ReadBy}
@@ -25,12 +24,10 @@ pub record Walked (file : List ℕ) (a : ExtensibleArray) (r : ElementReader) (c
   pub by : ReadBy a r chunk bound down
   pub accepts : walk (arrayOf file a) (elementsOf file r (by .grid) (by .elementBytes)) ≡ accepted l
 
--- Slot s is one of an accepted walk: the way into the array has passed, its addresses have a width, and the structures that lead to the
--- slot's place have passed their tests.
-pub record TestedTo (a : Array) (s : ℕ) : Type 0 where
-  pub array : arrayTest a ≡ Passed
-  pub wide : widthTest 1 (a .offsetSize) ≡ Passed
-  pub place : placeTest a (place (a .parameters) s) ≡ Passed
+-- The array's index block lies in the file, and the structures that lead to the place of slot s have passed their tests.
+pub record TestedTo (file : List ℕ) (a : ExtensibleArray) (s : ℕ) : Type 0 where
+  pub index : IndexInFile file a
+  pub tests : placeTest (arrayOf file a) (place (a .geometry .parameters) s) ≡ Passed
 
 -- The slots from s on are such a run, whatever elements of the array's form its file holds.
 abbrev pub RunIn : Array → ℕ → Run → Type 0

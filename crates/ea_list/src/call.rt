@@ -51,5 +51,12 @@ pub fn list_at(
     if let Checked::Refused(r) = checked {
         return Counted::Refused(r);
     }
-    read_extensible_array_chunks(file, read.header, read.grid, element_bytes, offset_size, list)
+    read_extensible_array_chunks(
+        file,
+        read.header,
+        read.grid,
+        element_bytes,
+        offset_size,
+        list,
+    )
 }

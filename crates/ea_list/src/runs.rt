@@ -14,7 +14,7 @@ use located::Run;
 
 // The run that a slot begins, where the path to it is accepted.
 pub fn run_of(file: &[u8], array: ExtensibleArray, slot: u64) -> Run
-    requires { ⌜ TestedTo (arrayOf (now file) array) slot ⌝ }
+    requires { ⌜ TestedTo (now file) array slot ⌝ }
     ensures { λ r. ⌜ RunIn (arrayOf (now (file .entry)) array) slot r ⌝ }
 {
     match array.geometry.place_of(slot) {
@@ -41,7 +41,7 @@ pub fn run_of(file: &[u8], array: ExtensibleArray, slot: u64) -> Run
 // The run of a slot that is element i of data block k of super block u: a gap up to the next super block or data block,
 // where the pointer to its own is undefined.
 fn block_run(file: &[u8], array: ExtensibleArray, slot: u64, u: u64, k: u64, i: u64) -> Run
-    requires { ⌜ TestedTo (arrayOf (now file) array) slot × InBlock (array .geometry .parameters) slot u k i ⌝ }
+    requires { ⌜ TestedTo (now file) array slot × InBlock (array .geometry .parameters) slot u k i ⌝ }
     ensures { λ r. ⌜ RunIn (arrayOf (now (file .entry)) array) slot r ⌝ }
 {
     let geometry = array.geometry;
@@ -70,7 +70,7 @@ fn run_in_block(
     super_at: u64,
     at: u64,
 ) -> Run
-    requires { ⌜ TestedTo (arrayOf (now file) array) slot × InBlock (array .geometry .parameters) slot u k i
+    requires { ⌜ TestedTo (now file) array slot × InBlock (array .geometry .parameters) slot u k i
         × EnteredSuper (arrayOf (now file) array) u (At «super_at») × EnteredBlock (arrayOf (now file) array) u k (At at) ⌝ }
     ensures { λ r. ⌜ RunIn (arrayOf (now (file .entry)) array) slot r ⌝ }
 {

@@ -37,18 +37,7 @@ pub fn write_walk(
                 slot += below_count(slots, slot, reader.count);
             }
             Run::Elements { pos, slots } => {
-                at = write_elements(
-                    list,
-                    at,
-                    file,
-                    pos,
-                    slots,
-                    slot,
-                    reader,
-                    chunk,
-                    bound,
-                    down,
-                );
+                at = write_elements(list, at, file, pos, slots, slot, reader, chunk, bound, down);
                 slot += below_count(slots, slot, reader.count);
             }
         }

@@ -58,9 +58,12 @@ module _ (c : Call) (corner : List ℕ) where
     abbrev e : Elements
     e = elementsIn (c .file) (r .header) (c .offsetSize) (gridOf (r .grid)) (c .elementBytes)
 
-    pub called-passed : r .checked ≡ Passed → (found : Found) → found ≡ foundOf (lookup a e corner)
-        → Agreed (list a e) (gridOf (r .grid)) corner found → Called found
+    pub called-passed : r .checked ≡ Passed → (found : Found) (at : List ℕ) → at ≡ corner → found ≡ foundOf (lookup a e at)
+        → Agreed (list a e) (gridOf (r .grid)) at found → Called found
     unfolding callElements
-    called-passed t found f g =
-        let own = read-own c r k (λ (x : Array) (y : Elements). (found ≡ foundOf (lookup x y corner)) × Agreed (list x y) (y .grid) corner found) t (f, g) in
+    called-passed t found at j f g =
+        let own = read-own c r k P t (rw j at f, rw j at g) in
         called found (own .0 ∙ sym (ap foundOf (read-passed c r k _ t))) (λ p. own .1)
+      where
+        P : Array → Elements → Type 0
+        P x y = (found ≡ foundOf (lookup x y corner)) × Agreed (list x y) (y .grid) corner found

@@ -1,4 +1,5 @@
--- What an accepted lookup says, and that it agrees with an accepted list; what the code's steps come to. Assumes nothing.
+-- What an accepted lookup says, that it agrees with an accepted list, and what the code's steps come to.
+-- Assumes nothing.
 use Prim.Native.Nat.{ℕ, _<_, _≤_}
 use mathlib.Core.Path.{_≡_, refl, sym, ap, _∙_}
 use mathlib.Core.Bool.{true}

@@ -21,8 +21,8 @@ foundOf (accepted (some r)) = Chunk (r .entry)
 abbrev pub Answered : Outcome (Option Rec) → Index → List ℕ → Found → Type 0
 Answered a i corner found = (x : Option Rec) → a ≡ accepted x → (found ≡ foundOf (accepted x)) × Answers i corner x
 
--- Where the list is accepted, lookup of any chunk refuses nothing and gives that chunk's record, or absent where the list
--- has none. Rank 1 to 32.
+-- Where the list is accepted, lookup of any chunk refuses nothing and gives that chunk's record, or absent where the
+-- list has none. Rank 1 to 32.
 abbrev pub Agreed : Listing → Grid → List ℕ → Found → Type 0
 Agreed listing g corner found =
     (l : List Rec) → 0 < g .rank → listing ≡ accepted l → isChunk g corner ≡ true

@@ -69,7 +69,7 @@ fn block_path(file: &[u8], array: ExtensibleArray, u: u64, k: u64, i: u64) -> En
     element_in_block(file, array, u, k, i, super_at, at)
 }
 
-// The end of that path, in a data block that lies at `at` and whose super block lies at super_at: at the element, in its
+// The end of that path, in a data block that lies at `at` and whose super block lies at super_at: the element, in its
 // page where the block is read by pages.
 fn element_in_block(
     file: &[u8],

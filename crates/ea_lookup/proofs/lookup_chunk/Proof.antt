@@ -50,7 +50,8 @@ passed c = sym (made (c .before .before)) ∙ c .enum-told .given .1
 
 tested : (c : tie.After-enum-told)
     → let s = begin (c .before .before) in
-    (gridTest (gridOf (s .args .grid)) ≡ Passed) × (length (s .args .corner .now) ≡ gridOf (s .args .grid) .rank) × (arrayTest (array s) ≡ Passed)
+    (gridTest (gridOf (s .args .grid)) ≡ Passed) × (length (s .args .corner .now) ≡ gridOf (s .args .grid) .rank)
+    × (arrayTest (array s) ≡ Passed)
 tested c = let s = begin (c .before .before) in tests-passed (array s) (elements s) (s .args .corner .now) (passed c)
 
 -- what the grid's slots are numbered by
@@ -110,7 +111,8 @@ returns-2 c =
     let t = f .before .before .before .before .before .before in
     let s = begin (t .before .before) in
     let x = cornered t in
-    let e = elements-read (s .args .file .now) (s .args .header) (s .args .offset-size) (n .new .result) (gridOf (s .args .grid)) (s .args .element-bytes)
+    let a = s .args in
+    let e = elements-read (a .file .now) (a .header) (a .offset-size) (n .new .result) (gridOf (a .grid)) (a .element-bytes)
     (n .new .ensures .0 ∙ f .form .ensures) (n .new .ensures .1) in
     found-by _ _ _ _ refl (fits s)
     (c .slot-path .ensures _ _ (reads n) ∙ ap (λ (y : Elements). foundOf (slotPath (located (array s) y) (f .before .slot-of .result))) e

@@ -1,96 +1,97 @@
+-- `ea_list::runs::block_run` meets its contract. Assumes nothing.
+use Prim.Native.Nat.{_+_, _≤_}
+use mathlib.Core.Path.{_≡_, refl, sym, _∙_}
+use mathlib.Core.Logic.{inl, ⊎-elim}
+use native.Mathlib.Omega.{arith}
+use Rattle.ea_geometry.proofs.Counts.{supers-few}
+use Rattle.ea_geometry.proofs.Places.{in-super-block}
+use Rattle.ea_blocks.specs.declared.enter.Entered.the-variants.{At}
+use Rattle.ea_blocks.specs.Array.{arrayOf}
+use Rattle.ea_blocks.specs.Entered.{EnteredSuper}
+use Rattle.ea_blocks.proofs.StructureTests.{is-direct, not-direct}
+use Rattle.ea_blocks.proofs.PointerValues.{pointer-undefined, pointer-at}
+use Rattle.ea_blocks.proofs.Entering.{entered-at, entered-super-room}
+use Rattle.ea_list.proofs.SlotRuns.{super-gap, super-entered, block-gap, block-entered}
 use borrow.Author.Needs.{needs}
 use Rattle.ea_list.proofs.runs.block_run.Statement.{statement}
 use Rattle.ea_list.proofs.runs.block_run.Tie as tie
-use Rattle.ea_list.proofs.runs.block_run.Reads as reads
-use Rattle.ea_list.proofs.runs.block_run.Lts as lts
-use Rattle.ea_blocks.proofs.pointers.block_pointer.Reads as block-pointer-reads
-use Rattle.ea_blocks.proofs.pointers.super_pointer.Reads as super-pointer-reads
-use Rattle.ea_geometry.proofs.EaGeometry.block_elements.Reads as block-elements-reads
-use Rattle.ea_geometry.proofs.EaGeometry.direct_super_blocks.Reads as direct-super-blocks-reads
-use Rattle.ea_geometry.proofs.EaGeometry.first_slot.Reads as first-slot-reads
-use Rattle.ea_list.proofs.runs.run_in_block.Reads as run-in-block-reads
 
--- src/runs.rt:49:8
-direct-super-blocks-requires : tie.Need-direct-super-blocks-requires
-direct-super-blocks-requires c κs = ?
+abbrev start : tie.After-direct-super-blocks → tie.Start
+start c = c .before .before .before
 
--- src/runs.rt:50:31
 super-pointer-requires : tie.Need-super-pointer-requires
-super-pointer-requires c κs = ?
+super-pointer-requires c κs =
+    let p = start (c .before) .pre in
+    (omega (arith, c .before .direct-super-blocks .ensures), p .1 .super, p .0 .index)
 
--- src/runs.rt:50:25
-enum-known-at : tie.Need-enum-known-at
-enum-known-at c = search needs
-
--- src/runs.rt:51:49
-enum-told : tie.Need-enum-told
-enum-told c = search needs
-
--- src/runs.rt:51:49
 add-first-slot : tie.Need-add-first-slot
-add-first-slot c = ?
+add-first-slot c =
+    let p = start (c .before .before .before .before) .pre in
+    omega (arith, supers-few _ (p .0 .index .bounded .served), p .1 .super)
 
--- src/runs.rt:51:29
-first-slot-requires : tie.Need-first-slot-requires
-first-slot-requires c κs = ?
-
--- src/runs.rt:51:29
 sub-t16 : tie.Need-sub-t16
-sub-t16 c = ?
+sub-t16 c =
+    let p = start (c .before .before .before .before .before) .pre in
+    let x = in-super-block _ (p .0 .index .bounded .served) _ _ _ _ (p .1) in
+    rw (c .first-slot .ensures) (omega arith)
 
--- src/runs.rt:51:13
 returns : tie.Need-returns
-returns c = ?
+returns c =
+    let e = c .before in
+    let t = e .before .before .before in
+    let p = start (t .before) .pre in
+    super-gap _ _ _ (p .0) _ _ _ (p .1) (not-direct _ _ (omega (arith, t .before .direct-super-blocks .ensures, t .if1 .taken)))
+    (pointer-undefined _ _ (sym (e .enum-told .given .1) ∙ e .before .before .super-pointer .ensures)) _ (rw (c .first-slot .ensures) refl)
 
--- src/runs.rt:55:27
+-- where both ways meet
+super : (c : tie.Joined1) → let a = start (c .before) .args in EnteredSuper (arrayOf (a .file .now) (a .array)) (a .u) (At (c .if1 .super-at))
+super c =
+    let p = start (c .before) .pre in
+    let d = c .before .direct-super-blocks .ensures in
+    ⊎-elim
+    (λ w.
+    let q = pointer-at _ _ _ (sym (w .3 .given .1) ∙ w .1 .ensures) in
+    super-entered _ _ _ (p .0) _ _ _ (p .1) _ (not-direct _ _ (omega (arith, d, w .0 .taken))) (q .0) (w .5 ∙ q .1))
+    (λ w. inl (is-direct _ _ (omega (arith, d, w .0 .left))))
+    (c .if1 .came)
+
 block-pointer-requires : tie.Need-block-pointer-requires
-block-pointer-requires c κs = ?
+block-pointer-requires c κs =
+    let p = start (c .before) .pre in
+    record { super = p .1 .super; block = p .1 .block; index = p .0 .index; inside = entered-super-room _ _ _ (super c) }
 
--- src/runs.rt:55:21
-enum-known-at-2 : tie.Need-enum-known-at-2
-enum-known-at-2 c = search needs
-
--- src/runs.rt:56:25
-enum-told-2 : tie.Need-enum-told-2
-enum-told-2 c = search needs
-
--- src/runs.rt:56:25
-block-elements-requires : tie.Need-block-elements-requires
-block-elements-requires c κs = ?
-
--- src/runs.rt:56:25
-sub-t19 : tie.Need-sub-t19
-sub-t19 c = search needs
-
--- src/runs.rt:56:9
 returns-2 : tie.Need-returns-2
-returns-2 c = ?
+returns-2 c =
+    let b = c .before .before .before in
+    let p = start (b .before .before) .pre in
+    rw (c .block-elements .ensures)
+    (block-gap _ _ _ (p .0) _ _ _ (p .1) _ (super (b .before))
+    (pointer-undefined _ _ (sym (c .before .enum-told2 .given .1) ∙ b .block-pointer .ensures (entered-at _ _ _ (super (b .before))))))
 
--- src/runs.rt:58:5
 run-in-block-requires : tie.Need-run-in-block-requires
-run-in-block-requires c κs = ?
-
--- src/runs.rt:43:1
-returns-3 : tie.Need-returns-3
-returns-3 c = search needs
+run-in-block-requires c κs =
+    let b = c .before .before .before in
+    let p = start (b .before .before) .pre in
+    let q = pointer-at _ _ _ (sym (c .before .at2 .given .1) ∙ b .block-pointer .ensures (entered-at _ _ _ (super (b .before)))) in
+    (p .0, p .1, super (b .before), block-entered _ _ _ (p .0) _ _ _ (p .1) _ (super (b .before)) _ (q .0) (q .1))
 
 pub block-run-spec : {M : Type 1} → statement M
 block-run-spec =
     tie.close
     (tie.spec
-    direct-super-blocks-requires
+    (search needs)
     super-pointer-requires
-    enum-known-at
-    enum-told
+    (search needs)
+    (search needs)
     add-first-slot
-    first-slot-requires
+    (search needs)
     sub-t16
     returns
     block-pointer-requires
-    enum-known-at-2
-    enum-told-2
-    block-elements-requires
-    sub-t19
+    (search needs)
+    (search needs)
+    (search needs)
+    (search needs)
     returns-2
     run-in-block-requires
-    returns-3)
+    (λ c. c .run-in-block .ensures))

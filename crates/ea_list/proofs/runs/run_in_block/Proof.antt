@@ -1,89 +1,120 @@
+-- `ea_list::runs::run_in_block` meets its contract. Assumes nothing.
+use Prim.Native.Nat.{_+_, _-_, _/_, _%_, _<_, _≤_}
+use mathlib.Core.Path.{_≡_, refl, sym, ap, _∙_}
+use mathlib.Core.Bool.{true}
+use native.Mathlib.Nat.{mod-lt}
+use native.Mathlib.Omega.{arith}
+use borrow.Author.Tests.{not-true, not-false}
+use lib.Pow.{pow-pos}
+use Rattle.located.specs.declared.Run.the-variants.{Gap, Elements}
+use Rattle.ea_geometry.specs.Bounded.{mostElements}
+use Rattle.ea_geometry.specs.Sizes.{blockElements, pageElements}
+use Rattle.ea_geometry.specs.Extents.{blockElementAt, pagedElementAt}
+use Rattle.ea_geometry.specs.Place.{inPages}
+use Rattle.ea_geometry.proofs.Counts.{elements-few}
+use Rattle.ea_geometry.proofs.Places.{page-below, paged-behind}
+use Rattle.ea_blocks.specs.Array.{arrayOf}
+use Rattle.ea_blocks.specs.Structures.{pageSet}
+use Rattle.ea_blocks.proofs.StructureTests.{not-direct}
+use Rattle.ea_blocks.proofs.Entering.{entered-at, entered-super-room}
+use Rattle.ea_list.specs.Runs.{RunIn}
+use Rattle.ea_list.proofs.SlotRuns.{run-room, block-run, page-gap, page-run}
 use borrow.Author.Needs.{needs}
 use Rattle.ea_list.proofs.runs.run_in_block.Statement.{statement}
 use Rattle.ea_list.proofs.runs.run_in_block.Tie as tie
-use Rattle.ea_list.proofs.runs.run_in_block.Reads as reads
-use Rattle.ea_list.proofs.runs.run_in_block.Lts as lts
-use Rattle.ea_blocks.proofs.pointers.page_set.Reads as page-set-reads
-use Rattle.ea_geometry.proofs.EaGeometry.block_element_at.Reads as block-element-at-reads
-use Rattle.ea_geometry.proofs.EaGeometry.block_elements.Reads as block-elements-reads
-use Rattle.ea_geometry.proofs.EaGeometry.in_pages.Reads as in-pages-reads
-use Rattle.ea_geometry.proofs.EaGeometry.page_elements.Reads as page-elements-reads
-use Rattle.ea_geometry.proofs.EaGeometry.paged_element_at.Reads as paged-element-at-reads
 
--- src/runs.rt:78:9
-in-pages-requires : tie.Need-in-pages-requires
-in-pages-requires c κs = ?
+abbrev start : tie.After-in-pages → tie.Start
+start c = c .before .before .before
 
--- src/runs.rt:79:24
+few : (c : tie.Start) → c .args .i ≤ mostElements
+few c = let b = c .pre .1 in omega (arith, elements-few _ (c .pre .0 .index .bounded .served) _ (b .super), b .element)
+
 block-element-at-requires : tie.Need-block-element-at-requires
-block-element-at-requires c κs = ?
+block-element-at-requires c κs = let s = start (c .before) in (few s, s .pre .0 .index .bounded)
 
--- src/runs.rt:79:19
+-- in a block that is read unpaged
+unpaged : (c : tie.Then1)
+    → let a = start (c .before) .args in
+    let h = a .array .geometry .parameters in
+    RunIn (arrayOf (a .file .now) (a .array)) (a .slot) (Elements (a .at + blockElementAt h (a .array .geometry .«offset_size») (a .i)) (blockElements h (a .u) - a .i))
+unpaged c =
+    let p = start (c .before) .pre in
+    block-run _ _ _ (p .0) _ _ _ (p .1) _ (p .2) _ (p .3) (sym (c .before .in-pages .ensures) ∙ not-true _ (c .if1 .taken))
+
 add-pos : tie.Need-add-pos
-add-pos c = ?
+add-pos c = let x = run-room _ _ _ _ (unpaged (c .before)) in rw (c .block-element-at .ensures) (omega arith)
 
--- src/runs.rt:80:21
-block-elements-requires : tie.Need-block-elements-requires
-block-elements-requires c κs = ?
-
--- src/runs.rt:80:21
-sub-slots : tie.Need-sub-slots
-sub-slots c = search needs
-
--- src/runs.rt:81:9
 returns : tie.Need-returns
-returns c = ?
+returns c = rw (c .before .block-element-at .ensures, c .block-elements .ensures) (unpaged (c .before .before))
 
--- src/runs.rt:83:9
-page-elements-requires : tie.Need-page-elements-requires
-page-elements-requires c κs = ?
+-- in one that is read by pages: its pages, and whether its own is set
+paged : (c : tie.Else1) → inPages (start (c .before) .args .array .geometry .parameters) (start (c .before) .args .u) ≡ true
+paged c = sym (c .before .in-pages .ensures) ∙ not-false _ (c .if1 .left)
 
--- src/runs.rt:84:24
-rem-slots : tie.Need-rem-slots
-rem-slots c = ?
+some : (c : tie.After-page-elements) → 0 < c .page-elements .result
+unfolding pageElements
+some c = rw (c .page-elements .ensures) (pow-pos _)
 
--- src/runs.rt:84:17
-sub-slots-2 : tie.Need-sub-slots-2
-sub-slots-2 c = ?
-
--- src/runs.rt:85:47
-div-page-set : tie.Need-div-page-set
-div-page-set c = ?
-
--- src/runs.rt:85:9
 page-set-requires : tie.Need-page-set-requires
-page-set-requires c κs = ?
+page-set-requires c κs =
+    let p = start (c .before .before) .pre in
+    let q = paged (c .before) in
+    record {
+      super = p .1 .super;
+      block = p .1 .block;
+      page = rw (c .page-elements .ensures) (page-below _ (p .0 .index .bounded .served) _ _ (p .1 .super) q (p .1 .element));
+      bounded = p .0 .index .bounded;
+      paged = q;
+      inside = entered-super-room _ _ _ (p .2) (paged-behind _ _ q);
+    }
 
--- src/runs.rt:86:9
+set-is : (c : tie.After-page-set)
+    → let a = start (c .before .before .before) .args in
+    pageSet (arrayOf (a .file .now) (a .array)) (a .u) (a .k) (a .i / pageElements (a .array .geometry .parameters)) ≡ c .page-set .result
+set-is c =
+    let q = paged (c .before .before) in
+    rw (← c .before .page-elements .ensures)
+    (sym (c .page-set .ensures (entered-at _ _ _ (start (c .before .before .before) .pre .2) (not-direct _ _ (paged-behind _ _ q)))))
+
 returns-2 : tie.Need-returns-2
-returns-2 c = ?
+returns-2 c =
+    let e = c .before .before in
+    let p = start (e .before .before) .pre in
+    rw (e .page-elements .ensures)
+    (page-gap _ _ _ (p .0) _ _ _ (p .1) _ (p .2) _ (p .3) (paged (e .before)) (set-is (c .before) ∙ not-true _ (c .if2 .taken)))
 
--- src/runs.rt:88:20
 paged-element-at-requires : tie.Need-paged-element-at-requires
-paged-element-at-requires c κs = ?
+paged-element-at-requires c κs = let s = start (c .before .before .before .before) in (few s, s .pre .0 .index .bounded)
 
--- src/runs.rt:88:15
+in-page : (c : tie.Else2)
+    → let a = start (c .before .before .before .before) .args in
+    let h = a .array .geometry .parameters in
+    RunIn (arrayOf (a .file .now) (a .array)) (a .slot) (Elements (a .at + pagedElementAt h (a .array .geometry .«offset_size») (a .i)) (pageElements h - a .i % pageElements h))
+in-page c =
+    let e = c .before .before in
+    let p = start (e .before .before) .pre in
+    page-run _ _ _ (p .0) _ _ _ (p .1) _ (p .2) _ (p .3) (paged (e .before)) (set-is (c .before) ∙ not-false _ (c .if2 .left))
+
 add-pos-2 : tie.Need-add-pos-2
-add-pos-2 c = ?
+add-pos-2 c = let x = run-room _ _ _ _ (in-page (c .before)) in rw (c .paged-element-at .ensures) (omega arith)
 
--- src/runs.rt:63:1
 returns-3 : tie.Need-returns-3
-returns-3 c = ?
+returns-3 c = rw (c .paged-element-at .ensures, c .before .before .before .page-elements .ensures) (in-page (c .before))
 
 pub run-in-block-spec : {M : Type 1} → statement M
 run-in-block-spec =
     tie.close
     (tie.spec
-    in-pages-requires
+    (search needs)
     block-element-at-requires
     add-pos
-    block-elements-requires
-    sub-slots
+    (search needs)
+    (search needs)
     returns
-    page-elements-requires
-    rem-slots
-    sub-slots-2
-    div-page-set
+    (search needs)
+    (λ c. let x = some c in omega arith)
+    (λ c. let x = mod-lt (start (c .before .before) .args .i) (some c) in omega arith)
+    (λ c. let x = some c in omega arith)
     page-set-requires
     returns-2
     paged-element-at-requires

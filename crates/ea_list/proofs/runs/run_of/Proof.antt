@@ -1,88 +1,76 @@
+-- `ea_list::runs::run_of` meets its contract. Assumes nothing.
+use mathlib.Core.Path.{_≡_, refl, sym, subst, _∙_}
+use native.Mathlib.Omega.{arith}
+use Rattle.ea_geometry.specs.declared.Place.{Place}
+use Rattle.ea_geometry.specs.Slots.{PlaceOf}
+use Rattle.ea_geometry.proofs.Places.{place-of}
+use Rattle.ea_list.proofs.SlotRuns.{run-room, inline-run, nowhere-run}
 use borrow.Author.Needs.{needs}
 use Rattle.ea_list.proofs.runs.run_of.Statement.{statement}
 use Rattle.ea_list.proofs.runs.run_of.Tie as tie
-use Rattle.ea_list.proofs.runs.run_of.Reads as reads
-use Rattle.ea_list.proofs.runs.run_of.Lts as lts
-use Rattle.ea_geometry.proofs.EaGeometry.inline_element_at.Reads as inline-element-at-reads
-use Rattle.ea_geometry.proofs.EaGeometry.place_of.Reads as place-of-reads
-use Rattle.ea_list.proofs.runs.block_run.Reads as block-run-reads
 
--- src/runs.rt:20:11
-place-of-requires : tie.Need-place-of-requires
-place-of-requires c κs = ?
+-- the place that was found is the slot's
+placed : (c : tie.After-place-of) {p : Place} → c .place-of .result ≡ p
+    → PlaceOf (c .before .before .args .array .geometry .parameters) (c .before .before .args .slot) p
+placed c e = subst (PlaceOf _ _) (sym (c .place-of .ensures) ∙ e) (place-of _ (c .before .before .pre .index .bounded .served) _)
 
--- src/runs.rt:21:23
-enum-known-i : tie.Need-enum-known-i
-enum-known-i c = search needs
-
--- src/runs.rt:22:35
 inline-element-at-requires : tie.Need-inline-element-at-requires
-inline-element-at-requires c κs = ?
+unfolding PlaceOf
+inline-element-at-requires c κs =
+    let p = c .before .before .before in
+    (omega (arith, placed p (c .before .i .given .1)), p .before .before .pre .index .bounded)
 
--- src/runs.rt:22:18
 add-t14 : tie.Need-add-t14
-add-t14 c = ?
+unfolding PlaceOf
+add-t14 c =
+    let i = c .before .before .before in
+    let p = i .before .before in
+    let q = placed p (i .i .given .1) in
+    let x = run-room _ _ _ _ (inline-run _ _ _ (p .before .before .pre) (omega (arith, q))) in
+    rw (c .before .inline-element-at .ensures, sym (q .0)) (omega arith)
 
--- src/runs.rt:23:20
-cast-t15 : tie.Need-cast-t15
-cast-t15 c = search needs
-
--- src/runs.rt:23:20
 sub-t16 : tie.Need-sub-t16
-sub-t16 c = ?
+unfolding PlaceOf
+sub-t16 c = let i = c .before .before .before .before in omega (arith, placed (i .before .before) (i .i .given .1))
 
--- src/runs.rt:26:13
-enum-known-super-block : tie.Need-enum-known-super-block
-enum-known-super-block c = search needs
-
--- src/runs.rt:29:14
 block-run-requires : tie.Need-block-run-requires
-block-run-requires c κs = ?
+unfolding PlaceOf
+block-run-requires c κs = let p = c .before .before .before in (p .before .before .pre, placed p (c .before .super-block .given .1) .0)
 
--- src/runs.rt:31:13
-enum-known-super-block-2 : tie.Need-enum-known-super-block-2
-enum-known-super-block-2 c = search needs
-
--- src/runs.rt:36:14
 block-run-requires-2 : tie.Need-block-run-requires-2
-block-run-requires-2 c κs = ?
+unfolding PlaceOf
+block-run-requires-2 c κs = let p = c .before .before .before in (p .before .before .pre, placed p (c .before .super-block2 .given .1) .0)
 
--- src/runs.rt:37:27
-enum-told : tie.Need-enum-told
-enum-told c = search needs
-
--- src/runs.rt:16:1
 returns : tie.Need-returns
-returns c = ?
+unfolding PlaceOf
+returns c =
+    let i = c .before .before .before .before in
+    let p = i .before .before in
+    let q = placed p (i .i .given .1) in
+    rw (c .before .before .inline-element-at .ensures, sym (q .0)) (inline-run _ _ _ (p .before .before .pre) (omega (arith, q)))
 
--- src/runs.rt:16:1
-returns-2 : tie.Need-returns-2
-returns-2 c = search needs
-
--- src/runs.rt:16:1
-returns-3 : tie.Need-returns-3
-returns-3 c = search needs
-
--- src/runs.rt:16:1
 returns-4 : tie.Need-returns-4
-returns-4 c = ?
+unfolding PlaceOf
+returns-4 c =
+    let p = c .before .before in
+    nowhere-run _ _ _ (p .before .before .pre) _ (omega arith) (placed p (c .enum-told .given .1))
 
 pub run-of-spec : {M : Type 1} → statement M
 run-of-spec =
     tie.close
     (tie.spec
-    place-of-requires
-    enum-known-i
+    (search needs)
+    (search needs)
     inline-element-at-requires
     add-t14
-    cast-t15
+    (search needs)
     sub-t16
-    enum-known-super-block
+    (search needs)
     block-run-requires
-    enum-known-super-block-2
+    (search needs)
     block-run-requires-2
-    enum-told
+    (search needs)
     returns
-    returns-2
-    returns-3
+    (λ c. c .block-run .ensures)
+    (λ c. c .block-run2 .ensures)
     returns-4)

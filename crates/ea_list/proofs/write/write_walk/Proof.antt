@@ -1,76 +1,99 @@
+-- `ea_list::write::write_walk` meets its contract. Assumes nothing.
+use Prim.Native.Nat.{_+_, _-_, _≤_, min}
+use mathlib.Core.Path.{_≡_, refl, subst}
+use mathlib.Core.List.{List}
+use native.Mathlib.Omega.{arith}
+use lib.ListN.{length}
+use lib.Seq.{length-sets}
+use Rattle.index.specs.Index.{Rec}
+use Rattle.records.specs.Records.{listBytes}
+use Rattle.located.specs.declared.Run.{Run}
+use Rattle.located.specs.Runs.{RunOf}
+use Rattle.located.proofs.Written.{Written, written-first, written-done, written-gap, written-fits, run-accepted, written-run}
+use Rattle.ea_list.specs.Runs.{Walked}
+use Rattle.ea_list.proofs.Walked.{walkedIn, walked-right, walked-to}
+use borrow.Author.Needs.{needs}
 use Rattle.ea_list.proofs.write.write_walk.Statement.{statement}
 use Rattle.ea_list.proofs.write.write_walk.Tie as tie
-use Rattle.ea_list.proofs.write.write_walk.Reads as reads
-use Rattle.ea_list.proofs.write.write_walk.Lts as lts
-use Rattle.ea_list.proofs.runs.run_of.Reads as run-of-reads
-use Rattle.element_runs.proofs.count.below_count.Reads as below-count-reads
-use Rattle.records.proofs.write_elements.Reads as write-elements-reads
 
 abbrev Inv-loop : tie.InvT-loop
-Inv-loop list₀ file array reader chunk bound down at₀ slot₀ list at slot = ?
+Inv-loop list₀ file array reader chunk bound down at₀ slot₀ list at slot =
+    (slot ≤ reader .count)
+    × (length list ≡ length list₀)
+    × ((l : List Rec) (w : Walked file array reader chunk bound down l) → Written (walkedIn w) l list₀ list at slot)
 
 abbrev μ-loop : tie.MeasureT-loop
-μ-loop list₀ file array reader chunk bound down at₀ slot₀ list at slot = ?
+μ-loop list₀ file array reader chunk bound down at₀ slot₀ list at slot = reader .count - slot
 
--- src/write.rt:34:5
 loop-holds : tie.Need-loop-holds Inv-loop μ-loop
-loop-holds c = ?
+loop-holds c = (omega arith, refl, λ l w. written-first _ (walked-right w))
 
--- src/write.rt:35:15
+abbrev start : tie.At-loop Inv-loop μ-loop → tie.Start Inv-loop μ-loop
+start c = c .before .before .before
+
+-- the array was walked before
+abbrev Before : tie.At-loop Inv-loop μ-loop → List Rec → Type 0
+Before c = let a = start c .args in Walked (a .file .now) (a .array) (a .reader) (a .chunk .now) (a .bound .now) (a .down .now)
+
 run-of-requires : tie.Need-run-of-requires Inv-loop μ-loop
-run-of-requires c κs = ?
+run-of-requires c κs = walked-to (start (c .before .before) .pre .1) _ (c .if1 .taken)
 
--- src/write.rt:36:22
-enum-known-slots : tie.Need-enum-known-slots Inv-loop μ-loop
-enum-known-slots c = ?
+abbrev loopOf : tie.After-run-of Inv-loop μ-loop → tie.At-loop Inv-loop μ-loop
+loopOf c = c .before .before .before
 
--- src/write.rt:37:25
-below-count-requires : tie.Need-below-count-requires Inv-loop μ-loop
-below-count-requires c κs = ?
+-- the run that was found is the slot's
+found : (c : tie.After-run-of Inv-loop μ-loop) {q : Run} → c .run-of .result ≡ q → (l : List Rec) (w : Before (loopOf c) l) → RunOf (walkedIn w) (loopOf c .loop .slot) q
+found c e l w = subst (RunOf (walkedIn w) (loopOf c .loop .slot)) e (c .run-of .ensures _ refl (w .by .form))
 
--- src/write.rt:37:17
-add-slot : tie.Need-add-slot Inv-loop μ-loop
-add-slot c = ?
-
--- src/write.rt:34:5
 loop-less : tie.Need-loop-less Inv-loop μ-loop
-loop-less c = ?
+loop-less c =
+    let r = c .before .before .before .before in
+    let k = found r (c .before .before .slots .given .1) _ (start (loopOf r) .pre .1) in
+    omega (arith, c .below-count .ensures, r .before .if1 .taken, k .0)
 
--- src/write.rt:34:5
 loop-again : tie.Need-loop-again Inv-loop μ-loop
-loop-again c = ?
+loop-again c =
+    let r = c .before .before .before .before in
+    let i = loopOf r .loop .inv in (
+      omega (arith, c .below-count .ensures),
+      i .1,
+      λ l w. written-gap (i .2 l w) _ _ (c .below-count .ensures) (found r (c .before .before .slots .given .1) l w),
+    )
 
--- src/write.rt:39:29
-enum-known-pos : tie.Need-enum-known-pos Inv-loop μ-loop
-enum-known-pos c = ?
-
--- src/write.rt:40:17
 write-elements-requires : tie.Need-write-elements-requires Inv-loop μ-loop
-write-elements-requires c κs = ?
+write-elements-requires c κs =
+    let r = c .before .before .before .before in
+    let p = start (loopOf r) .pre in
+    let i = loopOf r .loop .inv in
+    let k = found r (c .before .before .pos .given .1) _ (p .1) in
+    let f = written-fits (i .2 _ (p .1)) (min (c .before .before .pos .given .0 .1 .0) (start (loopOf r) .args .reader .count - loopOf r .loop .slot)) (omega arith) in
+    ((_, _, _, p .1 .by .reads, run-accepted (walked-right (p .1)) _ _ _ _ k refl, omega (arith, f, p .2, i .1)), k .1)
 
--- src/write.rt:52:25
-below-count-requires-2 : tie.Need-below-count-requires-2 Inv-loop μ-loop
-below-count-requires-2 c κs = ?
+-- the run with the records that were written
+abbrev ran : tie.After-write-elements Inv-loop μ-loop → tie.After-run-of Inv-loop μ-loop
+ran c = c .before .before .before .before .before
 
--- src/write.rt:52:17
-add-slot-2 : tie.Need-add-slot-2 Inv-loop μ-loop
-add-slot-2 c = ?
-
--- src/write.rt:34:5
 loop-less-2 : tie.Need-loop-less-2 Inv-loop μ-loop
-loop-less-2 c = ?
+loop-less-2 c =
+    let r = ran (c .before .before .before) in
+    let k = found r (c .before .before .before .before .before .before .pos .given .1) _ (start (loopOf r) .pre .1) in
+    omega (arith, c .below-count2 .ensures, r .before .if1 .taken, k .0)
 
--- src/write.rt:34:5
 loop-again-2 : tie.Need-loop-again-2 Inv-loop μ-loop
-loop-again-2 c = ?
+loop-again-2 c =
+    let w = c .before .before .before in
+    let r = ran w in
+    let p = start (loopOf r) .pre in
+    let i = loopOf r .loop .inv in
+    let e = w .before .before .before .pos .given .1 in
+    let q = w .write-elements .ensures _ _ _ (p .1 .by .reads) (run-accepted (walked-right (p .1)) _ _ _ _ (found r e _ (p .1)) refl) in (
+      omega (arith, c .below-count2 .ensures),
+      rw (q .0) (simp length-sets (i .1)),
+      λ l z. written-run (i .2 l z) (walked-right z) _ _ _ (c .below-count2 .ensures) (found r e l z) _ _ (λ k h. w .write-elements .ensures _ _ k (z .by .reads) h),
+    )
 
--- src/write.rt:18:1
-same-length : tie.Need-same-length Inv-loop μ-loop
-same-length c = ?
-
--- src/write.rt:18:1
 returns : tie.Need-returns Inv-loop μ-loop
-returns c = ?
+returns c = λ l w. written-done (c .before .before .loop .inv .2 l w) (omega arith)
 
 pub write-walk-spec : {M : Type 1} → statement M
 write-walk-spec =
@@ -80,16 +103,16 @@ write-walk-spec =
     μ-loop
     loop-holds
     run-of-requires
-    enum-known-slots
-    below-count-requires
-    add-slot
+    (search needs)
+    (search needs)
+    (λ c. omega (arith, c .below-count .ensures))
     loop-less
     loop-again
-    enum-known-pos
+    (search needs)
     write-elements-requires
-    below-count-requires-2
-    add-slot-2
+    (search needs)
+    (λ c. omega (arith, c .below-count2 .ensures))
     loop-less-2
     loop-again-2
-    same-length
+    (λ c. c .before .before .loop .inv .1)
     returns)
