@@ -21,9 +21,8 @@ use Rattle.elements.proofs.Elements.{some-is}
 use Rattle.records.specs.Records.{listContent}
 use Rattle.ea_walk.specs.Walk.{list}
 use Rattle.ea_walk.proofs.Walks.{list-exact}
-use Rattle.ea_list.specs.ListInto.{listInto}
-use Rattle.ea_lookup.proofs.Looking.{lookup-answers}
-use Rattle.ea_worked.specs.Files.{listOf, lookupIn, indexIn, listAt, lookupAt}
+use Rattle.ea_lookup.proofs.Lookups.{lookup-answers}
+use Rattle.ea_worked.specs.Files.{listOf, lookupIn, indexIn, listAt, lookupAt, listIn}
 use Rattle.ea_worked.specs.Worked as W
 use Rattle.ea_worked.specs.Pages as P
 use Rattle.ea_worked.specs.Lazy.{Excluded, supersUnset, endedAtClear, alwaysNine, alwaysAbsent, unwritten, alwaysEmpty, alwaysRefusing}
@@ -102,11 +101,11 @@ pub always-refusing : (r : Refusal) → listOf W.sample ≡ alwaysRefusing r →
 always-refusing r h = never r W.chunks (sym h ∙ worked-list)
 
 -- 9 first thing: there is room.
-pub always-nine : (needed : ℕ) → listInto (W.sample .array) (W.sample .elements) 48 ≡ alwaysNine needed → ⊥
+pub always-nine : (needed : ℕ) → listIn W.sample 48 ≡ alwaysNine needed → ⊥
 always-nine needed h = never _ W.chunks (sym h ∙ Worked.fits)
 
 -- 9 without the walk: it refuses.
-pub nine-unwalked : (needed : ℕ) → listInto (P.spoiled 146 0x2e .array) (P.spoiled 146 0x2e .elements) 0 ≡ alwaysNine needed → ⊥
+pub nine-unwalked : (needed : ℕ) → listIn (P.spoiled 146 0x2e) 0 ≡ alwaysNine needed → ⊥
 nine-unwalked needed h = let z : _≡_ {A = ℕ} 26 9 = ap number (sym Pages.walked ∙ h) in omega arith
   where
     number : Listing → ℕ
@@ -121,6 +120,6 @@ pub never-absent : Answers (indexIn P.sample) (20 ∷ 10 ∷ []) none → ⊥
 never-absent n = let a = lookup-answers (P.sample .array) (P.sample .elements) (20 ∷ 10 ∷ []) (some ten) ten-found in n (a .0 .0) (ten .entry) (a .0 .1)
 
 -- A right count over an unwritten list: the second byte is another.
-pub unwritten-list : listContent (listInto (W.sample .array) (W.sample .elements) 48) (replicate 48 0) ≡ unwritten (replicate 48 0) → ⊥
+pub unwritten-list : listContent (listIn W.sample 48) (replicate 48 0) ≡ unwritten (replicate 48 0) → ⊥
 unfolding opened W.file W.grid W.sample
 unwritten-list h = let z : _≡_ {A = ℕ} 16 0 = ap (λ (l : List ℕ). getD l 1 0) h in omega arith

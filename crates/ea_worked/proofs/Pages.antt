@@ -9,8 +9,7 @@ use Rattle.refusal.specs.Outcome.{refused, accepted}
 use Rattle.ea_header.specs.Header.{headerAt}
 use Rattle.located.specs.Located.{path}
 use Rattle.ea_walk.specs.Walk.{located, behindInline}
-use Rattle.ea_list.specs.ListInto.{listInto}
-use Rattle.ea_worked.specs.Files.{Sample, sampleOn, sampleAt, listOf, lookupIn, listAt, lookupAt}
+use Rattle.ea_worked.specs.Files.{Sample, sampleOn, sampleAt, listOf, lookupIn, listAt, lookupAt, listIn}
 use Rattle.ea_worked.specs.Pages.{file, gridIn, grid, sample, recordAtSlot, chunks, spoiled, Spoiling, onPath, besidePath, unread}
 use Rattle.ea_worked.proofs.Opened.{opened}
 
@@ -54,7 +53,7 @@ unfolding opened file grid
 cuts = refl
 
 -- the walk's refusal comes before 9
-pub walked : listInto (spoiled 146 0x2e .array) (spoiled 146 0x2e .elements) 0 ≡ refused (record { number = 26; first = 814; second = 813 })
+pub walked : listIn (spoiled 146 0x2e) 0 ≡ refused (record { number = 26; first = 814; second = 813 })
 unfolding opened file grid spoiled
 walked = refl
 

@@ -5,8 +5,7 @@ use lib.ListN.{length, replicate}
 use Rattle.refusal.specs.Outcome.{refused, accepted}
 use Rattle.fields.specs.LittleEndian.{leBytes}
 use Rattle.records.specs.Records.{listContent}
-use Rattle.ea_list.specs.ListInto.{listInto}
-use Rattle.ea_worked.specs.Files.{listAt}
+use Rattle.ea_worked.specs.Files.{listAt, listIn}
 use Rattle.ea_worked.specs.Worked.{file, grid, sample, chunks}
 use Rattle.ea_worked.proofs.Opened.{opened}
 
@@ -19,15 +18,15 @@ unfolding opened file grid chunks
 listed = refl
 
 -- 48 bytes hold the two records, one byte fewer is 9; bytes behind the last record stay.
-pub fits : listInto (sample .array) (sample .elements) 48 ≡ accepted chunks
+pub fits : listIn sample 48 ≡ accepted chunks
 unfolding opened file grid sample chunks
 fits = refl
 
-pub too-small : listInto (sample .array) (sample .elements) 47 ≡ refused (record { number = 9; first = 2; second = 0 })
+pub too-small : listIn sample 47 ≡ refused (record { number = 9; first = 2; second = 0 })
 unfolding opened file grid sample
 too-small = refl
 
-pub written : listContent (listInto (sample .array) (sample .elements) 50) (replicate 50 7)
+pub written : listContent (listIn sample 50) (replicate 50 7)
     ≡ leBytes 8 4096 ++ leBytes 4 40 ++ leBytes 4 0 ++ leBytes 8 0 ++ leBytes 8 8192 ++ leBytes 4 40 ++ leBytes 4 0 ++ leBytes 8 20 ++ 7 ∷ 7 ∷ []
 unfolding opened file grid sample
 written = refl

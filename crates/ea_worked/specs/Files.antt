@@ -1,12 +1,13 @@
 -- Datasets in small files. Their checksum is the sum of the bytes, which a proof can compute.
-use Prim.Native.Nat.{ℕ}
+use Prim.Native.Nat.{ℕ, _/_}
 use mathlib.Core.List.{List}
 use mathlib.Core.Option.{Option}
 use lib.ListN.{replicate}
-use Rattle.refusal.specs.Outcome.{Outcome, _yields_}
+use Rattle.refusal.specs.Outcome.{Outcome, _yields_, inRoom}
 use Rattle.chunk_grid.specs.Grid.{Grid, total}
 use Rattle.index.specs.Index.{Index, Rec, Listing}
 use Rattle.elements.specs.Elements.{Elements}
+use Rattle.records.specs.Records.{recordLength}
 use Rattle.located.specs.Located.{indexOf}
 use Rattle.ea_header.specs.declared.ExtensibleArrayHeader.{ExtensibleArrayHeader}
 use Rattle.ea_header.specs.Header.{headerAt, headerTest}
@@ -38,10 +39,15 @@ sampleOn f h o g n = record {
 unfoldable pub sampleAt : List ℕ → ℕ → ℕ → ℕ → Grid → ℕ → Sample
 sampleAt f pos o l g n = sampleOn f (headerAt f pos o l) o g n
 
--- its list, its lookup, and the index that they are of
+-- its list, ..
 abbrev pub listOf : Sample → Listing
 listOf s = list (s .array) (s .elements)
 
+-- .. the list that is written into n bytes, ..
+abbrev pub listIn : Sample → ℕ → Listing
+listIn s n = inRoom (listOf s) (n / recordLength (s .elements .grid .rank))
+
+-- .. its lookup, and the index that they are of
 abbrev pub lookupIn : Sample → List ℕ → Outcome (Option Rec)
 lookupIn s corner = lookup (s .array) (s .elements) corner
 

@@ -20,7 +20,6 @@ compare-all-requires c κs = tested (c .before .before .before .before)
 pub compare-parameters-spec : {M : Type 1} → statement M
 compare-parameters-spec =
     tie.close
-    (tie.spec (λ c κs. search needs) (λ c. search needs) (λ c κs. search needs) (λ c κs. search needs)
-    (λ c κs. search needs) (λ c κs. search needs) (λ c. search needs) (λ c κs. search needs) (λ c. search needs)
-    (λ c. search needs) (λ c κs. search needs) (λ c κs. search needs) compare-inline-requires compare-all-requires
-    (λ c κs. search needs) (λ c. search needs))
+    (tie.spec (λ c κs. search needs) (search needs) (λ c κs. search needs) (λ c κs. search needs) (λ c κs. search needs)
+    (λ c κs. search needs) (search needs) (search needs) (search needs) (λ c κs. search needs) (λ c κs. search needs)
+    compare-inline-requires compare-all-requires (λ c κs. search needs) (search needs))

@@ -1,5 +1,5 @@
 -- `ea_geometry_check::print_bits` meets its contract. Assumes nothing.
-use Rattle.ea_geometry.specs.PageBits.{bitByte}
+use Rattle.structures.specs.PageBits.{bitByte}
 use borrow.Author.Needs.{needs}
 use Prim.Native.Nat.{_-_, _≤_}
 use lib.ListN.{length}

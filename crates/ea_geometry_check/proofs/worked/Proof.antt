@@ -13,4 +13,4 @@ returns c =
     (record { power = rw (made .0 .0) refl; least = omega arith; bits = omega arith; minimum = omega arith; page = omega arith })
 
 pub worked-spec : {M : Type 1} → statement M
-worked-spec = tie.close (tie.spec (λ c κs. search needs) (λ c κs. search needs) returns)
+worked-spec = tie.close (tie.spec (λ c κs. search needs) returns)
