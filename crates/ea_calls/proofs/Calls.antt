@@ -2,20 +2,21 @@
 use Prim.Native.Nat.{ℕ}
 use mathlib.Core.Path.{_≡_, refl, sym, _∙_}
 use Rattle.refusal.specs.declared.Refusal.{Refusal}
+use Rattle.refusal.specs.declared.Checked.{Checked}
 use Rattle.refusal.specs.declared.Checked.the-variants.{Passed, Refused}
+use Rattle.refusal.specs.Refusals.{_then_}
 use Rattle.refusal.specs.Outcome.{Outcome, refused, countedOf}
-use Rattle.refusal.proofs.Tests.{refused-passed, then-first, then-second, then-inv}
+use Rattle.refusal.proofs.Tests.{then-inv}
 use Rattle.refusal.proofs.Outcomes.{yields-passed, yields-stopped}
 use Rattle.refusal.proofs.Numbered.{Told, told-yields, told-room}
 use Rattle.checksum.specs.Lookup3.{lookup3}
+use Rattle.chunk_grid.specs.declared.Built.{Built}
+use Rattle.chunk_grid.specs.declared.ChunkGrid.{ChunkGrid}
 use Rattle.chunk_grid.specs.Grid.{gridTest}
 use Rattle.chunk_grid.specs.Values.{gridOf, whereTested}
 use Rattle.index.specs.Index.{Listing}
 use Rattle.elements.specs.Elements.{Elements}
-use Rattle.ea_header.specs.declared.Parsed.{Parsed}
-use Rattle.ea_header.specs.declared.Parsed.the-variants.{Header, Refused as ParsedRefused}
-use Rattle.ea_header.specs.Values.{parsedAt}
-use Rattle.ea_header.proofs.Header.{header-is, refused-is}
+use Rattle.ea_header.specs.Header.{headerTest}
 use Rattle.ea_header.proofs.Numbered.{header-numbered}
 use Rattle.ea_geometry.specs.Extents.{formOf}
 use Rattle.ea_blocks.specs.Array.{Array}
@@ -24,9 +25,18 @@ use Rattle.ea_walk.proofs.Numbered.{list-told}
 use Rattle.calls.specs.Call.{Call}
 use Rattle.calls.specs.Answer.{picked, refusedAnswer, countedAnswer, chunkNames, ZeroAccepts}
 use Rattle.calls.proofs.Answers.{zero-accepts}
-use Rattle.ea_calls.specs.Call.{callArray, callElements, callAnswer, listAt}
+use Rattle.ea_calls.specs.Call.{callHeader, callArray, callElements, callAnswer, listAt}
 use Rattle.ea_calls.specs.declared.CallRead.{CallRead}
-use Rattle.ea_calls.specs.Read.{callTest, ReadAs}
+
+-- the tests of a call before it is answered: all of the header's refusals, then the grid's
+unfoldable pub callTest : Call → Checked
+callTest c = headerTest lookup3 (c .file) (c .address) (c .offsetSize) (c .lengthSize) then gridTest (c .grid)
+
+-- what is read: the call's tests and, where they have passed, its header and its grid
+pub record ReadAs (c : Call) (r : CallRead) (g : ChunkGrid) : Type 0 where
+  pub tests : r .checked ≡ callTest c
+  pub header : r .checked ≡ Passed → r .header ≡ callHeader c
+  pub grid : r .checked ≡ Passed → gridOf g ≡ c .grid
 
 module _ (c : Call) where
   -- its elements have its array's form
@@ -34,22 +44,15 @@ module _ (c : Call) where
   unfolding callArray callElements
   call-form = refl
 
-  -- what is read: the header's refusal, or the header and the grid
-  module _ (r : CallRead) where
-    abbrev parsed : Parsed
-    parsed = parsedAt lookup3 (c .file) (c .address) (c .offsetSize) (c .lengthSize)
-
-    pub read-header : Header (r .header) ≡ parsed → r .checked ≡ gridTest (c .grid) → gridOf (r .grid) ≡ whereTested (r .checked) (c .grid) → ReadAs c r
-    unfolding parsedAt callTest whereTested
-    read-header h t g =
-        let i = header-is _ _ _ h in
-        record { tests = t ∙ then-second _ _ (i .0); header = λ p. i .1; grid = λ p. rw p at g }
-
-    pub read-refused : (q : Refusal) → ParsedRefused q ≡ parsed → r .checked ≡ Refused q → ReadAs c r
-    unfolding parsedAt callTest
-    read-refused q h t =
-        let stopped : (p : r .checked ≡ Passed) → ⊥ = λ p. refused-passed q (sym t ∙ p) in
-        record { tests = t ∙ then-first _ _ (refused-is _ _ q h); header = λ p. absurd (stopped p); grid = λ p. absurd (stopped p) }
+  pub read-as : (r : CallRead) (b : Built) → b .checked ≡ gridTest (c .grid) → gridOf (b .grid) ≡ whereTested (b .checked) (c .grid)
+      → r .checked ≡ (headerTest lookup3 (c .file) (c .address) (c .offsetSize) (c .lengthSize) then b .checked)
+      → (r .checked ≡ Passed → r .header ≡ callHeader c) → ReadAs c r (b .grid)
+  unfolding callTest whereTested
+  read-as r b t g e h = record {
+    tests = rw (← t) e;
+    header = h;
+    grid = λ p. let q = then-inv _ _ (sym e ∙ p) .1 in rw q at g;
+  }
 
   -- what a call is answered, whose every refusal has a number above 0 where its array's have
   pub answer-told : {A : Type 0} (answer : Array → Elements → Outcome A) → Told (answer (callArray c) (callElements c)) → Told (callAnswer answer c)
@@ -65,10 +68,10 @@ module _ (c : Call) where
       (answer-told _ (told-room _ room (list-told _ _ call-form))) which number e
 
 -- a call that is read
-module _ (c : Call) (r : CallRead) (k : ReadAs c r) where
+module _ (c : Call) (r : CallRead) (grid : ChunkGrid) (k : ReadAs c r grid) where
   -- its tests have passed: what holds of the array and the elements that are read holds of the call's own, ..
   pub read-own : (P : Array → Elements → Type 0) → r .checked ≡ Passed
-      → P (arrayFrom (c .file) (r .header) (c .offsetSize)) (elementsIn (c .file) (r .header) (c .offsetSize) (gridOf (r .grid)) (c .elementBytes))
+      → P (arrayFrom (c .file) (r .header) (c .offsetSize)) (elementsIn (c .file) (r .header) (c .offsetSize) (gridOf grid) (c .elementBytes))
       → P (callArray c) (callElements c)
   unfolding callArray callElements
   read-own P t p = rw (← k .header t, ← k .grid t) p

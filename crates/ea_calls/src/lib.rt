@@ -1,54 +1,37 @@
 // What a call from C is given of an extensible array.
-ghost use Prim.Native.Nat.{ℕ};
-ghost use Rattle.calls.specs.Call.{callOf};
-ghost use Rattle.ea_calls.specs.Read.{ReadAs};
-use calls::read_grid;
-use chunk_grid::ChunkGrid;
+ghost use mathlib.Core.Path.{_≡_};
+ghost use Rattle.refusal.specs.declared.Checked.the-variants.{Passed};
+ghost use Rattle.refusal.specs.Refusals.{_then_};
+ghost use Rattle.checksum.specs.Lookup3.{lookup3};
+ghost use Rattle.ea_header.specs.Header.{headerAt, headerTest};
 use ea_header::ExtensibleArrayHeader;
 use ea_header::Parameters;
 use ea_header::Parsed;
 use refusal::Checked;
 
-// What is read of a call before it is answered: the header of its array and the grid of its dataset, where the tests of
-// both have passed; else these stand for nothing.
+// What is read of a call before it is answered: its tests and, where they have passed, the header of its array; else
+// that stands for nothing.
 pub struct CallRead {
     pub checked: Checked,
     pub header: ExtensibleArrayHeader,
-    pub grid: ChunkGrid,
 }
 
-// Reads the header at an address, with all of its refusals, then the shapes of a dataset, with those of its grid.
+// Reads the header at an address. All of its refusals come first, then that of the call's grid, which is tested before.
 pub fn read_call(
     file: &[u8],
     offset_size: u64,
     length_size: u64,
     address: u64,
-    order: u64,
-    rank: u64,
-    chunk: &[u8],
-    present: &[u8],
-    has_maximum: u64,
-    maximum: &[u8],
+    checked: Checked,
 ) -> CallRead
-    ensures { λ r. ⌜ ((n : ℕ) → ReadAs (callOf (now (file .entry)) «offset_size» «length_size» address n order rank
-        (now (chunk .entry)) (now (present .entry)) «has_maximum» (now (maximum .entry))) r) ⌝ }
+    ensures { λ r. ⌜ (r .checked ≡ (headerTest lookup3 (now (file .entry)) address «offset_size» «length_size» then checked))
+        × (r .checked ≡ Passed → r .header ≡ headerAt (now (file .entry)) address «offset_size» «length_size») ⌝ }
 {
-    let parsed = ExtensibleArrayHeader::parse(file, address, offset_size, length_size);
-    let built = read_grid(order, rank, chunk, present, has_maximum, maximum);
-    let grid = built.grid;
-    match parsed {
-        Parsed::Header(header) => {
-            let checked = built.checked;
-            CallRead {
-                checked,
-                header,
-                grid,
-            }
-        }
+    match ExtensibleArrayHeader::parse(file, address, offset_size, length_size) {
+        Parsed::Header(header) => CallRead { checked, header },
         Parsed::Refused(r) => CallRead {
             checked: Checked::Refused(r),
             header: no_header(),
-            grid,
         },
     }
 }

@@ -9,6 +9,7 @@ use Rattle.refusal.specs.declared.Counted.{Counted}
 use Rattle.refusal.specs.declared.Counted.the-variants.{Count, Refused as CountedRefused}
 use Rattle.refusal.specs.Outcome.{inRoom, countedOf}
 use Rattle.refusal.proofs.Outcomes.{yields-refused, room-refused}
+use Rattle.chunk_grid.specs.declared.ChunkGrid.{ChunkGrid}
 use Rattle.chunk_grid.specs.Values.{gridOf}
 use Rattle.index.specs.Index.{Listing}
 use Rattle.index.specs.ExactList.{ExactList}
@@ -22,8 +23,7 @@ use Rattle.ea_walk.specs.Given.{arrayFrom, elementsIn}
 use Rattle.calls.specs.Call.{Call}
 use Rattle.ea_calls.specs.declared.CallRead.{CallRead}
 use Rattle.ea_calls.specs.Call.{callElements, callIndex, listAt}
-use Rattle.ea_calls.specs.Read.{ReadAs}
-use Rattle.ea_calls.proofs.Calls.{read-own, read-passed, read-stopped}
+use Rattle.ea_calls.proofs.Calls.{ReadAs, read-own, read-passed, read-stopped}
 use Rattle.ea_list.proofs.Lists.{refused-count}
 
 -- what is answered to a list, and what the lent bytes then hold
@@ -33,7 +33,7 @@ Lists a e counted out out′ =
     × (out′ ≡ listContent (inRoom (list a e) (length out / recordLength (e .grid .rank))) out)
     × ((n : ℕ) → counted ≡ Count n → 0 < e .grid .rank → ExactList (indexOf (located a e)) (recordsIn (e .grid .rank) n out′) n)
 
-module _ (c : Call) (r : CallRead) (k : ReadAs c r) (out : List ℕ) where
+module _ (c : Call) (r : CallRead) (grid : ChunkGrid) (k : ReadAs c r grid) (out : List ℕ) where
   abbrev room : ℕ
   room = length out / recordLength (c .grid .rank)
 
@@ -46,14 +46,14 @@ module _ (c : Call) (r : CallRead) (k : ReadAs c r) (out : List ℕ) where
   pub listed-refused : (q : Refusal) → r .checked ≡ Refused q → Listed (CountedRefused q) out
   unfolding list callElements
   listed-refused q t =
-      let p = answer-refused (listAt c room) out q (read-stopped c r k _ q t (λ g. room-refused _ _ q (yields-refused _ _ q g))) in
+      let p = answer-refused (listAt c room) out q (read-stopped c r grid k _ q t (λ g. room-refused _ _ q (yields-refused _ _ q g))) in
       (p .0, p .1, λ n h. absurd (refused-count q n h))
 
   pub listed-passed : r .checked ≡ Passed → (counted : Counted) (out′ : List ℕ)
-      → Lists (arrayFrom (c .file) (r .header) (c .offsetSize)) (elementsIn (c .file) (r .header) (c .offsetSize) (gridOf (r .grid)) (c .elementBytes)) counted out out′
+      → Lists (arrayFrom (c .file) (r .header) (c .offsetSize)) (elementsIn (c .file) (r .header) (c .offsetSize) (gridOf grid) (c .elementBytes)) counted out out′
       → Listed counted out′
   unfolding callElements
   listed-passed t counted out′ p =
-      let own = read-own c r k (λ (x : Array) (y : Elements). Lists x y counted out out′) t p in
-      let e = sym (read-passed c r k _ t) in
+      let own = read-own c r grid k (λ (x : Array) (y : Elements). Lists x y counted out out′) t p in
+      let e = sym (read-passed c r grid k _ t) in
       (own .0 ∙ ap countedOf e, own .1 ∙ ap (λ (x : Listing). listContent x out) e, own .2)

@@ -9,6 +9,7 @@ ghost use Rattle.records.specs.Records.{recordLength, listContent, recordsIn};
 ghost use Rattle.calls.specs.Call.{callOf};
 ghost use Rattle.ea_calls.specs.Call.{callIndex, listAt};
 use crate::read_extensible_array_chunks;
+use calls::read_grid;
 use ea_calls::read_call;
 use refusal::Checked;
 use refusal::Counted;
@@ -35,18 +36,9 @@ pub fn list_at(
         × (now (list .exit) ≡ listContent answer (now (list .entry)))
         × ((n : ℕ) → r ≡ Count n → 0 < rank → ExactList (callIndex call) (recordsIn rank n (now (list .exit))) n)) ⌝ }
 {
-    let read = read_call(
-        file,
-        offset_size,
-        length_size,
-        address,
-        order,
-        rank,
-        chunk,
-        present,
-        has_maximum,
-        maximum,
-    );
+    let built = read_grid(order, rank, chunk, present, has_maximum, maximum);
+    let tested = built.checked;
+    let read = read_call(file, offset_size, length_size, address, tested);
     let checked = read.checked;
     if let Checked::Refused(r) = checked {
         return Counted::Refused(r);
@@ -54,7 +46,7 @@ pub fn list_at(
     read_extensible_array_chunks(
         file,
         read.header,
-        read.grid,
+        built.grid,
         element_bytes,
         offset_size,
         list,

@@ -7,6 +7,7 @@ use Rattle.refusal.specs.declared.Checked.the-variants.{Passed, Refused}
 use Rattle.refusal.specs.Refusals.{_then_}
 use Rattle.refusal.proofs.Tests.{refused-passed, then-first}
 use Rattle.refusal.proofs.Outcomes.{yields-inv, yields-refused, room-inv}
+use Rattle.chunk_grid.specs.declared.ChunkGrid.{ChunkGrid}
 use Rattle.chunk_grid.specs.Values.{gridOf}
 use Rattle.elements.specs.Elements.{Elements}
 use Rattle.ea_blocks.specs.Array.{Array}
@@ -14,9 +15,8 @@ use Rattle.ea_walk.specs.Walk.{list}
 use Rattle.ea_walk.specs.Given.{arrayFrom, elementsIn}
 use Rattle.calls.specs.Call.{Call}
 use Rattle.ea_calls.specs.Call.{callArray, callElements, callIndex, callAnswer, listAt}
-use Rattle.ea_calls.specs.Read.{callTest, ReadAs}
 use Rattle.ea_calls.specs.declared.CallRead.{CallRead}
-use Rattle.ea_calls.proofs.Calls.{read-own, read-passed, read-stopped}
+use Rattle.ea_calls.proofs.Calls.{callTest, ReadAs, read-own, read-passed, read-stopped}
 use Rattle.ea_lookup.specs.declared.Found.{Found}
 use Rattle.ea_lookup.specs.declared.Found.the-variants.{Refused as FoundRefused}
 use Rattle.ea_lookup.specs.Lookup.{lookup}
@@ -44,26 +44,26 @@ module _ (c : Call) (corner : List ℕ) where
   )
 
   -- a call that is read, and refused or looked up
-  module _ (r : CallRead) (k : ReadAs c r) where
+  module _ (r : CallRead) (grid : ChunkGrid) (k : ReadAs c r grid) where
     pub called-refused : (q : Refusal) → r .checked ≡ Refused q → Called (FoundRefused q)
     unfolding foundOf lookup callElements
     called-refused q t =
         called (FoundRefused q)
-        (sym (ap foundOf (read-stopped c r k _ q t (λ g. yields-refused _ _ q (sym (then-first _ _ (sym g)))))))
+        (sym (ap foundOf (read-stopped c r grid k _ q t (λ g. yields-refused _ _ q (sym (then-first _ _ (sym g)))))))
         (λ p. absurd (refused-passed q (sym t ∙ k .tests ∙ p)))
 
     abbrev a : Array
     a = arrayFrom (c .file) (r .header) (c .offsetSize)
 
     abbrev e : Elements
-    e = elementsIn (c .file) (r .header) (c .offsetSize) (gridOf (r .grid)) (c .elementBytes)
+    e = elementsIn (c .file) (r .header) (c .offsetSize) (gridOf grid) (c .elementBytes)
 
     pub called-passed : r .checked ≡ Passed → (found : Found) (at : List ℕ) → at ≡ corner → found ≡ foundOf (lookup a e at)
-        → Agreed (list a e) (gridOf (r .grid)) at found → Called found
+        → Agreed (list a e) (gridOf grid) at found → Called found
     unfolding callElements
     called-passed t found at j f g =
-        let own = read-own c r k P t (rw j at f, rw j at g) in
-        called found (own .0 ∙ sym (ap foundOf (read-passed c r k _ t))) (λ p. own .1)
+        let own = read-own c r grid k P t (rw j at f, rw j at g) in
+        called found (own .0 ∙ sym (ap foundOf (read-passed c r grid k _ t))) (λ p. own .1)
       where
         P : Array → Elements → Type 0
         P x y = (found ≡ foundOf (lookup x y corner)) × Agreed (list x y) (y .grid) corner found

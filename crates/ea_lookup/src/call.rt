@@ -12,6 +12,7 @@ use crate::Found;
 use crate::lookup_chunk;
 use calls::CHUNK_NAMES;
 use calls::pick;
+use calls::read_grid;
 use calls::refused_number;
 use chunk_grid::read_shape;
 use ea_calls::read_call;
@@ -39,18 +40,9 @@ pub fn lookup_at(
         × Answered (lookupAt call at) (callIndex call) at r
         × ((room : ℕ) → Agreed (listAt call room) (call .grid) at r)) ⌝ }
 {
-    let read = read_call(
-        file,
-        offset_size,
-        length_size,
-        address,
-        order,
-        rank,
-        chunk,
-        present,
-        has_maximum,
-        maximum,
-    );
+    let built = read_grid(order, rank, chunk, present, has_maximum, maximum);
+    let tested = built.checked;
+    let read = read_call(file, offset_size, length_size, address, tested);
     let checked = read.checked;
     if let Checked::Refused(r) = checked {
         return Found::Refused(r);
@@ -60,7 +52,7 @@ pub fn lookup_at(
     lookup_chunk(
         file,
         read.header,
-        read.grid,
+        built.grid,
         element_bytes,
         offset_size,
         &offsets[..n],

@@ -7,8 +7,7 @@ use Rattle.chunk_grid.specs.Shapes.{shapeOf, given, givenBytes}
 use Rattle.chunk_grid.proofs.Grids.{accepted as grid-accepted}
 use Rattle.chunk_grid.proofs.Shapes.{stored-shape}
 use Rattle.calls.specs.Call.{Call, callOf, gridGiven}
-use Rattle.ea_calls.specs.Read.{ReadAs}
-use Rattle.ea_calls.proofs.Calls.{read-grid-passed}
+use Rattle.ea_calls.proofs.Calls.{ReadAs, read-as, read-grid-passed}
 use Rattle.ea_lookup.proofs.Calls.{called-refused, called-passed}
 use borrow.Author.Needs.{needs}
 use Rattle.ea_lookup.proofs.call.lookup_at.Statement.{statement}
@@ -16,7 +15,7 @@ use Rattle.ea_lookup.proofs.call.lookup_at.Tie as tie
 
 -- where the function begins
 abbrev start : tie.After-read-call → tie.Start
-start c = c .before .before .before .before .before .before
+start c = c .before .before .before .before .before .before .before
 
 abbrev call : tie.Start → Call
 call c =
@@ -24,15 +23,18 @@ call c =
     callOf (a .file .now) (a .offset-size) (a .length-size) (a .address) (a .element-bytes) (a .order) (a .rank) (a .chunk .now)
     (a .present .now) (a .has-maximum) (a .maximum .now)
 
-read : (c : tie.After-read-call) → ReadAs (call (start c)) (c .read-call .result)
-read c = c .read-call .ensures (start c .args .element-bytes)
+read : (c : tie.After-read-call) → ReadAs (call (start c)) (c .read-call .result) (c .before .read-grid .result .grid)
+read c =
+    let g = c .before .read-grid .ensures in
+    let e = c .read-call .ensures in
+    read-as (call (start c)) _ _ (g .0) (g .1) (e .0) (e .1)
 
 returns : tie.Need-returns
-returns c = called-refused _ _ _ (read (c .before .before .before)) _ (c .before .checked .given .1)
+returns c = called-refused _ _ _ _ (read (c .before .before .before)) _ (c .before .checked .given .1)
 
 small : (c : tie.After-enum-told) → start (c .before .before) .args .rank ≤ 32
 unfolding gridGiven givenBytes given
-small c = grid-accepted _ (read-grid-passed _ _ (read (c .before .before)) (c .enum-told .given .1)) .small
+small c = grid-accepted _ (read-grid-passed _ _ _ (read (c .before .before)) (c .enum-told .given .1)) .small
 
 read-shape-requires : tie.Need-read-shape-requires
 read-shape-requires c κs = (small (c .before), lit≤ tt)
@@ -52,10 +54,10 @@ returns-2 c =
     let m = c .before .before .before in
     let e = m .before .before in
     let x = c .lookup-chunk .ensures in
-    called-passed _ _ _ (read (e .before .before)) (e .enum-told .given .1) _ _ (shape m .1) (x .0) (x .2)
+    called-passed _ _ _ _ (read (e .before .before)) (e .enum-told .given .1) _ _ (shape m .1) (x .0) (x .2)
 
 pub lookup-at-spec : {M : Type 1} → statement M
 lookup-at-spec =
     tie.close
-    (tie.spec (λ c κs. search needs) (λ c. search needs) returns (λ c. search needs) (λ c. search needs)
+    (tie.spec (λ c κs. search needs) (λ c κs. search needs) (λ c. search needs) returns (λ c. search needs) (λ c. search needs)
     read-shape-requires (λ c. shape (c .before) .0) (λ c. shape (c .before .before) .2) (λ c κs. search needs) returns-2)
