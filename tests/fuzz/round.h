@@ -13,7 +13,7 @@ enum { ROUND_RECORDS = 20000, ROUND_REFUSALS = 40 };
 
 /* What the rounds have met. */
 struct tally {
-    uint64_t rounds, checksums, lists, lookups; /* rounds, and calls of each door */
+    uint64_t rounds, checksums, lists, lookups; /* rounds, and calls of each kind */
     uint64_t accepted, records, too_many;       /* inputs whose list was accepted, their records; and lists that were only counted */
     uint64_t found, absent;                     /* of lookups */
     uint64_t refused[ROUND_REFUSALS];           /* inputs whose list was refused, by number */

@@ -38,6 +38,6 @@ headerAt f pos o l = record {
   «index_block_address» = addressAt f (pos + 12 + 6 * l) o;
 }
 
--- Header: 20, 21 ("EAHD"), 22, 2, 1, 26; 20 is judged with the sizes as given.
+-- Header: 20, 21 ("EAHD"), 22, 2, 1, 26; 20 is tested with the sizes as given.
 unfoldable pub headerTest : (List ℕ → ℕ) → List ℕ → ℕ → ℕ → ℕ → Checked
 headerTest sum f pos o l = signedHeaderTest 21 0x4448_4145 sum f pos (headerBytes o l) o l
