@@ -17,10 +17,11 @@ use Rattle.calls.specs.Call.{Call}
 use Rattle.ea_calls.specs.Call.{callArray, callElements, callIndex, callAnswer, listAt}
 use Rattle.ea_calls.specs.declared.CallRead.{CallRead}
 use Rattle.ea_calls.proofs.Calls.{callTest, ReadAs, read-own, read-passed, read-stopped}
-use Rattle.ea_lookup.specs.declared.Found.{Found}
-use Rattle.ea_lookup.specs.declared.Found.the-variants.{Refused as FoundRefused}
+use Rattle.elements.specs.declared.Found.{Found}
+use Rattle.elements.specs.declared.Found.the-variants.{Refused as FoundRefused}
 use Rattle.ea_lookup.specs.Lookup.{lookup}
-use Rattle.ea_lookup.specs.Found.{foundOf, Answered, Agreed}
+use Rattle.elements.specs.Values.{foundOf}
+use Rattle.ea_lookup.specs.Found.{Answered, Agreed}
 use Rattle.ea_lookup.specs.Call.{lookupAt}
 use Rattle.ea_lookup.proofs.Lookups.{lookup-answers}
 

@@ -31,10 +31,11 @@ use Rattle.ea_blocks.specs.Array.{Array}
 use Rattle.ea_blocks.specs.Structures.{arrayTest}
 use Rattle.ea_walk.specs.Walk.{located, walk, list}
 use Rattle.ea_walk.proofs.Walks.{walk-right}
-use Rattle.ea_lookup.specs.declared.Found.{Found}
-use Rattle.ea_lookup.specs.declared.Found.the-variants.{Absent as FoundAbsent, Refused as FoundRefused}
+use Rattle.elements.specs.declared.Found.{Found}
+use Rattle.elements.specs.declared.Found.the-variants.{Absent as FoundAbsent, Refused as FoundRefused}
 use Rattle.ea_lookup.specs.Lookup.{lookup}
-use Rattle.ea_lookup.specs.Found.{foundOf, Answered, Agreed}
+use Rattle.elements.specs.Values.{foundOf}
+use Rattle.ea_lookup.specs.Found.{Answered, Agreed}
 
 -- a slot's path, by the count
 module _ (x : Located) where

@@ -16,7 +16,7 @@ use Rattle.calls.specs.Answer.{picked, refusedAnswer, ZeroAccepts}
 use Rattle.calls.proofs.Answers.{zero-accepts}
 use Rattle.ea_calls.proofs.Calls.{answer-told}
 use Rattle.ea_lookup.specs.Lookup.{lookup}
-use Rattle.ea_lookup.specs.Found.{foundOf}
+use Rattle.elements.specs.Values.{foundOf}
 use Rattle.ea_lookup.specs.Call.{lookupAt, foundAnswer, lookupAnswer}
 
 lookup-told : (a : Array) (e : Elements) (corner : List ℕ) → Told (lookup a e corner)

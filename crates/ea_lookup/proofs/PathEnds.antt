@@ -10,7 +10,7 @@ use Rattle.refusal.specs.declared.Refusal.{Refusal}
 use Rattle.refusal.specs.declared.Checked.the-variants.{Passed, Refused}
 use Rattle.fields.specs.Fields.{widthTest}
 use Rattle.element_form.specs.Form.{elementSizeTest}
-use Rattle.elements.specs.Elements.{Elements, answerOf}
+use Rattle.elements.specs.Elements.{Elements}
 use Rattle.elements.proofs.Sized.{element-refused}
 use Rattle.located.proofs.Paths.{LeadsTo, LeadsNowhere, way-to, way-nowhere, way-refused}
 use Rattle.ea_header.specs.declared.Parameters.{Parameters}
@@ -148,9 +148,9 @@ module _ (a : Array) (t : arrayTest a ≡ Passed) (s : ℕ) (lt : s < a .paramet
   inline-ends = ends-at a s _ leads inline-room
 
   pub unsized-ends : (r : Refusal) → elementSizeTest (formOf (a .parameters) (a .offsetSize)) ≡ Refused r → PathEnds a s (EnteredRefused r)
-  unfolding endAnswer answerOf
+  unfolding endAnswer
   unsized-ends r z = record {
     answer = λ e form.
-        way-to (located a e) s _ (leads e) ∙ rw (← element-refused e _ s r (ap elementSizeTest (sym form) ∙ z)) refl;
+        way-to (located a e) s _ (leads e) ∙ element-refused e _ s r (ap elementSizeTest (sym form) ∙ z);
     inside = tt;
   }

@@ -10,10 +10,10 @@ use Rattle.ea_blocks.specs.Array.{Array}
 use Rattle.calls.specs.Call.{Call}
 use Rattle.calls.specs.Answer.{Answer, acceptedAnswer, refusedAnswer, chunkNames}
 use Rattle.ea_calls.specs.Call.{callAnswer}
-use Rattle.ea_lookup.specs.declared.Found.{Found}
-use Rattle.ea_lookup.specs.declared.Found.the-variants.{Chunk, Absent, Refused}
+use Rattle.elements.specs.declared.Found.{Found}
+use Rattle.elements.specs.declared.Found.the-variants.{Chunk, Absent, Refused}
 use Rattle.ea_lookup.specs.Lookup.{lookup}
-use Rattle.ea_lookup.specs.Found.{foundOf}
+use Rattle.elements.specs.Values.{foundOf}
 
 -- What a call's array and elements answer to a corner.
 abbrev pub lookupAt : Call → List ℕ → Outcome (Option Rec)

@@ -1,21 +1,15 @@
--- What the code's values stand for: what a lookup finds.
+-- What a lookup that is accepted says of what it finds.
 use Prim.Native.Nat.{ℕ, _<_}
 use mathlib.Core.Path.{_≡_}
 use mathlib.Core.Bool.{true}
 use mathlib.Core.List.{List}
-use mathlib.Core.Option.{Option, none, some}
-use Rattle.refusal.specs.Outcome.{Outcome, refused, accepted}
+use mathlib.Core.Option.{Option}
+use Rattle.refusal.specs.Outcome.{Outcome, accepted}
 use Rattle.chunk_grid.specs.Grid.{Grid, isChunk}
 use Rattle.index.specs.Index.{Index, Rec, Listing}
 use Rattle.index.specs.ExactList.{Answers, Agrees}
-use Rattle.ea_lookup.specs.declared.Found.{Found}
-use Rattle.ea_lookup.specs.declared.Found.the-variants.{Chunk, Absent, Refused}
-
--- It answers record or absent. The record's corner is the one that was asked for.
-unfoldable pub foundOf : Outcome (Option Rec) → Found
-foundOf (refused r) = Refused r
-foundOf (accepted none) = Absent
-foundOf (accepted (some r)) = Chunk (r .entry)
+use Rattle.elements.specs.declared.Found.{Found}
+use Rattle.elements.specs.Values.{foundOf}
 
 -- What an accepted lookup says of what was found.
 abbrev pub Answered : Outcome (Option Rec) → Index → List ℕ → Found → Type 0

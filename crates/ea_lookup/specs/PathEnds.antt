@@ -6,9 +6,8 @@ use lib.ListN.{length}
 use Rattle.refusal.specs.declared.Checked.the-variants.{Passed}
 use Rattle.refusal.specs.Outcome.{Outcome, refused, accepted}
 use Rattle.fields.specs.Fields.{widthTest}
-use Rattle.chunk_grid.specs.Grid.{offsets}
 use Rattle.index.specs.Index.{Rec}
-use Rattle.elements.specs.Elements.{Elements, element, answerOf}
+use Rattle.elements.specs.Elements.{Elements, element}
 use Rattle.located.specs.Located.{path}
 use Rattle.ea_geometry.specs.Extents.{formOf, elementStride}
 use Rattle.ea_blocks.specs.declared.enter.Entered.{Entered}
@@ -20,7 +19,7 @@ use Rattle.ea_walk.specs.Walk.{located}
 -- What slot s is answered whose path ends so: at no element, at its element at a position, or with a refusal.
 unfoldable pub endAnswer : Elements → ℕ → Entered → Outcome (Option Rec)
 endAnswer e s Absent = accepted none
-endAnswer e s (At pos) = answerOf (element e pos s) (offsets (e .grid) s)
+endAnswer e s (At pos) = element e pos s
 endAnswer e s (EnteredRefused r) = refused r
 
 -- an element at the end lies in the file

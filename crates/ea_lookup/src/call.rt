@@ -7,8 +7,8 @@ ghost use Rattle.calls.specs.Call.{callOf};
 ghost use Rattle.calls.specs.Answer.{picked};
 ghost use Rattle.ea_calls.specs.Call.{callIndex, listAt};
 ghost use Rattle.ea_lookup.specs.Call.{lookupAt, foundAnswer};
-ghost use Rattle.ea_lookup.specs.Found.{foundOf, Answered, Agreed};
-use crate::Found;
+ghost use Rattle.elements.specs.Values.{foundOf};
+ghost use Rattle.ea_lookup.specs.Found.{Answered, Agreed};
 use crate::lookup_chunk;
 use calls::CHUNK_NAMES;
 use calls::pick;
@@ -16,6 +16,7 @@ use calls::read_grid;
 use calls::refused_number;
 use chunk_grid::read_shape;
 use ea_calls::read_call;
+use elements::Found;
 use refusal::Checked;
 
 // Reads the header at an address, the shapes of a dataset and a corner, and looks up the chunk at the corner.

@@ -1,21 +1,18 @@
 // One chunk by its corner.
 ghost use mathlib.Core.Path.{_≡_};
-ghost use Prim.Native.Nat.{ℕ, _+_, _≤_};
-ghost use lib.ListN.{length};
+ghost use Prim.Native.Nat.{ℕ};
 ghost use Rattle.refusal.specs.declared.Checked.the-variants.{Passed};
 ghost use Rattle.refusal.specs.Refusals.{_then_};
-ghost use Rattle.chunk_grid.specs.Grid.{Grid, offsets, gridTest, cornerTest};
+ghost use Rattle.chunk_grid.specs.Grid.{Grid, gridTest, cornerTest};
 ghost use Rattle.chunk_grid.specs.Values.{gridOf};
-ghost use Rattle.element_form.specs.Form.{stride};
-ghost use Rattle.elements.specs.Elements.{element, answerOf};
-ghost use Rattle.elements.specs.Values.{elementsOf, Reads};
+ghost use Rattle.elements.specs.Values.{elementsOf, Reads, foundOf};
 ghost use Rattle.located.specs.Located.{indexOf, slotPath};
 ghost use Rattle.ea_blocks.specs.Array.{arrayOf};
 ghost use Rattle.ea_blocks.specs.Structures.{arrayTest};
 ghost use Rattle.ea_walk.specs.Walk.{located, list};
 ghost use Rattle.ea_walk.specs.Given.{arrayFrom, elementsIn, ReadBy};
 ghost use Rattle.ea_lookup.specs.Lookup.{lookup};
-ghost use Rattle.ea_lookup.specs.Found.{foundOf, Answered, Agreed};
+ghost use Rattle.ea_lookup.specs.Found.{Answered, Agreed};
 use crate::paths::path_of;
 use chunk_grid::ChunkGrid;
 use chunk_grid::Slot;
@@ -26,22 +23,13 @@ use ea_blocks::enter::Entered;
 use ea_blocks::tests::test_array;
 use ea_geometry::EaGeometry;
 use ea_header::ExtensibleArrayHeader;
-use elements::Element;
 use elements::ElementReader;
+use elements::Found;
 use elements::read::read_element;
-use index::Entry;
 use refusal::Checked;
-use refusal::Refusal;
 
 pub mod call;
 mod paths;
-
-// What a lookup finds: the chunk's entry, that no chunk is stored at the corner, or why there is no answer.
-pub enum Found {
-    Chunk(Entry),
-    Absent,
-    Refused(Refusal),
-}
 
 // Looks up the chunk at a corner. Its refusals come in this order: 3 to 8 of the grid, 10 of the corner, 27 of the
 // header, those of the index block and, for a slot below the published count, of the structures that lead to its place,
@@ -139,30 +127,7 @@ fn slot_path(
     }
     match path_of(file, array, s) {
         Entered::Absent => Found::Absent,
-        Entered::At(pos) => found_at(file, pos, s, reader, chunk, bound, down),
+        Entered::At(pos) => read_element(file, pos as usize, s, reader, chunk, bound, down),
         Entered::Refused(r) => Found::Refused(r),
-    }
-}
-
-// What the element of a slot at pos says.
-fn found_at(
-    file: &[u8],
-    pos: u64,
-    slot: u64,
-    reader: ElementReader,
-    chunk: &[u64; 32],
-    bound: &[u64; 32],
-    down: &[u64; 32],
-) -> Found
-    requires { ⌜ ((grid : Grid) × (n : ℕ) × Reads reader (now chunk) (now bound) (now down) grid n)
-        × (pos + stride (reader .form) ≤ length (now file)) ⌝ }
-    ensures { λ r. ⌜ ((grid : Grid) (n : ℕ)
-        → Reads reader (now (chunk .entry)) (now (bound .entry)) (now (down .entry)) grid n
-        → r ≡ foundOf (answerOf (element (elementsOf (now (file .entry)) reader grid n) pos slot) (offsets grid slot))) ⌝ }
-{
-    match read_element(file, pos as usize, slot, reader, chunk, bound, down) {
-        Element::Absent => Found::Absent,
-        Element::Chunk(entry) => Found::Chunk(entry),
-        Element::Refused(r) => Found::Refused(r),
     }
 }

@@ -14,9 +14,10 @@ use Rattle.fields.specs.Fields.{undefinedAt, inFile}
 use Rattle.chunk_grid.specs.Grid.{Grid, offsets, gridTest}
 use Rattle.structures.specs.Header.{sizesTest}
 use Rattle.ea_geometry.proofs.Worked.{Row, digits, truth, rows}
-use Rattle.elements.specs.declared.Element.{Element}
-use Rattle.elements.specs.declared.Element.the-variants.{Absent, Chunk, Refused as ElementRefused}
+use Rattle.elements.specs.declared.Found.{Found}
+use Rattle.elements.specs.declared.Found.the-variants.{Absent, Chunk, Refused as FoundRefused}
 use Rattle.elements.specs.Elements.{element}
+use Rattle.elements.specs.Values.{foundOf}
 use Rattle.ea_worked.specs.Files.{undefinedBytes}
 use Rattle.ea_worked.specs.Worked.{grid}
 use Rattle.ea_worked.proofs.Opened.{opened}
@@ -28,10 +29,10 @@ refusal r = r .number ∷ r .first ∷ r .second ∷ []
 abbrev pub test : Checked → ℕ
 test t = digits (refusal (refusalOf t))
 
-abbrev pub read : Element → ℕ
+abbrev pub read : Found → ℕ
 read Absent = 0
 read (Chunk e) = digits (e .address ∷ e .size ∷ e .mask ∷ 1 ∷ [])
-read (ElementRefused r) = digits (refusal r)
+read (FoundRefused r) = digits (refusal r)
 
 abbrev pub chunk : ℕ → ℕ → ℕ → ℕ
 chunk address size mask = read (Chunk (record { address = address; size = size; mask = mask }))
@@ -73,17 +74,17 @@ gridRows =
     ∷ []
 
 -- the element of slot s with these bytes, filtered, with offset size o and element size n
-abbrev pub elementIn : Grid → ℕ → List ℕ → ℕ → ℕ → Element
-elementIn g s bytes o n = element (record {
+abbrev pub elementIn : Grid → ℕ → List ℕ → ℕ → ℕ → Found
+elementIn g s bytes o n = foundOf (element (record {
   file = bytes;
   form = record { «client_id» = 1; «element_size» = n; «offset_size» = o };
   grid = g;
   elementBytes = 4;
   count = 3;
-}) 0 s
+}) 0 s)
 
 -- of slot 0, chunk 10 with 25 elements present
-abbrev pub elementOf : List ℕ → ℕ → ℕ → Element
+abbrev pub elementOf : List ℕ → ℕ → ℕ → Found
 elementOf bytes o n = elementIn grid 0 bytes o n
 
 -- an address 1, a size, and a mask 3

@@ -3,6 +3,7 @@ use Prim.Native.Nat.{ℕ, zero, suc, _+_, _-_, _*_, _^_, _<_, _≤_}
 use mathlib.Core.Path.{_≡_, refl, sym, ap, _∙_}
 use mathlib.Core.Bool.{Bool, true, false}
 use mathlib.Core.List.{List, []}
+use mathlib.Core.Option.{some}
 use mathlib.Core.Logic.{⊎-elim}
 use native.Mathlib.Omega.{arith}
 use borrow.Author.Tests.{le-ltb, lt-leb, leb-true}
@@ -26,12 +27,11 @@ use Rattle.chunk_slots.proofs.Reach.{all-inside}
 use Rattle.element_form.specs.declared.Form.{Form}
 use Rattle.element_form.specs.Form.{filtered, stride, sizeBytes, elementSizeTest}
 use Rattle.index.specs.Index.{Listing}
-use Rattle.elements.specs.declared.Element.the-variants.{Chunk}
 use Rattle.elements.specs.declared.ElementReader.{ElementReader}
 use Rattle.elements.specs.Elements.{Elements, chunkBytes, undefinedElement, sizeAt, entryAt, entryTest, element}
 use Rattle.elements.specs.Runs.{alsoElement, elementsFrom}
 use Rattle.elements.specs.Values.{Reads}
-use Rattle.elements.proofs.Sized.{gives-passed, element-inside}
+use Rattle.elements.proofs.Elements.{recordHere, chunk-here}
 use Rattle.element_runs.specs.Defined.{definedCount, sizesFit, allChunks}
 use Rattle.element_runs.proofs.Skipping.{skip-one}
 
@@ -76,8 +76,8 @@ module _ (es : Elements) (bytes : (i : ℕ) → getD (es .file) i 0 < 256) (t : 
         rw e (small-size _ (omega arith))
 
     -- a defined element inside the extents
-    chunk-is : (pos s : ℕ) → inExtent (es .grid) s ≡ Inside → undefinedElement es pos ≡ false → element es pos s ≡ Chunk (entryAt es pos)
-    chunk-is pos s i u = element-inside es pos s t i ∙ rw u (gives-passed _ _ (passes-by (filtered (es .form)) refl pos))
+    chunk-is : (pos s : ℕ) → inExtent (es .grid) s ≡ Inside → undefinedElement es pos ≡ false → element es pos s ≡ accepted (some (recordHere es pos s))
+    chunk-is pos s i u = chunk-here es pos s t i u (passes-by (filtered (es .form)) refl pos)
 
     module _ (rest : Listing) where
       defined-one : (pos j s k : ℕ) → inExtent (es .grid) s ≡ Inside → s < es .count → undefinedElement es pos ≡ false

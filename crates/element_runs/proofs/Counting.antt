@@ -16,10 +16,12 @@ use Rattle.chunk_grid.specs.Grid.{offsets, inExtent}
 use Rattle.chunk_grid.specs.declared.Offsets.the-variants.{Inside}
 use Rattle.element_form.specs.Form.{stride, elementSizeTest}
 use Rattle.index.specs.declared.Entry.{Entry}
-use Rattle.elements.specs.declared.Element.{Element}
-use Rattle.elements.specs.declared.Element.the-variants.{Absent, Chunk, Refused as ElementRefused}
+use Rattle.elements.specs.declared.Found.{Found}
+use Rattle.elements.specs.declared.Found.the-variants.{Absent, Chunk, Refused as FoundRefused}
 use Rattle.elements.specs.Elements.{Elements, element}
 use Rattle.elements.specs.Runs.{alsoElement, elementsFrom}
+use Rattle.elements.specs.Values.{foundOf}
+use Rattle.elements.proofs.Answers.{found-refused, found-absent, found-chunk}
 use Rattle.elements.proofs.Runs.{run-part, run-more, run-done}
 use Rattle.element_runs.specs.Defined.{undefinedRun, definedCount, sizesFit}
 use Rattle.element_runs.proofs.Skipping.{skip-here}
@@ -43,22 +45,22 @@ module _ {es : Elements} {pos n slot at i count : ℕ} (k : Counting es pos n sl
 
   module _ (h : i < n) where
     -- the next element is x
-    module _ (l : slot + i < es .count) (x : Element) (is : x ≡ element es at (slot + i)) where
-      turned : plus count (alsoElement x (offsets (es .grid) (slot + i)) (elementsFrom es (at + stride (es .form)) (n - (i + 1)) (slot + (i + 1)) (accepted [])))
+    module _ (l : slot + i < es .count) (x : Found) (is : x ≡ foundOf (element es at (slot + i))) where
+      turned : plus count (alsoElement (element es at (slot + i)) (elementsFrom es (at + stride (es .form)) (n - (i + 1)) (slot + (i + 1)) (accepted [])))
           ≡ countedOf (elementsFrom es pos n slot (accepted []))
-      turned = rw is (sym (ap (plus count) (run-more es n i at slot (accepted []) h l)) ∙ k .whole)
+      turned = sym (ap (plus count) (run-more es n i at slot (accepted []) h l)) ∙ k .whole
 
-      pub counting-refused : (r : Refusal) → x ≡ ElementRefused r → CountedRefused r ≡ countedOf (elementsFrom es pos n slot (accepted []))
+      pub counting-refused : (r : Refusal) → x ≡ FoundRefused r → CountedRefused r ≡ countedOf (elementsFrom es pos n slot (accepted []))
       unfolding plus alsoElement
-      counting-refused r f = rw f at turned
+      counting-refused r f = rw (found-refused _ r (sym is ∙ f)) at turned
 
       pub counting-absent : x ≡ Absent → Counting es pos n slot (at + stride (es .form)) (i + 1) count
       unfolding alsoElement
-      counting-absent f = record { few = omega (arith, k .few); whole = rw f at turned }
+      counting-absent f = record { few = omega (arith, k .few); whole = rw (found-absent _ (sym is ∙ f)) at turned }
 
       pub counting-chunk : (y : Entry) → x ≡ Chunk y → Counting es pos n slot (at + stride (es .form)) (i + 1) (count + 1)
       unfolding alsoElement
-      counting-chunk y f = record { few = omega (arith, k .few); whole = sym (plus-also count _ _) ∙ (rw f at turned) }
+      counting-chunk y f = record { few = omega (arith, k .few); whole = sym (plus-also count _ _) ∙ (rw (found-chunk _ y (sym is ∙ f) .1) at turned) }
 
     module _ (t : elementSizeTest (es .form) ≡ Passed) (b : slot + n ≤ es .count) where
       -- undefined ones are stepped over, m of them

@@ -21,7 +21,7 @@ module _ (es : Elements) (t : elementSizeTest (es .form) ≡ Passed) (rest : Lis
   pub skip-one : (pos n s : ℕ) → s < es .count → undefinedElement es pos ≡ true
       → elementsFrom es pos (suc n) s rest ≡ elementsFrom es (pos + stride (es .form)) n (s + 1) rest
   unfolding elementsFrom alsoElement
-  skip-one pos n s l u = rw (lt-leb (es .count) s l, ← element-undefined es pos s t u) refl
+  skip-one pos n s l u = rw (lt-leb (es .count) s l, element-undefined es pos s t u) refl
 
   pub run-skip : (pos n s : ℕ) → s + n ≤ es .count
       → elementsFrom es pos n s rest

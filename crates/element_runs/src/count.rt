@@ -19,8 +19,8 @@ use crate::defined::undefined_run;
 use chunk_grid::Offsets;
 use chunk_slots::all_inside;
 use chunk_slots::line_from;
-use elements::Element;
 use elements::ElementReader;
+use elements::Found;
 use elements::read::read_defined_element;
 use refusal::Checked;
 use refusal::Counted;
@@ -179,9 +179,9 @@ fn count_each_element(
         }
         let reached = reach.reached;
         match read_defined_element(file, at, reader, reached) {
-            Element::Absent => {}
-            Element::Chunk(_) => count += 1,
-            Element::Refused(r) => return Counted::Refused(r),
+            Found::Absent => {}
+            Found::Chunk(_) => count += 1,
+            Found::Refused(r) => return Counted::Refused(r),
         }
         at += stride;
         i += 1;

@@ -1,27 +1,47 @@
--- An element in front of a list, and what its slot is answered. Assumes nothing.
+-- An element in front of a list, and what is found at it. Assumes nothing.
 use Prim.Native.Nat.{ℕ}
-use mathlib.Core.Path.{_≡_, refl, sym}
+use mathlib.Core.Path.{_≡_, refl, sym, ap}
 use mathlib.Core.List.{List}
 use mathlib.Core.Option.{Option, none, some}
-use Rattle.refusal.specs.Outcome.{accepted, also}
+use native.Mathlib.Omega.{arith}
+use Rattle.refusal.specs.declared.Refusal.{Refusal}
+use Rattle.refusal.specs.Outcome.{Outcome, refused, accepted, also}
 use Rattle.refusal.proofs.Outcomes.{never, also-inv}
+use Rattle.index.specs.declared.Entry.{Entry}
 use Rattle.index.specs.Index.{Rec, Listing, with}
-use Rattle.elements.specs.declared.Element.{Element}
-use Rattle.elements.specs.declared.Element.the-variants.{Absent, Chunk, Refused as ElementRefused}
-use Rattle.elements.specs.Elements.{answerOf}
+use Rattle.elements.specs.declared.Found.the-variants.{Absent, Chunk, Refused as FoundRefused}
 use Rattle.elements.specs.Runs.{alsoElement}
+use Rattle.elements.specs.Values.{foundOf}
 
--- an accepted list that begins with an element: the element's answer in front of what is left
-pub also-element-inv : (e : Element) (k : List ℕ) (a : Listing) (l : List Rec) → alsoElement e k a ≡ accepted l
-    → (x : Option Rec) × (m : List Rec) × (answerOf e k ≡ accepted x) × (a ≡ accepted m) × (l ≡ with x m)
-unfolding alsoElement answerOf with
-also-element-inv Absent k a l h = (none, l, refl, h, refl)
-also-element-inv (Chunk e) k a l h = let i = also-inv _ a l h in (some _, i .0, refl, i .1, i .2)
-also-element-inv (ElementRefused r) k a l h = absurd (never r l h)
+-- an accepted list that begins with an element: what the element gives in front of what is left
+pub also-element-inv : (e : Outcome (Option Rec)) (a : Listing) (l : List Rec) → alsoElement e a ≡ accepted l
+    → (x : Option Rec) × (m : List Rec) × (e ≡ accepted x) × (a ≡ accepted m) × (l ≡ with x m)
+unfolding alsoElement with
+also-element-inv (accepted none) a l h = (none, l, refl, h, refl)
+also-element-inv (accepted (some r)) a l h = let i = also-inv _ a l h in (some r, i .0, refl, i .1, i .2)
+also-element-inv (refused r) a l h = absurd (never r l h)
 
 -- and back
-pub also-element : (e : Element) (k : List ℕ) (x : Option Rec) (l : List Rec) → answerOf e k ≡ accepted x → alsoElement e k (accepted l) ≡ accepted (with x l)
-unfolding answerOf alsoElement also with
-also-element Absent k x l h = let z : none ≡ x = cc in rw (sym z) refl
-also-element (Chunk e) k x l h = let z : some (record { entry = e; corner = k }) ≡ x = cc in rw (sym z) refl
-also-element (ElementRefused r) k x l h = absurd (never r x h)
+pub also-element : (x : Option Rec) (l : List Rec) → alsoElement (accepted x) (accepted l) ≡ accepted (with x l)
+unfolding alsoElement also with
+also-element none l = refl
+also-element (some r) l = refl
+
+-- what an outcome is of which this is found
+pub found-refused : (a : Outcome (Option Rec)) (r : Refusal) → foundOf a ≡ FoundRefused r → a ≡ refused r
+unfolding foundOf
+found-refused (refused x) r h = cc
+found-refused (accepted none) r h = let z : _≡_ {A = ℕ} 0 1 = cc in absurd (omega arith)
+found-refused (accepted (some x)) r h = let z : _≡_ {A = ℕ} 0 1 = cc in absurd (omega arith)
+
+pub found-absent : (a : Outcome (Option Rec)) → foundOf a ≡ Absent → a ≡ accepted none
+unfolding foundOf
+found-absent (refused x) h = let z : _≡_ {A = ℕ} 0 1 = cc in absurd (omega arith)
+found-absent (accepted none) h = refl
+found-absent (accepted (some x)) h = let z : _≡_ {A = ℕ} 0 1 = cc in absurd (omega arith)
+
+pub found-chunk : (a : Outcome (Option Rec)) (e : Entry) → foundOf a ≡ Chunk e → (x : Rec) × (a ≡ accepted (some x)) × (x .entry ≡ e)
+unfolding foundOf
+found-chunk (refused x) e h = let z : _≡_ {A = ℕ} 0 1 = cc in absurd (omega arith)
+found-chunk (accepted none) e h = let z : _≡_ {A = ℕ} 0 1 = cc in absurd (omega arith)
+found-chunk (accepted (some x)) e h = (x, refl, cc)

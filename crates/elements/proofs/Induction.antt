@@ -12,7 +12,6 @@ use Rattle.refusal.specs.declared.Checked.{Checked}
 use Rattle.refusal.specs.declared.Checked.the-variants.{Passed}
 use Rattle.refusal.specs.Outcome.{_yields_}
 use Rattle.refusal.proofs.Tests.{lt-or-ge}
-use Rattle.chunk_grid.specs.Grid.{offsets}
 use Rattle.structures.specs.Structures.{Pages}
 use Rattle.element_form.specs.Form.{stride}
 use Rattle.index.specs.Index.{Listing}
@@ -29,7 +28,7 @@ pub record Steps (e : Elements) (Has : ℕ → ℕ → Type 0) (Lacks : ℕ → 
   pub lack : (s : ℕ) (x y : Listing) → s < e .count → Lacks s → R (s + 1) x y → R s x y
   -- an element stands in front of what is left,
   pub has : (s pos : ℕ) (x y : Listing) → s < e .count → Has s pos → R (s + 1) x y
-      → R s (alsoElement (element e pos s) (offsets (e .grid) s) x) (alsoElement (element e pos s) (offsets (e .grid) s) y)
+      → R s (alsoElement (element e pos s) x) (alsoElement (element e pos s) y)
   -- and what is behind a test counts only where it is passed.
   pub test : (t : Checked) (s : ℕ) (x y : Listing) → Tests t → (t ≡ Passed → R s x y) → R s (t yields x) (t yields y)
 

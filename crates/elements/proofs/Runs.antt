@@ -3,6 +3,7 @@
 use Prim.Native.Nat.{ℕ, zero, suc, _+_, _-_, _*_, _<_, _≤_, min}
 use mathlib.Core.Path.{_≡_, refl, sym, ap, _∙_}
 use mathlib.Core.List.{List, [], _∷_, _++_}
+use mathlib.Core.Option.{Option, none, some}
 use mathlib.Core.Logic.{⊎-elim}
 use native.Mathlib.Omega.{arith}
 use borrow.Author.Tests.{le-leb, lt-leb}
@@ -11,15 +12,12 @@ use lib.ListN.{length}
 use Rattle.refusal.specs.declared.Refusal.{Refusal}
 use Rattle.refusal.specs.declared.Checked.{Checked}
 use Rattle.refusal.specs.declared.Checked.the-variants.{Passed, Refused}
-use Rattle.refusal.specs.Outcome.{refused, accepted, _yields_, also, countedOf}
+use Rattle.refusal.specs.Outcome.{Outcome, refused, accepted, _yields_, also, countedOf}
 use Rattle.refusal.specs.Values.{plus}
 use Rattle.refusal.proofs.Tests.{by-cond, lt-or-ge}
 use Rattle.refusal.proofs.Outcomes.{never, also-inv}
 use Rattle.refusal.proofs.Counts.{plus-also}
-use Rattle.chunk_grid.specs.Grid.{offsets}
 use Rattle.element_form.specs.Form.{stride}
-use Rattle.elements.specs.declared.Element.{Element}
-use Rattle.elements.specs.declared.Element.the-variants.{Absent, Chunk, Refused as ElementRefused}
 use Rattle.refusal.specs.declared.Counted.the-variants.{Count, Refused as CountedRefused}
 use Rattle.elements.specs.Elements.{Elements, element}
 use Rattle.elements.specs.Runs.{alsoElement, elementsFrom}
@@ -40,11 +38,11 @@ unfolding also behind prepend
 also-behind r (refused x) b = refl
 also-behind r (accepted l) b = refl
 
-element-behind : (e : Element) (corner : List ℕ) (a b : Listing) → alsoElement e corner (behind a b) ≡ behind (alsoElement e corner a) b
+element-behind : (e : Outcome (Option Rec)) (a b : Listing) → alsoElement e (behind a b) ≡ behind (alsoElement e a) b
 unfolding alsoElement behind
-element-behind Absent corner a b = refl
-element-behind (Chunk e) corner a b = also-behind _ a b
-element-behind (ElementRefused r) corner a b = refl
+element-behind (accepted none) a b = refl
+element-behind (accepted (some x)) a b = also-behind _ a b
+element-behind (refused r) a b = refl
 
 tested-behind : (t : Checked) (a b rest : Listing) → (t ≡ Passed → a ≡ behind b rest) → t yields a ≡ behind (t yields b) rest
 unfolding _yields_ behind
@@ -56,7 +54,7 @@ pub behind-steps : (es : Elements) (Has : ℕ → ℕ → Type 0) (Lacks : ℕ �
 behind-steps es Has Lacks rest = record {
   past = λ s s′ x y h h′ r. r;
   lack = λ s x y lt h r. r;
-  has = λ s pos x y lt h r. ap (alsoElement (element es pos s) (offsets (es .grid) s)) r ∙ element-behind _ _ y rest;
+  has = λ s pos x y lt h r. ap (alsoElement (element es pos s)) r ∙ element-behind _ y rest;
   test = λ t s x y n r. tested-behind t x y rest r;
 }
 
@@ -109,12 +107,12 @@ pub run-split : (es : Elements) (pos j s : ℕ) (rest : Listing) (l : List Rec) 
 run-split es pos j s rest l h = behind-inv _ rest l (sym (elements-behind es pos j s rest) ∙ h)
 
 -- A run has no more records than elements.
-element-length : (e : Element) (corner : List ℕ) (a : Listing) (l : List Rec) → alsoElement e corner a ≡ accepted l
+element-length : (e : Outcome (Option Rec)) (a : Listing) (l : List Rec) → alsoElement e a ≡ accepted l
     → (m : List Rec) × (a ≡ accepted m) × (length l ≤ suc (length m))
 unfolding alsoElement
-element-length Absent corner a l h = (l, h, omega arith)
-element-length (Chunk e) corner a l h = let i = also-inv _ a l h in (i .0, i .1, omega (arith, ap length (i .2)))
-element-length (ElementRefused r) corner a l h = absurd (never r l h)
+element-length (accepted none) a l h = (l, h, omega arith)
+element-length (accepted (some x)) a l h = let i = also-inv _ a l h in (i .0, i .1, omega (arith, ap length (i .2)))
+element-length (refused r) a l h = absurd (never r l h)
 
 pub run-length : (es : Elements) (pos j s : ℕ) (l : List Rec) → elementsFrom es pos j s (accepted []) ≡ accepted l → length l ≤ j
 unfolding elementsFrom
@@ -123,7 +121,7 @@ run-length es pos (suc j) s l h =
     by-cond (λ (a : Listing). a ≡ accepted l → length l ≤ suc j) (leb (es .count) s)
     (λ t k. let e : l ≡ [] = cc in let z : length l ≡ 0 = ap length e in omega arith)
     (λ t k.
-    let i = element-length (element es pos s) _ _ l k in
+    let i = element-length (element es pos s) _ l k in
     let m = run-length es _ j (s + 1) (i .0) (i .1) in
     omega arith)
     h
@@ -136,7 +134,7 @@ run-clamp es pos (suc n) s rest =
     ⊎-elim
     (λ (h : s < es .count).
     let e : min (suc n) (es .count - s) ≡ suc (min n (es .count - (s + 1))) = omega arith in
-    rw (e, lt-leb (es .count) s h) (ap (alsoElement (element es pos s) (offsets (es .grid) s)) (run-clamp es _ n (s + 1) rest)))
+    rw (e, lt-leb (es .count) s h) (ap (alsoElement (element es pos s)) (run-clamp es _ n (s + 1) rest)))
     (λ (h : es .count ≤ s).
     let e : min (suc n) (es .count - s) ≡ 0 = omega arith in
     rw (e, le-leb (es .count) s h) refl)
@@ -163,14 +161,14 @@ run-part es pos (suc m) n s rest =
     let g : suc m + n ≡ suc (m + n) = omega arith in
     let then = run-part es (pos + stride) m n (s + 1) rest in
     ⊎-elim
-    (λ (h : s < es .count). rw (e, f, g, lt-leb (es .count) s h) (ap (alsoElement (element es pos s) (offsets (es .grid) s)) then))
+    (λ (h : s < es .count). rw (e, f, g, lt-leb (es .count) s h) (ap (alsoElement (element es pos s)) then))
     (λ (h : es .count ≤ s). rw (g, le-leb (es .count) s h) (sym (run-past es _ n (s + suc m) rest (omega arith))))
     (lt-or-ge s (es .count))
 
 -- the first of n elements, whose slot lies below the count, and the others
 pub run-first : (es : Elements) (pos n s : ℕ) (rest : Listing) → 0 < n → s < es .count
     → elementsFrom es pos n s rest
-    ≡ alsoElement (element es pos s) (offsets (es .grid) s) (elementsFrom es (pos + stride (es .form)) (n - 1) (s + 1) rest)
+    ≡ alsoElement (element es pos s) (elementsFrom es (pos + stride (es .form)) (n - 1) (s + 1) rest)
 unfolding elementsFrom
 run-first es pos n s rest h l =
     let e : n ≡ suc (n - 1) = omega arith in
@@ -180,7 +178,7 @@ run-first es pos n s rest h l =
 module _ (es : Elements) (n i at s : ℕ) (rest : Listing) where
   pub run-more : i < n → s + i < es .count
       → elementsFrom es at (n - i) (s + i) rest
-      ≡ alsoElement (element es at (s + i)) (offsets (es .grid) (s + i)) (elementsFrom es (at + stride (es .form)) (n - (i + 1)) (s + (i + 1)) rest)
+      ≡ alsoElement (element es at (s + i)) (elementsFrom es (at + stride (es .form)) (n - (i + 1)) (s + (i + 1)) rest)
   run-more h l =
       let e : n - (i + 1) ≡ n - i - 1 = omega arith in
       let f : s + (i + 1) ≡ s + i + 1 = omega arith in

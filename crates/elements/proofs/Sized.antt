@@ -1,8 +1,9 @@
 -- An element by its tests, and its entry. Assumes nothing.
 use Prim.Native.Nat.{ℕ, _+_, _-_, _^_, _<_, _≤_}
 use mathlib.Core.Path.{_≡_, refl, sym, ap, _∙_}
-use mathlib.Core.Bool.{Bool, true, false, cond}
+use mathlib.Core.Bool.{Bool, true, false, not, cond}
 use mathlib.Core.List.{List}
+use mathlib.Core.Option.{Option, none, some}
 use mathlib.Core.Logic.{⊎-elim}
 use native.Mathlib.Omega.{arith}
 use borrow.Author.Tests.{lt-ltb, le-ltb}
@@ -11,18 +12,21 @@ use Rattle.refusal.specs.declared.Checked.{Checked}
 use Rattle.refusal.specs.declared.Checked.the-variants.{Passed, Refused}
 use Rattle.refusal.specs.Refusals.{figure, refuse, _then_}
 use Rattle.refusal.proofs.Tests.{lt-or-ge, refuse-true}
+use Rattle.refusal.specs.Outcome.{accepted, refused, _yields_}
+use Rattle.refusal.proofs.Outcomes.{yields-passed, yields-refused}
 use Rattle.fields.specs.LittleEndian.{leAt}
 use Rattle.fields.specs.Fields.{undefined, addressAt, undefinedAt, sizeTest}
 use Rattle.fields.specs.Values.{narrowed}
 use Rattle.fields.specs.declared.convert.Narrowed.the-variants.{Value, Refused as NarrowedRefused}
 use Rattle.fields.proofs.Numbers.{narrow-is, too-wide-is}
-use Rattle.chunk_grid.specs.Grid.{inExtent}
+use Rattle.chunk_grid.specs.Grid.{offsets, offsetsTest, below, insideOr, inExtent}
 use Rattle.chunk_grid.specs.declared.Offsets.{Offsets}
-use Rattle.chunk_grid.specs.declared.Offsets.the-variants.{Inside}
 use Rattle.element_form.specs.Form.{filtered, sizeBytes, elementSizeTest}
-use Rattle.elements.specs.declared.Element.{Element}
-use Rattle.elements.specs.declared.Element.the-variants.{Absent, Chunk, Refused as ElementRefused}
-use Rattle.elements.specs.Elements.{Elements, chunkBytes, undefinedElement, sizeAt, maskAt, entryAt, entryTest, _gives_, insideOnly, element}
+use Rattle.index.specs.Index.{Rec}
+use Rattle.elements.specs.declared.Found.{Found}
+use Rattle.elements.specs.declared.Found.the-variants.{Chunk, Refused as FoundRefused}
+use Rattle.elements.specs.Elements.{Elements, chunkBytes, undefinedElement, sizeAt, maskAt, entryAt, entryTest, element}
+use Rattle.elements.specs.Values.{foundOf, _gives_, insideOnly}
 
 -- whether the address a at pos is undefined, as it is tested
 pub tested : (file : List ℕ) (pos o a : ℕ) (b : Bool) → a ≡ addressAt file pos o → b ≡ undefined o a → undefinedAt file pos o ≡ b
@@ -30,20 +34,29 @@ unfolding undefinedAt
 tested file pos o a b e f = rw (← e) (sym f)
 
 -- first the test, then what follows
-pub gives-passed : (t : Checked) (x : Element) → t ≡ Passed → t gives x ≡ x
+pub gives-passed : (t : Checked) (x : Found) → t ≡ Passed → t gives x ≡ x
 unfolding _gives_
 gives-passed t x h = rw h refl
 
-pub gives-refused : (t : Checked) (x : Element) (r : Refusal) → t ≡ Refused r → t gives x ≡ ElementRefused r
+pub gives-refused : (t : Checked) (x : Found) (r : Refusal) → t ≡ Refused r → t gives x ≡ FoundRefused r
 unfolding _gives_
 gives-refused t x r h = rw h refl
+
+-- what is found behind the test of a slot's offsets, and behind a test
+reached-found : (o : Checked) (b : Bool) (t : Checked) (x : Rec)
+    → foundOf (o yields cond (not b) (accepted none) (t yields accepted (some x))) ≡ insideOnly (insideOr o b) (t gives Chunk (x .entry))
+unfolding foundOf insideOr insideOnly _yields_ _gives_
+reached-found (Refused r) b t x = refl
+reached-found Passed false t x = refl
+reached-found Passed true Passed x = refl
+reached-found Passed true (Refused r) x = refl
 
 -- a number and its figure are refused alike, and where they aren't, they are the same
 over-size : (n : ℕ) → 2 ^ 32 - 1 < n → sizeTest n ≡ Refused (record { number = 30; first = figure n; second = 0 })
 unfolding sizeTest
 over-size n h = sym (refuse-true 30 (figure n) 0 _ (lt-ltb (2 ^ 32 - 1) n h))
 
-pub figure-size : (n : ℕ) (entry : ℕ → Element) → sizeTest (figure n) gives entry (figure n) ≡ sizeTest n gives entry n
+pub figure-size : (n : ℕ) (entry : ℕ → Found) → sizeTest (figure n) gives entry (figure n) ≡ sizeTest n gives entry n
 unfolding figure
 figure-size n entry =
     ⊎-elim
@@ -61,13 +74,13 @@ module _ (address n mask : ℕ) where
       let i = narrow-is _ n v e in
       ap (λ (x : ℕ). Chunk (record { address = address; size = x; mask = mask })) (i .1) ∙ sym (gives-passed _ _ (sym (i .0)))
 
-  pub entry-too-wide : (r : Refusal) → NarrowedRefused r ≡ narrowed n → ElementRefused r ≡ sizeTest n gives Chunk (record { address = address; size = n; mask = mask })
+  pub entry-too-wide : (r : Refusal) → NarrowedRefused r ≡ narrowed n → FoundRefused r ≡ sizeTest n gives Chunk (record { address = address; size = n; mask = mask })
   unfolding narrowed
   entry-too-wide r e = sym (gives-refused _ _ _ (sym (too-wide-is _ n r e)))
 
 module _ (es : Elements) (pos : ℕ) where
   -- the entry at pos, tested
-  abbrev pub entry : Element
+  abbrev pub entry : Found
   entry = entryTest es pos gives Chunk (entryAt es pos)
 
   -- unfiltered, behind the address a
@@ -79,7 +92,7 @@ module _ (es : Elements) (pos : ℕ) where
 
   -- filtered, the size in w bytes
   module _ (p : filtered (es .form) ≡ true) (w : ℕ) (width : w ≡ sizeBytes (es .form)) where
-    pub entry-wide : 8 < w → ElementRefused (record { number = 29; first = 0; second = 0 }) ≡ entry
+    pub entry-wide : 8 < w → FoundRefused (record { number = 29; first = 0; second = 0 }) ≡ entry
     unfolding entryTest refuse _then_ _gives_
     entry-wide l = rw (p, ← width, lt-ltb 8 w l) refl
 
@@ -91,20 +104,19 @@ module _ (es : Elements) (pos : ℕ) where
 
   -- the element of slot s at pos, by the test of its size, ..
   module _ (s : ℕ) where
-    pub element-refused : (x : Refusal) → elementSizeTest (es .form) ≡ Refused x → ElementRefused x ≡ element es pos s
+    pub element-refused : (x : Refusal) → elementSizeTest (es .form) ≡ Refused x → element es pos s ≡ refused x
     unfolding element
-    element-refused x t = sym (gives-refused _ _ x t)
+    element-refused x t = yields-refused _ _ x t
 
     -- .. by its address, and by its slot's offsets
     module _ (t : elementSizeTest (es .form) ≡ Passed) where
-      pub element-undefined : undefinedElement es pos ≡ true → Absent ≡ element es pos s
+      pub element-undefined : undefinedElement es pos ≡ true → element es pos s ≡ accepted none
       unfolding element
-      element-undefined u = sym (gives-passed _ _ t ∙ rw u refl)
+      element-undefined u = yields-passed _ _ t ∙ rw u refl
 
-      pub element-defined : undefinedElement es pos ≡ false → (k : Offsets) → k ≡ inExtent (es .grid) s → insideOnly k entry ≡ element es pos s
-      unfolding element
-      element-defined u k o = sym (gives-passed _ _ t ∙ rw (u, ← o) refl)
-
-      pub element-inside : inExtent (es .grid) s ≡ Inside → element es pos s ≡ cond (undefinedElement es pos) Absent entry
-      unfolding element insideOnly
-      element-inside i = gives-passed _ _ t ∙ rw i refl
+      pub element-defined : undefinedElement es pos ≡ false → (k : Offsets) → k ≡ inExtent (es .grid) s → insideOnly k entry ≡ foundOf (element es pos s)
+      unfolding element inExtent
+      element-defined u k o =
+          let x : Rec = record { entry = entryAt es pos; corner = offsets (es .grid) s } in
+          let r = reached-found (offsetsTest (es .grid) s) (below (offsets (es .grid) s) (es .grid .present)) (entryTest es pos) x in
+          rw (o, ← r, yields-passed {A = Option Rec} _ _ t, u) refl

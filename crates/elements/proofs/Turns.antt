@@ -57,4 +57,4 @@ module _ (es : Elements) (pos n slot left : ℕ) (rest : Listing) (e : left ≡ 
 
   pub left-refused : 0 < left → (x : Refusal) → elementSizeTest (es .form) ≡ Refused x → elementsFrom es pos n slot rest ≡ refused x
   unfolding alsoElement
-  left-refused h x t = run-first es pos n slot rest (omega arith) (omega arith) ∙ rw (← element-refused es pos slot x t) refl
+  left-refused h x t = run-first es pos n slot rest (omega arith) (omega arith) ∙ rw (element-refused es pos slot x t) refl

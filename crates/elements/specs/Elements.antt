@@ -1,24 +1,19 @@
 -- One element of an index.
 use Prim.Native.Nat.{ℕ, _+_, _*_}
-use mathlib.Core.Bool.{Bool, cond, _&&_}
+use mathlib.Core.Bool.{Bool, not, cond, _&&_}
 use mathlib.Core.List.{List, [], _∷_}
 use mathlib.Core.Option.{Option, none, some}
 use lib.Dec.{ltb}
 use Rattle.refusal.specs.declared.Checked.{Checked}
-use Rattle.refusal.specs.declared.Checked.the-variants.{Passed, Refused}
 use Rattle.refusal.specs.Refusals.{refuse, _then_}
-use Rattle.refusal.specs.Outcome.{Outcome, refused, accepted}
+use Rattle.refusal.specs.Outcome.{Outcome, accepted, _yields_}
 use Rattle.fields.specs.LittleEndian.{leAt}
 use Rattle.fields.specs.Fields.{addressAt, undefinedAt, sizeTest}
-use Rattle.chunk_grid.specs.Grid.{Grid, inExtent}
-use Rattle.chunk_grid.specs.declared.Offsets.{Offsets}
-use Rattle.chunk_grid.specs.declared.Offsets.the-variants.{Inside, Dropped, Refused as OffsetsRefused}
+use Rattle.chunk_grid.specs.Grid.{Grid, offsets, offsetsTest, below}
 use Rattle.element_form.specs.declared.Form.{Form}
 use Rattle.element_form.specs.Form.{filtered, sizeBytes, elementSizeTest}
 use Rattle.index.specs.declared.Entry.{Entry}
 use Rattle.index.specs.Index.{Rec}
-use Rattle.elements.specs.declared.Element.{Element}
-use Rattle.elements.specs.declared.Element.the-variants.{Absent, Chunk, Refused as ElementRefused}
 
 -- What the elements of an index are read by: the file, their form, the grid that numbers their chunks, the bytes of one
 -- element of the dataset, and the published count.
@@ -58,27 +53,12 @@ entryAt e pos = record { address = addressAt (e .file) pos (e .form .«offset_si
 unfoldable pub entryTest : Elements → ℕ → Checked
 entryTest e pos = refuse 29 0 0 (filtered (e .form) && ltb 8 (sizeBytes (e .form))) then sizeTest (sizeAt e pos)
 
--- first the test: what follows counts only where it is passed
-infixr 5 _gives_
-unfoldable pub _gives_ : Checked → Element → Element
-Passed gives x = x
-Refused r gives x = ElementRefused r
-
--- 32, 33, dropped; what follows counts only inside the extents
-unfoldable pub insideOnly : Offsets → Element → Element
-insideOnly Inside x = x
-insideOnly Dropped x = Absent
-insideOnly (OffsetsRefused r) x = ElementRefused r
-
--- Element: 28, 1, undefined, 32, 33, dropped, 29, 30: the element of slot s at pos.
-unfoldable pub element : Elements → ℕ → ℕ → Element
+-- Element: 28, 1, undefined, 32, 33, dropped, 29, 30: the element of slot s at pos gives no chunk or its record, whose
+-- corner is the slot's offsets. A slot whose offsets don't all lie below the present extents is dropped, without refusal.
+unfoldable pub element : Elements → ℕ → ℕ → Outcome (Option Rec)
 element e pos s =
     elementSizeTest (e .form)
-    gives cond (undefinedElement e pos) Absent
-    (insideOnly (inExtent (e .grid) s) (entryTest e pos gives Chunk (entryAt e pos)))
-
--- a chunk's entry with its corner, or no chunk
-unfoldable pub answerOf : Element → List ℕ → Outcome (Option Rec)
-answerOf Absent corner = accepted none
-answerOf (Chunk x) corner = accepted (some (record { entry = x; corner = corner }))
-answerOf (ElementRefused r) corner = refused r
+    yields cond (undefinedElement e pos) (accepted none)
+    (offsetsTest (e .grid) s
+    yields cond (not (below (offsets (e .grid) s) (e .grid .present))) (accepted none)
+    (entryTest e pos yields accepted (some (record { entry = entryAt e pos; corner = offsets (e .grid) s }))))

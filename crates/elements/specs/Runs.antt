@@ -2,29 +2,26 @@
 -- `rest` is what comes behind it, and s the slot that the walk has come to.
 use Prim.Native.Nat.{ℕ, zero, suc, _+_}
 use mathlib.Core.Bool.{not, cond}
-use mathlib.Core.List.{List}
+use mathlib.Core.Option.{Option, none, some}
 use lib.Dec.{leb, ltb}
-use Rattle.refusal.specs.Outcome.{refused, also, _yields_}
-use Rattle.chunk_grid.specs.Grid.{offsets}
+use Rattle.refusal.specs.Outcome.{Outcome, refused, accepted, also, _yields_}
 use Rattle.structures.specs.Structures.{Pages}
 use Rattle.element_form.specs.Form.{stride}
-use Rattle.index.specs.Index.{Listing}
-use Rattle.elements.specs.declared.Element.{Element}
-use Rattle.elements.specs.declared.Element.the-variants.{Absent, Chunk, Refused as ElementRefused}
+use Rattle.index.specs.Index.{Rec, Listing}
 use Rattle.elements.specs.Elements.{Elements, element}
 
--- one element in front of what is left, with the offsets of its slot
-unfoldable pub alsoElement : Element → List ℕ → Listing → Listing
-alsoElement Absent corner a = a
-alsoElement (Chunk x) corner a = also (record { entry = x; corner = corner }) a
-alsoElement (ElementRefused r) corner a = refused r
+-- what an element gives in front of what is left
+unfoldable pub alsoElement : Outcome (Option Rec) → Listing → Listing
+alsoElement (refused r) a = refused r
+alsoElement (accepted none) a = a
+alsoElement (accepted (some x)) a = also x a
 
 -- the elements from pos on, j of them; none at or past the published count is read
 unfoldable pub elementsFrom : Elements → ℕ → ℕ → ℕ → Listing → Listing
 elementsFrom e pos zero s rest = rest
 elementsFrom e pos (suc j) s rest =
     cond (leb (e .count) s) rest
-    (alsoElement (element e pos s) (offsets (e .grid) s) (elementsFrom e (pos + stride (e .form)) j (s + 1) rest))
+    (alsoElement (element e pos s) (elementsFrom e (pos + stride (e .form)) j (s + 1) rest))
 
 -- The pages of a data block, j of them from p on. A clear page is stepped over by its full stride.
 -- A set page that runs past the count is tested, then ends its data block.

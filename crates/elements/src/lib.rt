@@ -19,8 +19,8 @@ use refusal::Refusal;
 
 pub mod read;
 
-// What reading an element gives: no chunk, a chunk's entry, or a refusal.
-pub enum Element {
+// What is found where a chunk is looked for: none, its entry, or why there is no answer.
+pub enum Found {
     Absent,
     Chunk(Entry),
     Refused(Refusal),

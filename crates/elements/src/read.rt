@@ -9,11 +9,11 @@ ghost use Rattle.fields.specs.Fields.{addressAt, undefinedAt, sizeTest};
 ghost use Rattle.chunk_grid.specs.declared.Offsets.the-variants.{Inside};
 ghost use Rattle.chunk_grid.specs.Grid.{Grid, inExtent};
 ghost use Rattle.element_form.specs.Form.{stride, elementSizeTest};
-ghost use Rattle.elements.specs.declared.Element.the-variants.{Chunk};
-ghost use Rattle.elements.specs.Elements.{chunkBytes, entryAt, entryTest, _gives_, element};
-ghost use Rattle.elements.specs.Values.{elementsOf, Reads};
-use crate::Element;
+ghost use Rattle.elements.specs.declared.Found.the-variants.{Chunk};
+ghost use Rattle.elements.specs.Elements.{chunkBytes, entryAt, entryTest, element};
+ghost use Rattle.elements.specs.Values.{foundOf, _gives_, elementsOf, Reads};
 use crate::ElementReader;
+use crate::Found;
 use chunk_grid::Offsets;
 use fields::address::is_undefined_addr;
 use fields::bytes::read_address;
@@ -34,19 +34,19 @@ pub fn read_element(
     chunk: &[u64; 32],
     bound: &[u64; 32],
     down: &[u64; 32],
-) -> Element
+) -> Found
     requires { ⌜ ((grid : Grid) × (n : ℕ) × Reads reader (now chunk) (now bound) (now down) grid n)
         × (pos + stride (reader .form) ≤ length (now file)) ⌝ }
     ensures { λ r. ⌜ ((grid : Grid) (n : ℕ) → Reads reader (now (chunk .entry)) (now (bound .entry)) (now (down .entry)) grid n
-        → r ≡ element (elementsOf (now (file .entry)) reader grid n) pos slot) ⌝ }
+        → r ≡ foundOf (element (elementsOf (now (file .entry)) reader grid n) pos slot)) ⌝ }
 {
     if let Checked::Refused(r) = reader.form.test() {
-        return Element::Refused(r);
+        return Found::Refused(r);
     }
     let width = reader.form.offset_size;
     let address = read_address(file, pos, width as usize);
     if is_undefined_addr(address, width) {
-        return Element::Absent;
+        return Found::Absent;
     }
     let mut offsets = [0u64; 32];
     let reached = reader.reach(&mut offsets, slot, chunk, bound, down);
@@ -60,35 +60,35 @@ pub fn read_defined_element(
     pos: usize,
     reader: ElementReader,
     reached: Offsets,
-) -> Element
+) -> Found
     requires { ⌜ (elementSizeTest (reader .form) ≡ Passed) × (pos + stride (reader .form) ≤ length (now file))
         × (undefinedAt (now file) pos (reader .form .«offset_size») ≡ false) ⌝ }
     ensures { λ r. ⌜ ((grid : Grid) (n s : ℕ) → reader .«chunk_bytes» ≡ figure (chunkBytes grid n) → reached ≡ inExtent grid s
-        → r ≡ element (elementsOf (now (file .entry)) reader grid n) pos s) ⌝ }
+        → r ≡ foundOf (element (elementsOf (now (file .entry)) reader grid n) pos s)) ⌝ }
 {
     match reached {
         Offsets::Inside => read_inside_element(file, pos, reader),
-        Offsets::Dropped => Element::Absent,
-        Offsets::Refused(r) => Element::Refused(r),
+        Offsets::Dropped => Found::Absent,
+        Offsets::Refused(r) => Found::Refused(r),
     }
 }
 
 // The element at pos of a slot that lies in the present extents, where the size of elements has passed its test.
-pub fn read_inside_element(file: &[u8], pos: usize, reader: ElementReader) -> Element
+pub fn read_inside_element(file: &[u8], pos: usize, reader: ElementReader) -> Found
     requires { ⌜ (elementSizeTest (reader .form) ≡ Passed) × (pos + stride (reader .form) ≤ length (now file)) ⌝ }
     ensures { λ r. ⌜ ((grid : Grid) (n s : ℕ) → reader .«chunk_bytes» ≡ figure (chunkBytes grid n) → inExtent grid s ≡ Inside
-        → r ≡ element (elementsOf (now (file .entry)) reader grid n) pos s) ⌝ }
+        → r ≡ foundOf (element (elementsOf (now (file .entry)) reader grid n) pos s)) ⌝ }
 {
     let width = reader.form.offset_size;
     let address = read_address(file, pos, width as usize);
     if is_undefined_addr(address, width) {
-        return Element::Absent;
+        return Found::Absent;
     }
     read_entry(file, pos, reader, address.value)
 }
 
 // The entry at pos, whose address is read: 29, then 30. Filtered, its size and its mask lie behind the address.
-fn read_entry(file: &[u8], pos: usize, reader: ElementReader, address: u64) -> Element
+fn read_entry(file: &[u8], pos: usize, reader: ElementReader, address: u64) -> Found
     requires { ⌜ (elementSizeTest (reader .form) ≡ Passed) × (pos + stride (reader .form) ≤ length (now file))
         × (address ≡ addressAt (now file) pos (reader .form .«offset_size»)) ⌝ }
     ensures { λ r. ⌜ ((grid : Grid) (n : ℕ) → reader .«chunk_bytes» ≡ figure (chunkBytes grid n)
@@ -100,7 +100,7 @@ fn read_entry(file: &[u8], pos: usize, reader: ElementReader, address: u64) -> E
     }
     let width = form.size_bytes();
     if 8 < width {
-        return Element::Refused(Refusal::plain(Refusal::SIZE_FIELD));
+        return Found::Refused(Refusal::plain(Refusal::SIZE_FIELD));
     }
     let at = pos + form.offset_size as usize;
     let size = read_le(file, at, width as usize);
@@ -109,15 +109,15 @@ fn read_entry(file: &[u8], pos: usize, reader: ElementReader, address: u64) -> E
 }
 
 // The entry of these numbers: 30 where 32 bits don't hold the size.
-fn entry_of(address: u64, size: u64, mask: u32) -> Element
+fn entry_of(address: u64, size: u64, mask: u32) -> Found
     ensures { λ r. ⌜ r ≡ (sizeTest size gives Chunk (record { address = address; size = size; mask = mask })) ⌝ }
 {
     match u32_from(size) {
-        Narrowed::Value(size) => Element::Chunk(Entry {
+        Narrowed::Value(size) => Found::Chunk(Entry {
             address,
             size,
             mask,
         }),
-        Narrowed::Refused(r) => Element::Refused(r),
+        Narrowed::Refused(r) => Found::Refused(r),
     }
 }

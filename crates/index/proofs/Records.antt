@@ -43,11 +43,11 @@ module _ (i : Index) where
   record-at s r h = record-inv (i .held s) (chunkAt (i .grid) s) r h
 
   -- a member of the records is the record of one of the slots
-  abbrev pub Found : ℕ → ℕ → Rec → Type 0
-  Found s m r = (t : ℕ) × (s ≤ t) × (t < s + m) × (recordAt i t ≡ some r)
+  abbrev pub RecordFrom : ℕ → ℕ → Rec → Type 0
+  RecordFrom s m r = (t : ℕ) × (s ≤ t) × (t < s + m) × (recordAt i t ≡ some r)
 
-  listed-with : (s m : ℕ) (x : Option Rec) (l : List Rec) → recordAt i s ≡ x → ((r : Rec) → List·Memᴰ r l → Found (s + 1) m r)
-      → (r : Rec) → List·Memᴰ r (with x l) → Found s (suc m) r
+  listed-with : (s m : ℕ) (x : Option Rec) (l : List Rec) → recordAt i s ≡ x → ((r : Rec) → List·Memᴰ r l → RecordFrom (s + 1) m r)
+      → (r : Rec) → List·Memᴰ r (with x l) → RecordFrom s (suc m) r
   unfolding with
   listed-with s m none l e k r h = let g = k r h in (g .0, omega arith, omega arith, g .3)
   listed-with s m (some y) l e k r h =
@@ -56,7 +56,7 @@ module _ (i : Index) where
       (λ (h′ : List·Memᴰ r l). let g = k r h′ in (g .0, omega arith, omega arith, g .3))
       (List·Memᴰ·cases-cons h)
 
-  pub listed : (m s : ℕ) (r : Rec) → List·Memᴰ r (records i s m) → Found s m r
+  pub listed : (m s : ℕ) (r : Rec) → List·Memᴰ r (records i s m) → RecordFrom s m r
   unfolding records
   listed zero s r h = absurd (List·Memᴰ·not-nil h)
   listed (suc m) s r h = listed-with s m (recordAt i s) (records i (s + 1) m) refl (listed m (s + 1)) r h

@@ -25,7 +25,7 @@ use Rattle.index.proofs.All.{All, records-all}
 use Rattle.elements.proofs.Elements.{some-is}
 use Rattle.records.specs.Records.{recordLength, listBytes, listContent, recordsIn}
 use Rattle.records.proofs.Records.{Ranked, length-list}
-use Rattle.records.proofs.ReadBack.{Fits, list-back, answer-fits}
+use Rattle.records.proofs.ReadBack.{Fits, list-back, element-fits}
 use Rattle.located.specs.Located.{Located, indexOf, path}
 use Rattle.located.proofs.Walks.{Right, right-records, right-exact}
 
@@ -34,7 +34,7 @@ module _ (x : Located) (bytes : (i : ℕ) → getD (x .elements .file) i 0 < 256
   unfolding path
   path-fits s r h =
       by-cond (λ (a : Outcome (Option Rec)). a ≡ accepted (some r) → Fits r) (x .reached s)
-      (λ t e. answer-fits (x .elements) bytes _ s r e) (λ t e. absurd (none-some r (some-is none (some r) e)))
+      (λ t e. element-fits (x .elements) bytes _ s r e) (λ t e. absurd (none-some r (some-is none (some r) e)))
       (yields-inv _ _ (some r) h .1)
 
   -- the records of slots fit their bytes, where the paths to these slots are accepted

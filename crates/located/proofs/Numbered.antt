@@ -5,15 +5,14 @@ use lib.Dec.{ltb}
 use Rattle.refusal.proofs.Numbered.{Numbered, Told, told-yields, told-accepted, told-cond}
 use Rattle.chunk_grid.specs.declared.Slot.{Slot}
 use Rattle.chunk_grid.specs.declared.Slot.the-variants.{At, NoSlot}
-use Rattle.chunk_grid.specs.Grid.{offsets}
-use Rattle.elements.proofs.Numbered.{element-numbered, answer-told}
+use Rattle.elements.proofs.Numbered.{element-told}
 use Rattle.located.specs.Located.{Located, path, slotPath}
 
 module _ (x : Located) (t : (s : ℕ) → Numbered (x .tests s)) where
   path-told : (s : ℕ) → Told (path x s)
   unfolding path
   path-told s =
-      told-yields _ _ (t s) (told-cond (x .reached s) (answer-told _ (offsets (x .elements .grid) s) (element-numbered (x .elements) _ s)) (told-accepted none))
+      told-yields _ _ (t s) (told-cond (x .reached s) (element-told (x .elements) _ s) (told-accepted none))
 
   pub slot-told : (s : Slot) → Told (slotPath x s)
   unfolding slotPath

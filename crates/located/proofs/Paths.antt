@@ -10,14 +10,13 @@ use Rattle.refusal.specs.declared.Checked.the-variants.{Passed, Refused}
 use Rattle.refusal.specs.Outcome.{Outcome, refused, accepted}
 use Rattle.refusal.proofs.Tests.{by-cond}
 use Rattle.refusal.proofs.Outcomes.{yields-inv, yields-passed, yields-refused}
-use Rattle.chunk_grid.specs.Grid.{offsets}
 use Rattle.chunk_grid.specs.Chunks.{chunkAt}
 use Rattle.chunk_grid.specs.declared.Slot.{Slot}
 use Rattle.chunk_grid.specs.declared.Slot.the-variants.{At, NoSlot}
 use Rattle.index.specs.declared.Entry.{Entry}
 use Rattle.index.specs.Index.{Rec, recordOf, recordAt}
 use Rattle.index.proofs.Answers.{slotRecord}
-use Rattle.elements.specs.Elements.{undefinedElement, element, answerOf}
+use Rattle.elements.specs.Elements.{undefinedElement, element}
 use Rattle.elements.proofs.Elements.{some-is, element-record}
 use Rattle.located.specs.Located.{Located, heldIn, indexOf, path, slotPath}
 use Rattle.located.specs.Runs.{HasAt}
@@ -34,12 +33,8 @@ pub record LeadsNowhere (x : Located) (s : ℕ) : Type 0 where
   pub reach : x .reached s ≡ false
 
 module _ (x : Located) (s : ℕ) where
-  -- what the element at pos answers for the slot
-  abbrev pub answerAt : ℕ → Outcome (Option Rec)
-  answerAt pos = answerOf (element (x .elements) pos s) (offsets (x .elements .grid) s)
-
   -- where the path ends
-  pub way-to : (pos : ℕ) → LeadsTo x s pos → path x s ≡ answerAt pos
+  pub way-to : (pos : ℕ) → LeadsTo x s pos → path x s ≡ element (x .elements) pos s
   unfolding path
   way-to pos h = rw (h .reach, h .position) (yields-passed _ _ (h .tested))
 
@@ -56,7 +51,7 @@ module _ (x : Located) (s : ℕ) where
   unfolding recordAt heldIn recordOf
   unreached r = rw r refl
 
-  pub reached-record : (pos : ℕ) (r : Option Rec) → HasAt x s pos → answerAt pos ≡ accepted r → recordAt (indexOf x) s ≡ r
+  pub reached-record : (pos : ℕ) (r : Option Rec) → HasAt x s pos → element (x .elements) pos s ≡ accepted r → recordAt (indexOf x) s ≡ r
   unfolding recordAt heldIn
   reached-record pos r k h =
       rw (k .reach, k .position)
@@ -82,7 +77,7 @@ module _ (x : Located) (s : ℕ) where
         (yields-inv _ _ r h .1)
 
     -- and the answer of the element that it reaches
-    pub path-element : (pos : ℕ) → HasAt x s pos → answerAt pos ≡ accepted r
+    pub path-element : (pos : ℕ) → HasAt x s pos → element (x .elements) pos s ≡ accepted r
     unfolding path
     path-element pos k = let a = yields-inv _ _ r h .1 in rw (k .reach, k .position) at a
 

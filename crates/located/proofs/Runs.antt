@@ -69,7 +69,7 @@ module _ (x : Located) where
       (λ (lt : s < count).
       let z : min (suc n) (count - s) ≡ suc (min n (count - (s + 1))) = omega arith in
       let e = path-element x s (recordAt (indexOf x) s) (p s (omega arith) lt) pos (first (HasAt x) s pos st n h) in
-      rw (lt-leb count s lt, z, again) (also-element _ _ (recordAt (indexOf x) s) _ e))
+      rw (lt-leb count s lt, z, again, e) (also-element (recordAt (indexOf x) s) _))
       (λ (ge : count ≤ s).
       let z : min (suc n) (count - s) ≡ 0 = omega arith in
       rw (le-leb count s ge, z) refl)

@@ -61,7 +61,7 @@ module _ (x : Located) where
     past = λ s s′ a b h h′ r l e. right-past s s′ l h h′ (r l e);
     lack = λ s a b lt n r l e. right-more s none l l lt (way-nowhere x s n) refl (r l e);
     has = λ s pos a b lt w r l e.
-        let i = also-element-inv _ _ _ l e in
+        let i = also-element-inv _ _ l e in
         right-more s (i .0) l (i .1) lt (way-to x s pos w ∙ i .2) (i .4) (r (i .1) (i .3));
     test = λ t s a b n r l e. let y = yields-inv _ _ l e in r (y .0) l (y .1);
   }

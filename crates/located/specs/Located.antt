@@ -5,12 +5,11 @@ use mathlib.Core.Option.{Option, none, some}
 use lib.Dec.{ltb}
 use Rattle.refusal.specs.declared.Checked.{Checked}
 use Rattle.refusal.specs.Outcome.{Outcome, accepted, _yields_}
-use Rattle.chunk_grid.specs.Grid.{offsets}
 use Rattle.chunk_grid.specs.declared.Slot.{Slot}
 use Rattle.chunk_grid.specs.declared.Slot.the-variants.{At, NoSlot}
 use Rattle.index.specs.declared.Entry.{Entry}
 use Rattle.index.specs.Index.{Index, Rec}
-use Rattle.elements.specs.Elements.{Elements, undefinedElement, entryAt, element, answerOf}
+use Rattle.elements.specs.Elements.{Elements, undefinedElement, entryAt, element}
 
 -- What its elements are read by; of each slot the tests of the structures that lead to its place, whether all pointers
 -- on the way are defined and its page bit (if any) is set, and the file's position of its element.
@@ -30,9 +29,7 @@ indexOf l = record { grid = l .elements .grid; count = l .elements .count; held 
 
 -- The path to a slot's place: the tests of the structures that lead to it, then its element.
 unfoldable pub path : Located → ℕ → Outcome (Option Rec)
-path l s =
-    l .tests s
-    yields cond (l .reached s) (answerOf (element (l .elements) (l .position s) s) (offsets (l .elements .grid) s)) (accepted none)
+path l s = l .tests s yields cond (l .reached s) (element (l .elements) (l .position s) s) (accepted none)
 
 -- What a slot is answered: below the count what its path comes to, else nothing.
 unfoldable pub slotPath : Located → Slot → Outcome (Option Rec)

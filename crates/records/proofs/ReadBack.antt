@@ -31,9 +31,7 @@ use Rattle.index.specs.declared.Entry.{Entry}
 use Rattle.index.specs.Index.{Rec}
 use Rattle.index.proofs.All.{All}
 use Rattle.index.proofs.Records.{none-some}
-use Rattle.elements.specs.declared.Element.{Element}
-use Rattle.elements.specs.declared.Element.the-variants.{Absent, Chunk, Refused as ElementRefused}
-use Rattle.elements.specs.Elements.{Elements, sizeAt, maskAt, entryAt, entryTest, element, answerOf}
+use Rattle.elements.specs.Elements.{Elements, sizeAt, maskAt, entryAt, entryTest, element}
 use Rattle.elements.proofs.Elements.{chunk-inv}
 use Rattle.records.specs.Records.{recordLength, offsetBytes, recordBytes, listBytes, recordIn, recordsIn}
 use Rattle.records.proofs.Records.{length-record, Ranked}
@@ -142,14 +140,5 @@ module _ (es : Elements) (bytes : (i : ℕ) → getD (es .file) i 0 < 256) (pos 
         corner = refuse-inv _ _ _ _ (then-inv _ _ (or-passed _ _ i) .1);
       }
 
-  answer-by : (e : Element) → element es pos s ≡ e → (r : Rec) → answerOf e (offsets (es .grid) s) ≡ accepted (some r) → Fits r
-  unfolding answerOf
-  answer-by Absent p r h = let z : none ≡ some r = cc in absurd (none-some r z)
-  answer-by (Chunk x) p r h =
-      let i = chunk-inv es pos s x p in
-      let z : record { entry = x; corner = offsets (es .grid) s } ≡ r = cc in
-      subst Fits z (subst (λ (y : Entry). Fits (record { entry = y; corner = offsets (es .grid) s })) (i .3) (entry-fits (i .0) (i .1) (i .2)))
-  answer-by (ElementRefused q) p r h = absurd (never q (some r) h)
-
-  pub answer-fits : (r : Rec) → answerOf (element es pos s) (offsets (es .grid) s) ≡ accepted (some r) → Fits r
-  answer-fits r h = answer-by (element es pos s) refl r h
+  pub element-fits : (r : Rec) → element es pos s ≡ accepted (some r) → Fits r
+  element-fits r h = let i = chunk-inv es pos s r h in subst Fits (sym (i .3)) (entry-fits (i .0) (i .1) (i .2))

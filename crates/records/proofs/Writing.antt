@@ -2,23 +2,24 @@
 use Prim.Native.Nat.{ℕ, _+_, _-_, _*_, _<_, _≤_}
 use mathlib.Core.Path.{_≡_, refl, sym, ap, _∙_}
 use mathlib.Core.List.{List, [], _∷_, _++_}
+use mathlib.Core.Option.{Option, none, some}
 use native.Mathlib.Nat.{add-zero, sub-zero}
 use native.Mathlib.Omega.{arith}
 use lib.ListN.{length, length-append}
 use lib.Seq.{sets, length-sets}
 use Rattle.refusal.specs.declared.Checked.the-variants.{Passed}
-use Rattle.refusal.specs.Outcome.{accepted}
+use Rattle.refusal.specs.Outcome.{Outcome, refused, accepted}
 use Rattle.refusal.proofs.Outcomes.{never, also-inv}
 use Rattle.chunk_grid.specs.Grid.{offsets, inExtent}
 use Rattle.chunk_grid.specs.declared.Offsets.the-variants.{Inside}
 use Rattle.element_form.specs.Form.{stride, elementSizeTest}
 use Rattle.index.specs.declared.Entry.{Entry}
 use Rattle.index.specs.Index.{Rec, Listing}
-use Rattle.elements.specs.declared.Element.{Element}
-use Rattle.elements.specs.declared.Element.the-variants.{Absent, Chunk, Refused as ElementRefused}
+use Rattle.elements.specs.declared.Found.the-variants.{Chunk}
 use Rattle.elements.specs.Elements.{Elements, element}
 use Rattle.elements.specs.Runs.{alsoElement, elementsFrom}
-use Rattle.elements.proofs.Elements.{element-sized, chunk-inv}
+use Rattle.elements.specs.Values.{foundOf}
+use Rattle.elements.proofs.Elements.{element-sized, chunk-inv, chunk-found}
 use Rattle.elements.proofs.Runs.{run-split, run-more, run-done, run-part}
 use Rattle.element_runs.specs.Defined.{undefinedRun}
 use Rattle.element_runs.proofs.Skipping.{skip-here}
@@ -26,11 +27,11 @@ use Rattle.records.specs.Records.{recordLength, recordBytes, listBytes}
 use Rattle.records.proofs.Records.{sets-append, length-record, list-append}
 
 -- in front of an accepted listing an element that holds no chunk changes nothing
-other-inv : (e : Element) (corner : List ℕ) (a : Listing) (l : List Rec) → alsoElement e corner a ≡ accepted l → ((x : Entry) → e ≡ Chunk x → ⊥) → a ≡ accepted l
-unfolding alsoElement
-other-inv Absent corner a l h not = h
-other-inv (Chunk x) corner a l h not = absurd (not x refl)
-other-inv (ElementRefused r) corner a l h not = absurd (never r l h)
+other-inv : (e : Outcome (Option Rec)) (a : Listing) (l : List Rec) → alsoElement e a ≡ accepted l → ((x : Entry) → foundOf e ≡ Chunk x → ⊥) → a ≡ accepted l
+unfolding alsoElement foundOf
+other-inv (accepted none) a l h not = h
+other-inv (accepted (some x)) a l h not = absurd (not (x .entry) refl)
+other-inv (refused r) a l h not = absurd (never r l h)
 
 -- of n elements whose slots begin at `slot` those from i on are at `from`, and their records, stored at `to`, make W, which ends at `end`
 pub record Left (es : Elements) (n slot from i : ℕ) (out : List ℕ) (to : ℕ) (W : List ℕ) (end : ℕ) : Type 0 where
@@ -95,23 +96,23 @@ module _ {es : Elements} {n slot from i : ℕ} {out : List ℕ} {to : ℕ} {W : 
 
   -- the element that is next, and what is left behind it
   module _ (k : i < n) (b : slot + i < es .count) where
-    next : alsoElement (element es from (slot + i)) (offsets (es .grid) (slot + i)) (elementsFrom es (from + stride (es .form)) (n - (i + 1)) (slot + (i + 1)) (accepted []))
+    next : alsoElement (element es from (slot + i)) (elementsFrom es (from + stride (es .form)) (n - (i + 1)) (slot + (i + 1)) (accepted []))
         ≡ accepted (w .records)
     next = sym (run-more es n i from slot (accepted []) k b) ∙ w .is
 
     -- its size has passed its test
     pub left-sized : elementSizeTest (es .form) ≡ Passed
-    left-sized = element-sized es from (slot + i) _ _ _ next
+    left-sized = element-sized es from (slot + i) _ _ next
 
     -- no chunk: nothing is written
-    pub left-other : ((x : Entry) → element es from (slot + i) ≡ Chunk x → ⊥) → Left es n slot (from + stride (es .form)) (i + 1) out to W end
-    left-other not = record { records = w .records; is = other-inv _ _ _ _ next not; makes = w .makes; ends = w .ends }
+    pub left-other : ((x : Entry) → foundOf (element es from (slot + i)) ≡ Chunk x → ⊥) → Left es n slot (from + stride (es .form)) (i + 1) out to W end
+    left-other not = record { records = w .records; is = other-inv _ _ _ next not; makes = w .makes; ends = w .ends }
 
     pub left-outside : (inExtent (es .grid) (slot + i) ≡ Inside → ⊥) → Left es n slot (from + stride (es .form)) (i + 1) out to W end
-    left-outside not = left-other (λ x f. not (chunk-inv es from (slot + i) x f .1))
+    left-outside not = left-other (λ x f. not (chunk-inv es from (slot + i) _ (chunk-found es from (slot + i) x f) .1))
 
     -- a chunk: its record is written
-    module _ {x : Entry} (f : element es from (slot + i) ≡ Chunk x) {corner : List ℕ} (g : corner ≡ offsets (es .grid) (slot + i)) {rank : ℕ} (e : length corner ≡ rank) where
+    module _ {x : Entry} (f : foundOf (element es from (slot + i)) ≡ Chunk x) {corner : List ℕ} (g : corner ≡ offsets (es .grid) (slot + i)) {rank : ℕ} (e : length corner ≡ rank) where
       abbrev written : Rec
       written = record { entry = x; corner = corner }
 
@@ -120,7 +121,7 @@ module _ {es : Elements} {n slot from i : ℕ} {out : List ℕ} {to : ℕ} {W : 
 
       chunk-next : (m : List Rec) × (elementsFrom es (from + stride (es .form)) (n - (i + 1)) (slot + (i + 1)) (accepted []) ≡ accepted m) × (w .records ≡ written ∷ m)
       unfolding alsoElement
-      chunk-next = also-inv _ _ _ (rw (f, ← g) at next)
+      chunk-next = also-inv _ _ _ (rw (chunk-found es from (slot + i) x f, ← g) at next)
 
       lengths : to + recordLength rank + length (listBytes (chunk-next .0)) ≡ end
       unfolding listBytes

@@ -17,8 +17,8 @@ use chunk_slots::Line;
 use chunk_slots::line_from;
 use element_runs::count::below_count;
 use element_runs::defined::undefined_run;
-use elements::Element;
 use elements::ElementReader;
+use elements::Found;
 use elements::read::read_inside_element;
 use fields::bytes::put_le;
 use index::Entry;
@@ -89,7 +89,7 @@ fn write_line(
     // The first i elements are passed, their records written up to `to`, and the next element is at `from`.
     while i < n {
         let element = read_inside_element(file, from, reader);
-        if let Element::Chunk(entry) = element {
+        if let Found::Chunk(entry) = element {
             put_record(out, to, entry, rank, offsets, dim, first + i * step);
             to += 16 + 8 * rank;
         }

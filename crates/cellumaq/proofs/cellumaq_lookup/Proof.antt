@@ -5,7 +5,7 @@ use mathlib.Core.Path.{_≡_, ap, _∙_}
 use Rattle.chunk_grid.specs.Shapes.{given, givenBytes}
 use Rattle.calls.specs.Call.{gridGiven}
 use Rattle.calls.specs.Answer.{picked}
-use Rattle.ea_lookup.specs.declared.Found.{Found}
+use Rattle.elements.specs.declared.Found.{Found}
 use Rattle.ea_lookup.specs.Call.{foundAnswer}
 use Rattle.ea_lookup.proofs.Numbered.{lookup-zero}
 use Rattle.cellumaq.proofs.cellumaq_lookup.Statement.{statement}

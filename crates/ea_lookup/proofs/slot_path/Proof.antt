@@ -3,12 +3,11 @@ use Prim.Native.Nat.{ℕ}
 use mathlib.Core.Path.{_≡_, sym, ap, subst, _∙_}
 use native.Mathlib.Omega.{arith}
 use Rattle.chunk_grid.specs.Grid.{Grid}
-use Rattle.elements.specs.Values.{elementsOf}
+use Rattle.elements.specs.Values.{elementsOf, foundOf}
 use Rattle.located.specs.Located.{slotPath}
 use Rattle.ea_blocks.specs.declared.enter.Entered.{Entered}
 use Rattle.ea_blocks.specs.Array.{arrayOf}
 use Rattle.ea_walk.specs.Walk.{located}
-use Rattle.ea_lookup.specs.Found.{foundOf}
 use Rattle.ea_lookup.specs.PathEnds.{endAnswer, EndInFile}
 use Rattle.ea_lookup.proofs.Lookups.{no-slot, past-count, below-count}
 use borrow.Author.Needs.{needs}
@@ -34,8 +33,8 @@ ended c g n e =
     ap (λ (x : Entered). foundOf (endAnswer (elementsOf (a .file .now) (a .reader) g n) (s .slot .given .0 .0) x)) (sym e)
     ∙ ap foundOf (sym (c .path-of .ensures .answer _ (s .before .before .before .pre .1 .form)) ∙ below-count _ _ _ (s .slot .given .1) (omega arith))
 
-found-at-requires : tie.Need-found-at-requires
-found-at-requires c κs =
+read-element-requires : tie.Need-read-element-requires
+read-element-requires c κs =
     let p = c .before .before .before in
     let b = p .before .before .before .before .before .before .before .pre .1 in
     ((b .grid, b .elementBytes, b .reads), rw (← b .form) (subst (EndInFile _) (c .before .pos .given .1) (p .path-of .ensures .inside)))
@@ -46,7 +45,7 @@ returns-3 c = λ g n h. ended (c .before .before) g n (c .enum-told2 .given .1)
 
 returns-4 : tie.Need-returns-4
 unfolding endAnswer
-returns-4 c = λ g n h. c .found-at .ensures g n h ∙ ended (c .before .before .before .before) g n (c .before .before .pos .given .1)
+returns-4 c = λ g n h. c .read-element .ensures g n h ∙ ended (c .before .before .before .before) g n (c .before .before .pos .given .1)
 
 returns-5 : tie.Need-returns-5
 unfolding endAnswer foundOf
@@ -57,4 +56,4 @@ slot-path-spec =
     tie.close
     (tie.spec (search needs) (search needs) returns returns-2
     (λ c κs. c .before .before .before .before .before .before .pre .0) (search needs) (search needs)
-    found-at-requires (search needs) returns-3 returns-4 returns-5)
+    read-element-requires (search needs) returns-3 returns-4 returns-5)

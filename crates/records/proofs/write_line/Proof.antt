@@ -10,9 +10,9 @@ use Rattle.chunk_grid.specs.Grid.{Grid}
 use Rattle.element_form.specs.Form.{stride as strideOf}
 use Rattle.index.specs.declared.Entry.{Entry}
 use Rattle.index.specs.Index.{Rec}
-use Rattle.elements.specs.declared.Element.the-variants.{Chunk}
+use Rattle.elements.specs.declared.Found.the-variants.{Chunk}
 use Rattle.elements.specs.Elements.{element}
-use Rattle.elements.specs.Values.{elementsOf}
+use Rattle.elements.specs.Values.{foundOf, elementsOf}
 use Rattle.elements.proofs.Readers.{reads-rank}
 use Rattle.elements.proofs.Turns.{Within, within-first, within-here, within-more}
 use Rattle.records.specs.Records.{recordLength, listBytes}
@@ -67,7 +67,7 @@ read-inside-element-requires c κs =
 -- the element that is read
 is-element : (c : tie.After-read-inside-element Inv-loop μ-loop) (grid : Grid) (m s : ℕ) (l : List Rec) → LinedAt (c .before .before) grid m s l
     → c .read-inside-element .result
-    ≡ element (elementsOf (start (c .before .before) .args .file .now) (start (c .before .before) .args .reader) grid m) (c .before .before .loop .from) (s + c .before .before .loop .i)
+    ≡ foundOf (element (elementsOf (start (c .before .before) .args .file .now) (start (c .before .before) .args .reader) grid m) (c .before .before .loop .from) (s + c .before .before .loop .i))
 is-element c grid m s l h = c .read-inside-element .ensures grid m _ (h .chunked) (h .inside _ (c .before .loop-test .taken))
 
 -- the slot of a chunk is one of the line

@@ -9,6 +9,7 @@ use Rattle.chunk_grid.specs.Grid.{Grid}
 use Rattle.element_form.specs.Form.{stride as strideOf}
 use Rattle.element_form.proofs.Forms.{sized-width, sized-stride}
 use Rattle.elements.specs.Elements.{Elements, element}
+use Rattle.elements.specs.Values.{foundOf}
 use Rattle.elements.specs.Values.{elementsOf, Reads}
 use Rattle.elements.proofs.Turns.{Within, within-first, within-here, within-more, within-pass}
 use Rattle.element_runs.proofs.DefinedRuns.{first-defined}
@@ -141,7 +142,7 @@ loop-again-2 c = rw (lineOf (c .before .before) .before .before .stride .ensures
 -- the next element, which is defined
 is-element : (c : tie.After-read-defined-element Inv-loop μ-loop) (grid : Grid) (m : ℕ) → ReadsAt (lineOf (c .before .before)) grid m
     → c .read-defined-element .result
-    ≡ element (elementsAt (lineOf (c .before .before)) grid m) (lineOf (c .before .before) .loop .at) (start (lineOf (c .before .before)) .args .slot + lineOf (c .before .before) .loop .i)
+    ≡ foundOf (element (elementsAt (lineOf (c .before .before)) grid m) (lineOf (c .before .before) .loop .at) (start (lineOf (c .before .before)) .args .slot + lineOf (c .before .before) .loop .i))
 is-element c grid m q = c .read-defined-element .ensures grid m _ (q .chunked) (c .before .before .reach-from .ensures .2 grid m q .0)
 
 read-defined-element-requires : tie.Need-read-defined-element-requires Inv-loop μ-loop

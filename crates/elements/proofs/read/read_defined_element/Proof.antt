@@ -1,7 +1,7 @@
 -- `elements::read::read_defined_element` meets its contract. Assumes nothing.
 use mathlib.Core.Path.{sym, _∙_}
 use borrow.Author.Needs.{needs}
-use Rattle.elements.specs.Elements.{insideOnly}
+use Rattle.elements.specs.Values.{insideOnly}
 use Rattle.elements.proofs.Sized.{element-defined}
 use Rattle.elements.proofs.read.read_defined_element.Statement.{statement}
 use Rattle.elements.proofs.read.read_defined_element.Tie as tie

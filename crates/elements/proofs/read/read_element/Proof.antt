@@ -1,16 +1,18 @@
 -- `elements::read::read_element` meets its contract. Assumes nothing.
-use mathlib.Core.Path.{_≡_, sym, _∙_}
+use mathlib.Core.Path.{_≡_, sym, ap, _∙_}
 use native.Mathlib.Omega.{arith}
 use borrow.Author.Needs.{needs}
 use Rattle.refusal.specs.declared.Checked.the-variants.{Passed}
 use Rattle.element_form.specs.Form.{elementSizeTest}
 use Rattle.element_form.proofs.Forms.{sized-width, sized-stride}
+use Rattle.elements.specs.Values.{foundOf}
 use Rattle.elements.proofs.Sized.{tested, element-refused, element-undefined}
 use Rattle.elements.proofs.read.read_element.Statement.{statement}
 use Rattle.elements.proofs.read.read_element.Tie as tie
 
 returns : tie.Need-returns
-returns c = λ grid n q. element-refused _ _ _ _ (sym (c .before .before .before .test .ensures) ∙ c .before .r .given .1)
+unfolding foundOf
+returns c = λ grid n q. sym (ap foundOf (element-refused _ _ _ _ (sym (c .before .before .before .test .ensures) ∙ c .before .r .given .1)))
 
 -- the size of elements has passed its test
 abbrev start : tie.After-enum-told → tie.Start
@@ -23,9 +25,11 @@ read-address-requires : tie.Need-read-address-requires
 read-address-requires c κs = (omega (arith, start c .pre .1, sized-stride _ (sized c)), sized-width _ (sized c))
 
 returns-2 : tie.Need-returns-2
+unfolding foundOf
 returns-2 c = λ grid n q.
     let a = c .before .before in
-    element-undefined _ _ _ (sized (a .before)) (tested _ _ _ _ _ (a .read-address .ensures) (c .before .is-undefined-addr .ensures) ∙ c .if1 .taken)
+    let u = tested _ _ _ _ _ (a .read-address .ensures) (c .before .is-undefined-addr .ensures) ∙ c .if1 .taken in
+    sym (ap foundOf (element-undefined _ _ _ (sized (a .before)) u))
 
 read-defined-element-requires : tie.Need-read-defined-element-requires
 read-defined-element-requires c κs =

@@ -8,7 +8,7 @@ use borrow.Author.Tests.{not-true, not-false}
 use lib.ListN.{length}
 use Rattle.element_form.specs.Form.{filtered, sizeBytes}
 use Rattle.element_form.proofs.Forms.{filtered-room}
-use Rattle.elements.specs.declared.Element.the-variants.{Refused}
+use Rattle.elements.specs.declared.Found.the-variants.{Refused}
 use Rattle.elements.proofs.Sized.{entry-plain, entry-wide, entry-filtered}
 use Rattle.elements.proofs.read.read_entry.Statement.{statement}
 use Rattle.elements.proofs.read.read_entry.Tie as tie

@@ -1,9 +1,9 @@
 -- `elements::read::read_inside_element` meets its contract. Assumes nothing.
-use mathlib.Core.Path.{sym, _∙_}
+use mathlib.Core.Path.{sym, ap, _∙_}
 use native.Mathlib.Omega.{arith}
 use borrow.Author.Needs.{needs}
 use Rattle.element_form.proofs.Forms.{sized-width, sized-stride}
-use Rattle.elements.specs.Elements.{insideOnly}
+use Rattle.elements.specs.Values.{foundOf, insideOnly}
 use Rattle.elements.proofs.Sized.{tested, element-undefined, element-defined}
 use Rattle.elements.proofs.read.read_inside_element.Statement.{statement}
 use Rattle.elements.proofs.read.read_inside_element.Tie as tie
@@ -14,9 +14,11 @@ read-address-requires c κs =
     (omega (arith, p .1, sized-stride _ (p .0)), sized-width _ (p .0))
 
 returns : tie.Need-returns
+unfolding foundOf
 returns c = λ grid n s e i.
     let a = c .before .before in
-    element-undefined _ _ s (a .before .before .pre .0) (tested _ _ _ _ _ (a .read-address .ensures) (c .before .is-undefined-addr .ensures) ∙ c .if1 .taken)
+    let u = tested _ _ _ _ _ (a .read-address .ensures) (c .before .is-undefined-addr .ensures) ∙ c .if1 .taken in
+    sym (ap foundOf (element-undefined _ _ s (a .before .before .pre .0) u))
 
 returns-2 : tie.Need-returns-2
 unfolding insideOnly
