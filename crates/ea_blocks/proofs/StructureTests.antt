@@ -18,9 +18,9 @@ use Rattle.ea_geometry.specs.Extents.{elementStride, elementAt, inlineElementAt
 use Rattle.ea_geometry.specs.Place.{inPages}
 use Rattle.ea_geometry.proofs.Positions.{direct-pointers-inside, super-pointers-inside}
 use Rattle.ea_blocks.specs.declared.ExtensibleArray.{ExtensibleArray}
-use Rattle.ea_blocks.specs.Array.{Array, arrayOf}
+use Rattle.ea_blocks.specs.Array.{Array}
 use Rattle.ea_blocks.specs.Structures.{Structure, indexBlock, superBlock, dataBlock, dataPage, startOf, extentOf, testOf, arrayTest, isDirect, superAt, blockNamedAt, blockAt, dataPageAt}
-use Rattle.ea_blocks.specs.Values.{IndexInFile}
+use Rattle.ea_blocks.specs.Values.{IndexInFile, arrayOf}
 
 module _ (a : Array) where
   -- what the way into an array leaves

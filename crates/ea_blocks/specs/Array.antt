@@ -4,7 +4,6 @@ use mathlib.Core.List.{List}
 use Rattle.checksum.specs.Lookup3.{lookup3}
 use Rattle.ea_header.specs.declared.Parameters.{Parameters}
 use Rattle.ea_header.specs.declared.ExtensibleArrayHeader.{ExtensibleArrayHeader}
-use Rattle.ea_blocks.specs.declared.ExtensibleArray.{ExtensibleArray}
 
 -- The file, the checksum, the array's parameters, the size of an address, and the file's position of the index block.
 -- The checksum is lookup3 in every contract; another stands in its place only where a small file is computed by hand.
@@ -15,16 +14,7 @@ pub record Array : Type 0 where
   pub offsetSize : ℕ
   pub indexAt : ℕ
 
--- the array that the code's values stand for
-abbrev pub arrayOf : List ℕ → ExtensibleArray → Array
-arrayOf file a = record {
-  file = file;
-  sum = lookup3;
-  parameters = a .geometry .parameters;
-  offsetSize = a .geometry .«offset_size»;
-  indexAt = a .«index_at»;
-}
-
--- those of a header with this offset size
-abbrev pub headed : ExtensibleArrayHeader → ℕ → ExtensibleArray
-headed h o = record { geometry = record { parameters = h .parameters; «offset_size» = o }; «index_at» = h .«index_block_address» }
+-- the array that a header heads, with this offset size
+abbrev pub arrayFrom : List ℕ → ExtensibleArrayHeader → ℕ → Array
+arrayFrom file h o =
+    record { file = file; sum = lookup3; parameters = h .parameters; offsetSize = o; indexAt = h .«index_block_address» }

@@ -11,7 +11,7 @@ use Rattle.structures.specs.Structures.{structureTest, Pages}
 use Rattle.structures.specs.PageBits.{pageBit}
 use Rattle.ea_header.specs.Served.{servedTest}
 use Rattle.ea_geometry.specs.Sizes.{directSuperBlocks, pageElements, bitNumber}
-use Rattle.ea_geometry.specs.Extents.{indexExtent, superExtent, dataExtent, pagedHeadExtent, pageExtent, pageAt, pageBitsAt, directPointerAt, superPointerAt, blockPointerAt}
+use Rattle.ea_geometry.specs.Extents.{indexExtent, superExtent, dataExtent, pagedHeadExtent, pageExtent, pageAt, blockPrefix, directPointerAt, superPointerAt, blockPointerAt}
 use Rattle.ea_geometry.specs.Place.{inPages}
 use Rattle.ea_blocks.specs.Array.{Array}
 
@@ -48,7 +48,7 @@ blockUndefined a u k = undefinedAt (a .file) (blockNamedAt a u k) (a .offsetSize
 
 -- whether page bit b of super block u is set
 unfoldable pub bitSet : Array → ℕ → ℕ → Bool
-bitSet a u b = pageBit (a .file) (superAt a u + pageBitsAt (a .parameters) (a .offsetSize)) b
+bitSet a u b = pageBit (a .file) (superAt a u + blockPrefix (a .parameters) (a .offsetSize)) b
 
 unfoldable pub pageSet : Array → ℕ → ℕ → ℕ → Bool
 pageSet a u k p = bitSet a u (bitNumber (a .parameters) u k p)
@@ -91,9 +91,5 @@ arrayTest a = servedTest (a .parameters) then testOf a indexBlock
 
 -- the pages of data block k of super block u
 abbrev pub pagesOf : Array → ℕ → ℕ → Pages
-pagesOf a u k = record {
-  size = pageElements (a .parameters);
-  set = pageSet a u k;
-  test = λ (p : ℕ). testOf a (dataPage u k p);
-  position = dataPageAt a u k;
-}
+pagesOf a u k =
+    record { size = pageElements (a .parameters); set = pageSet a u k; position = dataPageAt a u k; test = λ (p : ℕ). testOf a (dataPage u k p) }

@@ -5,6 +5,8 @@ use mathlib.Core.Bool.{Bool, true, cond}
 use mathlib.Core.List.{List}
 use lib.ListN.{length}
 use Rattle.fields.specs.Fields.{isWidth}
+use Rattle.checksum.specs.Lookup3.{lookup3}
+use Rattle.ea_header.specs.declared.ExtensibleArrayHeader.{ExtensibleArrayHeader}
 use Rattle.ea_geometry.specs.Bounded.{Bounded}
 use Rattle.ea_geometry.specs.Sizes.{superBlocks, blocks, directSuperBlocks, pages}
 use Rattle.ea_geometry.specs.Extents.{indexExtent, superExtent}
@@ -12,6 +14,21 @@ use Rattle.ea_geometry.specs.Place.{inPages}
 use Rattle.ea_blocks.specs.declared.pointers.Pointer.{Pointer}
 use Rattle.ea_blocks.specs.declared.pointers.Pointer.the-variants.{Undefined, At}
 use Rattle.ea_blocks.specs.declared.ExtensibleArray.{ExtensibleArray}
+use Rattle.ea_blocks.specs.Array.{Array}
+
+-- the array that the code's values stand for
+abbrev pub arrayOf : List ℕ → ExtensibleArray → Array
+arrayOf file a = record {
+  file = file;
+  sum = lookup3;
+  parameters = a .geometry .parameters;
+  offsetSize = a .geometry .«offset_size»;
+  indexAt = a .«index_at»;
+}
+
+-- those of a header with this offset size
+abbrev pub headed : ExtensibleArrayHeader → ℕ → ExtensibleArray
+headed h o = record { geometry = record { parameters = h .parameters; «offset_size» = o }; «index_at» = h .«index_block_address» }
 
 -- The parameters are served, the offset size is a width, and the index block lies in the file.
 pub record IndexInFile (file : List ℕ) (a : ExtensibleArray) : Type 0 where

@@ -1,6 +1,6 @@
 // The blocks and pages of an extensible array.
 ghost use mathlib.Core.Path.{_≡_};
-ghost use Rattle.ea_blocks.specs.Array.{headed};
+ghost use Rattle.ea_blocks.specs.Values.{headed};
 use ea_geometry::EaGeometry;
 use ea_header::ExtensibleArrayHeader;
 

@@ -5,10 +5,9 @@ ghost use Prim.Native.Nat.{_+_, _<_, _≤_};
 ghost use lib.ListN.{length};
 ghost use Rattle.fields.specs.Fields.{isWidth, addressAt, undefinedAt};
 ghost use Rattle.ea_geometry.specs.Sizes.{superBlocks, directSuperBlocks};
-ghost use Rattle.ea_blocks.specs.Array.{arrayOf};
 ghost use Rattle.ea_blocks.specs.Structures.{isDirect};
 ghost use Rattle.ea_blocks.specs.Structures.{superAt, blockAt, superUndefined, blockUndefined, pageSet};
-ghost use Rattle.ea_blocks.specs.Values.{IndexInFile, PointerInFile, PageBitInFile, pointerOf};
+ghost use Rattle.ea_blocks.specs.Values.{IndexInFile, PointerInFile, PageBitInFile, pointerOf, arrayOf};
 use crate::ExtensibleArray;
 use fields::address::is_undefined_addr;
 use fields::bytes::read_address;
@@ -49,7 +48,7 @@ pub fn page_set(file: &[u8], array: ExtensibleArray, super_at: u64, u: u64, k: u
     requires { ⌜ PageBitInFile (now file) array «super_at» u k p ⌝ }
     ensures { λ r. ⌜ (let a = arrayOf (now (file .entry)) array in «super_at» ≡ superAt a u → r ≡ pageSet a u k p) ⌝ }
 {
-    let pos = super_at + array.geometry.page_bits_at();
+    let pos = super_at + array.geometry.block_prefix();
     let bit = array.geometry.bit_number(u, k, p);
     page_is_initialized(file, pos as usize, bit as usize)
 }

@@ -7,7 +7,7 @@ ghost use Rattle.ea_header.specs.Values.{Served};
 ghost use Rattle.ea_geometry.specs.Bounded.{Bounded};
 ghost use Rattle.ea_geometry.specs.Sizes.{superBlocks, pages};
 ghost use Rattle.ea_geometry.specs.Place.{inPages};
-ghost use Rattle.ea_blocks.specs.Array.{arrayOf};
+ghost use Rattle.ea_blocks.specs.Values.{arrayOf};
 ghost use Rattle.ea_blocks.specs.Structures.{indexBlock, arrayTest, superBlock, dataBlock, dataPage, testOf};
 ghost use Rattle.ea_blocks.specs.Structures.{superAt, blockAt};
 use crate::ExtensibleArray;

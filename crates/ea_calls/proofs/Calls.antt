@@ -19,8 +19,8 @@ use Rattle.elements.specs.Elements.{Elements}
 use Rattle.ea_header.specs.Header.{headerTest}
 use Rattle.ea_header.proofs.Numbered.{header-numbered}
 use Rattle.ea_geometry.specs.Extents.{formOf}
-use Rattle.ea_blocks.specs.Array.{Array}
-use Rattle.ea_walk.specs.Given.{arrayFrom, elementsIn}
+use Rattle.ea_blocks.specs.Array.{Array, arrayFrom}
+use Rattle.ea_walk.specs.Walk.{elementsIn}
 use Rattle.ea_walk.proofs.Numbered.{list-told}
 use Rattle.calls.specs.Call.{Call}
 use Rattle.calls.specs.Answer.{picked, refusedAnswer, countedAnswer, chunkNames, ZeroAccepts}

@@ -7,9 +7,8 @@ use Rattle.elements.specs.Elements.{Elements}
 use Rattle.located.specs.Located.{indexOf}
 use Rattle.ea_header.specs.declared.ExtensibleArrayHeader.{ExtensibleArrayHeader}
 use Rattle.ea_header.specs.Header.{headerAt, headerTest}
-use Rattle.ea_blocks.specs.Array.{Array}
-use Rattle.ea_walk.specs.Walk.{located, list}
-use Rattle.ea_walk.specs.Given.{arrayFrom, elementsIn}
+use Rattle.ea_blocks.specs.Array.{Array, arrayFrom}
+use Rattle.ea_walk.specs.Walk.{located, list, elementsIn}
 use Rattle.calls.specs.Call.{Call}
 
 -- The header at the call's address, ..

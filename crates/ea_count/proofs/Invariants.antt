@@ -30,9 +30,9 @@ use Rattle.ea_blocks.specs.declared.enter.Ahead.{Ahead}
 use Rattle.ea_blocks.specs.declared.enter.Ahead.the-variants.{Unknown}
 use Rattle.ea_blocks.specs.declared.enter.Entered.{Entered}
 use Rattle.ea_blocks.specs.declared.enter.Entered.the-variants.{Absent, At, Refused as EnteredRefused}
-use Rattle.ea_blocks.specs.Array.{Array, arrayOf}
+use Rattle.ea_blocks.specs.Array.{Array}
 use Rattle.ea_blocks.specs.Structures.{dataBlock, dataPage, isDirect, superAt, blockAt}
-use Rattle.ea_blocks.specs.Values.{PointerInFile, PageBitInFile}
+use Rattle.ea_blocks.specs.Values.{PointerInFile, PageBitInFile, arrayOf}
 use Rattle.ea_blocks.specs.Entered.{EnteredSuper, EnteredBlock, EnteredPage, TestedAhead}
 use Rattle.ea_blocks.proofs.StructureTests.{not-direct}
 use Rattle.ea_blocks.proofs.Entering.{entered-super-room, entered-block-room, entered-head-room, entered-page-room}

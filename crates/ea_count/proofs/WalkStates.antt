@@ -36,7 +36,8 @@ use Rattle.ea_geometry.proofs.Counts.{elements-before-few, pages-exact}
 use Rattle.ea_geometry.proofs.Places.{in-pages-over, next-slot}
 use Rattle.ea_blocks.specs.declared.ExtensibleArray.{ExtensibleArray}
 use Rattle.ea_blocks.specs.declared.enter.Entered.the-variants.{Absent, At, Refused as EnteredRefused}
-use Rattle.ea_blocks.specs.Array.{Array, arrayOf}
+use Rattle.ea_blocks.specs.Array.{Array}
+use Rattle.ea_blocks.specs.Values.{arrayOf}
 use Rattle.ea_blocks.specs.Structures.{pagesOf, isDirect, superAt, blockAt, dataPageAt}
 use Rattle.ea_blocks.specs.Entered.{EnteredSuper, EnteredBlock, EnteredPage}
 use Rattle.ea_blocks.proofs.StructureTests.{is-direct, not-direct}

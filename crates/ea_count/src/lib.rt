@@ -7,7 +7,7 @@ ghost use Rattle.refusal.specs.Values.{plus};
 ghost use Rattle.chunk_grid.specs.Grid.{Grid};
 ghost use Rattle.elements.specs.Values.{elementsOf, Reads};
 ghost use Rattle.ea_geometry.specs.Slots.{firstSlot};
-ghost use Rattle.ea_blocks.specs.Array.{arrayOf};
+ghost use Rattle.ea_blocks.specs.Values.{arrayOf};
 ghost use Rattle.ea_walk.specs.Walk.{supersFrom};
 ghost use Rattle.ea_count.specs.Values.{WalkFrom};
 use ea_blocks::ExtensibleArray;

@@ -13,7 +13,7 @@ use Rattle.refusal.proofs.Tests.{by-cond}
 use Rattle.ea_geometry.specs.Sizes.{superBlocks, blocks, blockElements, directSuperBlocks, blocksBefore, directPointers, superPointers, pageElements, overPage, pages, bitmapBytes}
 use Rattle.structures.specs.PageBits.{bitBytes, bitByte}
 use Rattle.element_form.specs.Form.{filtered, stride}
-use Rattle.ea_geometry.specs.Extents.{formOf, elementStride, elementAt, pointerAt, indexPrefix, inlineElementAt, directPointersAt, superPointersAt, indexExtent, directPointerAt, superPointerAt, blockPrefix, pageBitsAt, blockPointerAt, superExtent, blockElementAt, dataExtent, pagedHeadExtent, pageExtent, pageAt, pagedExtent, pagedElementAt}
+use Rattle.ea_geometry.specs.Extents.{formOf, elementStride, elementAt, pointerAt, indexPrefix, inlineElementAt, directPointersAt, superPointersAt, indexExtent, directPointerAt, superPointerAt, blockPrefix, blockPointerAt, superExtent, blockElementAt, dataExtent, pagedHeadExtent, pageExtent, pageAt, pagedExtent, pagedElementAt}
 use Rattle.ea_geometry.specs.Sizes.{bitNumber}
 use Rattle.ea_geometry.proofs.Counts.{blocks-before-lt, supers-few, direct-pointers-few}
 
@@ -57,7 +57,7 @@ module _ (h : Parameters) (o : ℕ) where
   direct-pointers-inside = omega arith
 
   -- in a super block
-  pub bit-inside : (u k p : ℕ) → overPage h u ≡ true → k < blocks u → p < pages h u → pageBitsAt h o + bitByte (bitNumber h u k p) < blockPointerAt h o u 0
+  pub bit-inside : (u k p : ℕ) → overPage h u ≡ true → k < blocks u → p < pages h u → blockPrefix h o + bitByte (bitNumber h u k p) < blockPointerAt h o u 0
   unfolding bitByte bitNumber blockPointerAt pointerAt bitmapBytes bitBytes
   bit-inside u k p t lk lp =
       let lt = digits-lt lk lp in
@@ -67,7 +67,7 @@ module _ (h : Parameters) (o : ℕ) where
 
   pub block-pointer-inside : (u k : ℕ) → k < blocks u → blockPointerAt h o u k + o + 4 ≤ superExtent h o u
   unfolding superExtent blockPointerAt
-  block-pointer-inside u k lt = let a = pointer-inside (pageBitsAt h o + bitmapBytes h u) k (blocks u) lt in omega arith
+  block-pointer-inside u k lt = let a = pointer-inside (blockPrefix h o + bitmapBytes h u) k (blocks u) lt in omega arith
 
   -- in a data block
   pub block-element-inside : (u i : ℕ) → i < blockElements h u → blockElementAt h o i + elementStride h o + 4 ≤ dataExtent h o u

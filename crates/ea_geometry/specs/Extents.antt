@@ -52,11 +52,8 @@ unfoldable pub blockPrefix : Parameters → ℕ → ℕ
 blockPrefix h o = 6 + o + bitBytes (h .«max_nelmts_bits»)
 
 -- Super block u: its prefix, page bits if paged, pointers, checksum.
-unfoldable pub pageBitsAt : Parameters → ℕ → ℕ
-pageBitsAt h o = blockPrefix h o
-
 unfoldable pub blockPointerAt : Parameters → ℕ → ℕ → ℕ → ℕ
-blockPointerAt h o u k = pointerAt o (pageBitsAt h o + bitmapBytes h u) k
+blockPointerAt h o u k = pointerAt o (blockPrefix h o + bitmapBytes h u) k
 
 unfoldable pub superExtent : Parameters → ℕ → ℕ → ℕ
 superExtent h o u = blockPointerAt h o u (blocks u) + 4

@@ -7,7 +7,7 @@ ghost use Rattle.ea_geometry.specs.Bounded.{mostElements, Bounded};
 ghost use Rattle.ea_geometry.specs.Sizes.{superBlocks, blocks, directSuperBlocks, pageElements};
 ghost use Rattle.ea_geometry.specs.Extents.{formOf, elementStride, elementAt, pointerAt, indexPrefix, inlineElementAt, pagedElementAt};
 ghost use Rattle.ea_geometry.specs.Extents.{directPointersAt, superPointersAt, indexExtent, directPointerAt};
-ghost use Rattle.ea_geometry.specs.Extents.{superPointerAt, blockPrefix, pageBitsAt, blockPointerAt, superExtent, blockElementAt};
+ghost use Rattle.ea_geometry.specs.Extents.{superPointerAt, blockPrefix, blockPointerAt, superExtent, blockElementAt};
 ghost use Rattle.ea_geometry.specs.Extents.{dataExtent, pagedHeadExtent, pageExtent, pageAt, pagedExtent};
 use crate::EaGeometry;
 use element_form::Form;
@@ -116,20 +116,12 @@ impl EaGeometry {
         6 + self.offset_size + (self.parameters.max_nelmts_bits as u64 + 7) / 8
     }
 
-    // Where in a super block its page bits begin.
-    pub fn page_bits_at(self) -> u64
-        requires { ⌜ Bounded self ⌝ }
-        ensures { λ r. ⌜ r ≡ pageBitsAt (self .parameters) (self .«offset_size») ⌝ }
-    {
-        self.block_prefix()
-    }
-
     // Where in super block u the pointer to its data block k lies, or, behind the last, what follows them.
     pub fn block_pointer_at(self, u: u64, k: u64) -> u64
         requires { ⌜ (u < superBlocks (self .parameters)) × (k ≤ blocks u) × Bounded self ⌝ }
         ensures { λ r. ⌜ r ≡ blockPointerAt (self .parameters) (self .«offset_size») u k ⌝ }
     {
-        self.pointer_at(self.page_bits_at() + self.bitmap_bytes(u), k)
+        self.pointer_at(self.block_prefix() + self.bitmap_bytes(u), k)
     }
 
     // The bytes of super block u.

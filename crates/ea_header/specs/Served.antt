@@ -11,11 +11,8 @@ use Rattle.ea_header.specs.declared.Parameters.{Parameters}
 -- and a page exponent up to 32.
 unfoldable pub served : Parameters → Bool
 served h =
-    eqb (h .«min_dblk_nelmts») (2 ^ log2 (h .«min_dblk_nelmts»))
-    && leb (h .«min_dblk_nelmts») 128
-    && leb (h .«max_nelmts_bits») 62
-    && leb (h .«super_blk_min_nelmts») 32
-    && leb (h .«max_dblk_nelmts_bits») 32
+    eqb (h .«min_dblk_nelmts») (2 ^ log2 (h .«min_dblk_nelmts»)) && leb (h .«min_dblk_nelmts») 128
+    && leb (h .«max_nelmts_bits») 62 && leb (h .«super_blk_min_nelmts») 32 && leb (h .«max_dblk_nelmts_bits») 32
 
 -- 27 header not served
 unfoldable pub servedTest : Parameters → Checked

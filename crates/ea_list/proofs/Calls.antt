@@ -17,9 +17,8 @@ use Rattle.elements.specs.Elements.{Elements}
 use Rattle.records.specs.Records.{recordLength, listContent, recordsIn}
 use Rattle.records.proofs.Contents.{answer-refused}
 use Rattle.located.specs.Located.{indexOf}
-use Rattle.ea_blocks.specs.Array.{Array}
-use Rattle.ea_walk.specs.Walk.{located, list}
-use Rattle.ea_walk.specs.Given.{arrayFrom, elementsIn}
+use Rattle.ea_blocks.specs.Array.{Array, arrayFrom}
+use Rattle.ea_walk.specs.Walk.{located, list, elementsIn}
 use Rattle.calls.specs.Call.{Call}
 use Rattle.ea_calls.specs.declared.CallRead.{CallRead}
 use Rattle.ea_calls.specs.Call.{callElements, callIndex, listAt}

@@ -24,9 +24,9 @@ use Rattle.located.proofs.Lists.{list-fits, delivered}
 use Rattle.ea_header.specs.declared.ExtensibleArrayHeader.{ExtensibleArrayHeader}
 use Rattle.ea_geometry.specs.Extents.{formOf}
 use Rattle.ea_blocks.specs.declared.ExtensibleArray.{ExtensibleArray}
-use Rattle.ea_blocks.specs.Array.{Array, arrayOf, headed}
-use Rattle.ea_walk.specs.Walk.{located, walk, list}
-use Rattle.ea_walk.specs.Given.{arrayFrom, elementsIn}
+use Rattle.ea_blocks.specs.Array.{Array, arrayFrom}
+use Rattle.ea_blocks.specs.Values.{arrayOf, headed}
+use Rattle.ea_walk.specs.Walk.{located, walk, list, elementsIn}
 use Rattle.ea_walk.proofs.Given.{elements-read}
 use Rattle.ea_walk.proofs.Walks.{walk-right}
 use Rattle.ea_list.specs.Runs.{Walked}

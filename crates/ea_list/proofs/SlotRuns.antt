@@ -31,7 +31,8 @@ use Rattle.ea_geometry.proofs.Places.{next-slot, place-is, page-below}
 use Rattle.ea_geometry.proofs.Positions.{direct-pointers-inside, super-pointers-inside}
 use Rattle.ea_blocks.specs.declared.ExtensibleArray.{ExtensibleArray}
 use Rattle.ea_blocks.specs.declared.enter.Entered.the-variants.{At}
-use Rattle.ea_blocks.specs.Array.{Array, arrayOf}
+use Rattle.ea_blocks.specs.Array.{Array}
+use Rattle.ea_blocks.specs.Values.{arrayOf}
 use Rattle.ea_blocks.specs.Structures.{superBlock, testOf, pagesOf, isDirect, superAt, blockAt, dataPageAt, superUndefined, blockUndefined, pageSet}
 use Rattle.ea_blocks.specs.Places.{placeTest}
 use Rattle.ea_blocks.specs.Entered.{EnteredSuper, EnteredBlock}

@@ -25,7 +25,8 @@ use Rattle.located.specs.Runs.{RunOf}
 use Rattle.located.proofs.Paths.{path-tested}
 use Rattle.located.proofs.Walks.{Right}
 use Rattle.ea_blocks.specs.declared.ExtensibleArray.{ExtensibleArray}
-use Rattle.ea_blocks.specs.Array.{Array, arrayOf}
+use Rattle.ea_blocks.specs.Array.{Array}
+use Rattle.ea_blocks.specs.Values.{arrayOf}
 use Rattle.ea_blocks.specs.Structures.{arrayTest}
 use Rattle.ea_blocks.proofs.StructureTests.{array-passed, index-in-file}
 use Rattle.ea_walk.specs.Walk.{located, fromInline, walk}

@@ -13,11 +13,11 @@ use Rattle.located.specs.Runs.{RunOf}
 use Rattle.ea_geometry.specs.Extents.{formOf}
 use Rattle.ea_geometry.specs.Place.{place}
 use Rattle.ea_blocks.specs.declared.ExtensibleArray.{ExtensibleArray}
-use Rattle.ea_blocks.specs.Array.{Array, arrayOf}
-use Rattle.ea_blocks.specs.Values.{IndexInFile}
+use Rattle.ea_blocks.specs.Array.{Array}
+use Rattle.ea_blocks.specs.Values.{IndexInFile, arrayOf}
 use Rattle.ea_blocks.specs.Places.{placeTest}
 use Rattle.ea_walk.specs.Walk.{located, walk}
-use Rattle.ea_walk.specs.Given.{ReadBy}
+use Rattle.ea_walk.specs.Values.{ReadBy}
 
 -- The walk of an array, by this reader of its elements, is accepted with the records l.
 pub record Walked (file : List ℕ) (a : ExtensibleArray) (r : ElementReader) (chunk bound down : List ℕ) (l : List Rec) : Type 0 where

@@ -1,7 +1,7 @@
 // Runs of slots: where in the file the elements of a slot and of those that follow it lie.
 ghost use Rattle.ea_geometry.specs.Slots.{InBlock};
 ghost use Rattle.ea_blocks.specs.declared.enter.Entered.the-variants.{At};
-ghost use Rattle.ea_blocks.specs.Array.{arrayOf};
+ghost use Rattle.ea_blocks.specs.Values.{arrayOf};
 ghost use Rattle.ea_blocks.specs.Entered.{EnteredSuper, EnteredBlock};
 ghost use Rattle.ea_list.specs.Runs.{TestedTo, RunIn};
 use ea_blocks::ExtensibleArray;

@@ -10,9 +10,8 @@ use Rattle.refusal.proofs.Outcomes.{yields-inv, yields-refused, room-inv}
 use Rattle.chunk_grid.specs.declared.ChunkGrid.{ChunkGrid}
 use Rattle.chunk_grid.specs.Values.{gridOf}
 use Rattle.elements.specs.Elements.{Elements}
-use Rattle.ea_blocks.specs.Array.{Array}
-use Rattle.ea_walk.specs.Walk.{list}
-use Rattle.ea_walk.specs.Given.{arrayFrom, elementsIn}
+use Rattle.ea_blocks.specs.Array.{Array, arrayFrom}
+use Rattle.ea_walk.specs.Walk.{list, elementsIn}
 use Rattle.calls.specs.Call.{Call}
 use Rattle.ea_calls.specs.Call.{callArray, callElements, callIndex, callAnswer, listAt}
 use Rattle.ea_calls.specs.declared.CallRead.{CallRead}

@@ -15,7 +15,5 @@ use Rattle.ea_walk.specs.Walk.{located}
 -- Lookup: 3 to 8, 10, 27, then its path, the index block always.
 unfoldable pub lookup : Array → Elements → List ℕ → Outcome (Option Rec)
 lookup a e corner =
-    gridTest (e .grid)
-    then cornerTest (e .grid) corner
-    then arrayTest a
+    gridTest (e .grid) then cornerTest (e .grid) corner then arrayTest a
     yields slotPath (located a e) (slotOf (e .grid) corner)

@@ -4,7 +4,7 @@ ghost use Prim.Native.Nat.{ℕ};
 ghost use Rattle.refusal.specs.declared.Checked.the-variants.{Passed};
 ghost use Rattle.ea_header.specs.Values.{Served};
 ghost use Rattle.ea_geometry.specs.Slots.{InBlock};
-ghost use Rattle.ea_blocks.specs.Array.{arrayOf};
+ghost use Rattle.ea_blocks.specs.Values.{arrayOf};
 ghost use Rattle.ea_blocks.specs.Structures.{arrayTest};
 ghost use Rattle.ea_lookup.specs.PathEnds.{PathEnds, BlockEntered};
 use ea_blocks::ExtensibleArray;

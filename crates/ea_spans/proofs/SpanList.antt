@@ -12,9 +12,10 @@ use Rattle.refusal.specs.Refusals.{figure}
 use Rattle.refusal.specs.Outcome.{refused, _yields_, also, countedOf}
 use Rattle.ea_header.specs.Header.{headerBytes, headerAt}
 use Rattle.ea_blocks.specs.declared.ExtensibleArray.{ExtensibleArray}
-use Rattle.ea_blocks.specs.Array.{arrayOf}
+use Rattle.ea_blocks.specs.Values.{arrayOf}
+use Rattle.ea_blocks.specs.Array.{arrayFrom}
 use Rattle.span_walk.specs.Spans.{headerSpan}
-use Rattle.span_walk.specs.Walk.{Spanning, arrayFrom, indexSpans, headTest, spans}
+use Rattle.span_walk.specs.Walk.{Spanning, indexSpans, headTest, spans}
 use Rattle.span_walk.proofs.Heads.{head-passed}
 use Rattle.ea_spans.specs.SpanList.{filled, addressOf, lengthOf}
 

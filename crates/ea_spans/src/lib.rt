@@ -6,7 +6,7 @@ ghost use Rattle.refusal.specs.declared.Counted.the-variants.{Refused};
 ghost use Rattle.refusal.specs.Outcome.{also, inRoom, countedOf};
 ghost use Rattle.fields.specs.Fields.{isWidth};
 ghost use Rattle.ea_geometry.specs.Bounded.{Bounded};
-ghost use Rattle.ea_blocks.specs.Array.{arrayOf};
+ghost use Rattle.ea_blocks.specs.Values.{arrayOf};
 ghost use Rattle.span_walk.specs.Walk.{indexSpans};
 ghost use Rattle.ea_spans.specs.SpanList.{roomOf, spansInto, filled, addressOf, lengthOf};
 use crate::count::count_index;

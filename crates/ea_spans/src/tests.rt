@@ -7,7 +7,7 @@ ghost use Rattle.ea_header.specs.Header.{headerAt};
 ghost use Rattle.ea_header.specs.Values.{parsedAfter};
 ghost use Rattle.ea_geometry.specs.Bounded.{Bounded};
 ghost use Rattle.ea_geometry.specs.Sizes.{superBlocks};
-ghost use Rattle.ea_blocks.specs.Array.{arrayOf};
+ghost use Rattle.ea_blocks.specs.Values.{arrayOf};
 ghost use Rattle.ea_blocks.specs.Structures.{indexBlock, superBlock, superAt};
 ghost use Rattle.span_walk.specs.Spans.{headerSpan, spanTest, spannedTest};
 ghost use Rattle.span_walk.specs.Walk.{headTest};

@@ -7,7 +7,7 @@ use Rattle.elements.specs.declared.ElementReader.{ElementReader}
 use Rattle.elements.specs.Values.{elementsOf}
 use Rattle.ea_header.specs.declared.ExtensibleArrayHeader.{ExtensibleArrayHeader}
 use Rattle.ea_geometry.specs.Extents.{formOf}
-use Rattle.ea_walk.specs.Given.{elementsIn}
+use Rattle.ea_walk.specs.Walk.{elementsIn}
 
 pub elements-read : (f : List ℕ) (h : ExtensibleArrayHeader) (o : ℕ) (r : ElementReader) (g : Grid) (n : ℕ)
     → r .form ≡ formOf (h .parameters) o → r .count ≡ h .«num_elements» → elementsOf f r g n ≡ elementsIn f h o g n

@@ -2,21 +2,27 @@
 -- `rest` is what comes behind it, and s the slot that the walk has come to.
 use Prim.Native.Nat.{ℕ, zero, suc, _+_, _*_}
 use mathlib.Core.Bool.{cond, _&&_}
-use mathlib.Core.List.{[]}
+use mathlib.Core.List.{List, []}
 use lib.Dec.{leb}
 use Rattle.refusal.specs.Outcome.{accepted, _yields_}
 use Rattle.fields.specs.Fields.{widthTest}
-use Rattle.chunk_grid.specs.Grid.{gridTest}
+use Rattle.chunk_grid.specs.Grid.{Grid, gridTest}
 use Rattle.index.specs.Index.{Listing}
 use Rattle.elements.specs.Elements.{Elements}
 use Rattle.elements.specs.Runs.{elementsFrom, pagesFrom}
 use Rattle.located.specs.Located.{Located}
+use Rattle.ea_header.specs.declared.ExtensibleArrayHeader.{ExtensibleArrayHeader}
 use Rattle.ea_geometry.specs.Sizes.{superBlocks, blocks, blockElements, pages}
-use Rattle.ea_geometry.specs.Extents.{inlineElementAt, blockElementAt}
+use Rattle.ea_geometry.specs.Extents.{formOf, inlineElementAt, blockElementAt}
 use Rattle.ea_geometry.specs.Place.{inPages, place}
 use Rattle.ea_blocks.specs.Array.{Array}
 use Rattle.ea_blocks.specs.Structures.{superBlock, dataBlock, testOf, arrayTest, pagesOf, isDirect, blockAt, superUndefined, blockUndefined}
 use Rattle.ea_blocks.specs.Places.{reached, positionOf, placeTest}
+
+-- The elements of a header with this offset size, of a dataset with this grid and element size.
+abbrev pub elementsIn : List ℕ → ExtensibleArrayHeader → ℕ → Grid → ℕ → Elements
+elementsIn file h o grid n =
+    record { file = file; form = formOf (h .parameters) o; grid = grid; elementBytes = n; count = h .«num_elements» }
 
 -- Where the elements of an array lie: each slot's element at its place.
 abbrev pub located : Array → Elements → Located

@@ -12,8 +12,7 @@ use Rattle.located.specs.Located.{indexOf}
 use Rattle.ea_header.specs.declared.ExtensibleArrayHeader.{ExtensibleArrayHeader}
 use Rattle.ea_header.specs.Header.{headerAt, headerTest}
 use Rattle.ea_blocks.specs.Array.{Array}
-use Rattle.ea_walk.specs.Given.{elementsIn}
-use Rattle.ea_walk.specs.Walk.{located, list}
+use Rattle.ea_walk.specs.Walk.{located, list, elementsIn}
 use Rattle.ea_lookup.specs.Lookup.{lookup}
 
 abbrev pub byteSum : List ℕ → ℕ

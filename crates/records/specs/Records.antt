@@ -31,10 +31,8 @@ listContent (accepted l) out = sets out 0 (listBytes l)
 
 -- the records that bytes hold, one behind the other
 unfoldable pub recordIn : ℕ → List ℕ → Rec
-recordIn rank s = record {
-  entry = record { address = leAt s 0 8; size = leAt s 8 4; mask = leAt s 12 4 };
-  corner = numbersIn rank (drop 16 s);
-}
+recordIn rank s =
+    record { entry = record { address = leAt s 0 8; size = leAt s 8 4; mask = leAt s 12 4 }; corner = numbersIn rank (drop 16 s) }
 
 unfoldable pub recordsIn : ℕ → ℕ → List ℕ → List Rec
 recordsIn rank zero s = []

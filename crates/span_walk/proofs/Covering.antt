@@ -22,12 +22,12 @@ use Rattle.ea_geometry.specs.declared.Place.the-variants.{Inline, Block, Page, 
 use Rattle.ea_geometry.proofs.Counts.{pages-exact}
 use Rattle.ea_geometry.proofs.Positions.{page-inside}
 use Rattle.ea_geometry.proofs.Places.{place-of, page-below}
-use Rattle.ea_blocks.specs.Array.{Array}
+use Rattle.ea_blocks.specs.Array.{Array, arrayFrom}
 use Rattle.ea_blocks.specs.Structures.{Structure, indexBlock, superBlock, dataBlock, dataPage, startOf, extentOf, isDirect, dataPageAt, superUndefined, blockUndefined, bitSet}
 use Rattle.ea_blocks.specs.Places.{blockReached, leadingTo, structures}
 use Rattle.span_walk.specs.declared.Span.{Span}
 use Rattle.span_walk.specs.Spans.{headerSpan, blockLength, bytesOf, spanOf}
-use Rattle.span_walk.specs.Walk.{supersFrom, indexSpans, arrayFrom, spans}
+use Rattle.span_walk.specs.Walk.{supersFrom, indexSpans, spans}
 use Rattle.span_walk.specs.Covered.{InSpan, Covered}
 use Rattle.span_walk.proofs.Heads.{head-passed}
 use Rattle.span_walk.proofs.Turns.{index-defined}

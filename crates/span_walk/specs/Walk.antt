@@ -12,7 +12,7 @@ use Rattle.ea_header.specs.Header.{headerAt, headerTest}
 use Rattle.ea_header.specs.Served.{servedTest}
 use Rattle.ea_header.specs.declared.ExtensibleArrayHeader.{ExtensibleArrayHeader}
 use Rattle.ea_geometry.specs.Sizes.{superBlocks, blocks}
-use Rattle.ea_blocks.specs.Array.{Array}
+use Rattle.ea_blocks.specs.Array.{Array, arrayFrom}
 use Rattle.ea_blocks.specs.Structures.{indexBlock, superBlock, dataBlock, isDirect, superUndefined, blockUndefined}
 use Rattle.span_walk.specs.declared.Span.{Span}
 use Rattle.span_walk.specs.Spans.{headerSpan, spanOf, spanTest, spannedTest}
@@ -51,16 +51,6 @@ unfoldable pub indexSpans : Array → Spanning
 indexSpans a =
     cond (undefined (a .offsetSize) (a .indexAt)) (accepted [])
     (spannedTest a indexBlock yields also (spanOf a indexBlock) (supersFrom a (superBlocks (a .parameters)) 0))
-
--- the array that a header describes
-abbrev pub arrayFrom : List ℕ → ExtensibleArrayHeader → ℕ → Array
-arrayFrom f h o = record {
-  file = f;
-  sum = lookup3;
-  parameters = h .parameters;
-  offsetSize = o;
-  indexAt = h .«index_block_address»;
-}
 
 -- Spans: header at its address (31, 20, ..), 27, ..
 unfoldable pub headTest : List ℕ → ℕ → ℕ → ℕ → Checked

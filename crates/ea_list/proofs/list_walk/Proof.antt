@@ -14,7 +14,7 @@ use Rattle.elements.specs.Values.{elementsOf, Reads}
 use Rattle.elements.proofs.Readers.{reads-rank}
 use Rattle.records.specs.Records.{recordLength}
 use Rattle.records.proofs.Contents.{answer-refused, answer-accepted}
-use Rattle.ea_blocks.specs.Array.{arrayOf}
+use Rattle.ea_blocks.specs.Values.{arrayOf}
 use Rattle.ea_walk.specs.Walk.{walk}
 use Rattle.ea_list.specs.Runs.{Walked}
 use Rattle.ea_list.proofs.Lists.{walked-fits}

@@ -15,8 +15,8 @@ use Rattle.elements.specs.Elements.{Elements}
 use Rattle.elements.specs.Values.{Reads}
 use Rattle.records.specs.Records.{listContent}
 use Rattle.ea_geometry.specs.Extents.{formOf}
-use Rattle.ea_blocks.specs.Array.{Array}
-use Rattle.ea_walk.specs.Given.{arrayFrom, elementsIn}
+use Rattle.ea_blocks.specs.Array.{Array, arrayFrom}
+use Rattle.ea_walk.specs.Walk.{elementsIn}
 use Rattle.ea_list.proofs.Lists.{into-refused, into-read, into-exact, refused-count}
 use Rattle.ea_list.proofs.read_extensible_array_chunks.Statement.{statement}
 use Rattle.ea_list.proofs.read_extensible_array_chunks.Tie as tie

@@ -9,10 +9,9 @@ use Rattle.chunk_grid.specs.Values.{gridOf, Numbers, Counted, Extents}
 use Rattle.elements.specs.Elements.{Elements}
 use Rattle.elements.specs.Values.{Reads, foundOf}
 use Rattle.located.specs.Located.{slotPath}
-use Rattle.ea_blocks.specs.Array.{Array}
+use Rattle.ea_blocks.specs.Array.{Array, arrayFrom}
 use Rattle.ea_blocks.specs.Structures.{arrayTest}
-use Rattle.ea_walk.specs.Walk.{located}
-use Rattle.ea_walk.specs.Given.{arrayFrom, elementsIn}
+use Rattle.ea_walk.specs.Walk.{located, elementsIn}
 use Rattle.ea_walk.proofs.Given.{elements-read}
 use Rattle.ea_lookup.proofs.Lookups.{tests, tests-passed, lookup-refused, lookup-passed, found-by}
 use borrow.Author.Needs.{needs}

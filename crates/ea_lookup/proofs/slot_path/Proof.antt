@@ -6,7 +6,7 @@ use Rattle.chunk_grid.specs.Grid.{Grid}
 use Rattle.elements.specs.Values.{elementsOf, foundOf}
 use Rattle.located.specs.Located.{slotPath}
 use Rattle.ea_blocks.specs.declared.enter.Entered.{Entered}
-use Rattle.ea_blocks.specs.Array.{arrayOf}
+use Rattle.ea_blocks.specs.Values.{arrayOf}
 use Rattle.ea_walk.specs.Walk.{located}
 use Rattle.ea_lookup.specs.PathEnds.{endAnswer, EndInFile}
 use Rattle.ea_lookup.proofs.Lookups.{no-slot, past-count, below-count}

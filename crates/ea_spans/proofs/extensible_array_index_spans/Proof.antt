@@ -8,7 +8,7 @@ use Rattle.refusal.proofs.Outcomes.{room-refused}
 use Rattle.fields.proofs.Widths.{width-le}
 use Rattle.ea_header.specs.Header.{headerAt}
 use Rattle.ea_header.proofs.Header.{header-is, refused-is}
-use Rattle.ea_blocks.specs.Array.{arrayOf}
+use Rattle.ea_blocks.specs.Values.{arrayOf}
 use Rattle.span_walk.specs.Walk.{indexSpans, headTest, spans}
 use Rattle.span_walk.proofs.Heads.{head-passed}
 use Rattle.ea_spans.specs.SpanList.{spansInto}

@@ -9,7 +9,7 @@ use Rattle.refusal.specs.declared.Counted.the-variants.{Count, Refused}
 use Rattle.refusal.specs.Outcome.{accepted, also, inRoom, countedOf}
 use Rattle.refusal.proofs.Outcomes.{room-refused, room-small, room-fits}
 use Rattle.refusal.proofs.Counts.{counted-inv, refused-inv}
-use Rattle.ea_blocks.specs.Array.{arrayOf}
+use Rattle.ea_blocks.specs.Values.{arrayOf}
 use Rattle.span_walk.specs.declared.Span.{Span}
 use Rattle.span_walk.specs.Walk.{Spanning, indexSpans}
 use Rattle.ea_spans.specs.SpanList.{roomOf}

@@ -3,7 +3,7 @@ use mathlib.Core.Path.{_≡_, sym, subst, _∙_}
 use mathlib.Core.Bool.{false}
 use mathlib.Core.Logic.{inl}
 use native.Mathlib.Omega.{arith}
-use Rattle.ea_blocks.specs.Array.{arrayOf}
+use Rattle.ea_blocks.specs.Values.{arrayOf}
 use Rattle.ea_blocks.specs.Structures.{isDirect}
 use Rattle.ea_blocks.specs.Entered.{EnteredSuper}
 use Rattle.ea_blocks.proofs.StructureTests.{is-direct, not-direct}

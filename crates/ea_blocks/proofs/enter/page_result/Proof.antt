@@ -3,7 +3,7 @@ use Prim.{tt}
 use Prim.Native.Nat.{ℕ}
 use mathlib.Core.Path.{sym, ap, subst, _∙_}
 use native.Mathlib.Omega.{arith}
-use Rattle.ea_blocks.specs.Array.{arrayOf}
+use Rattle.ea_blocks.specs.Values.{arrayOf}
 use Rattle.ea_blocks.specs.Structures.{dataPage, testOf}
 use Rattle.ea_blocks.specs.Entered.{TestedAhead}
 use borrow.Author.Needs.{needs}

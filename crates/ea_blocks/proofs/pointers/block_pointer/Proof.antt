@@ -4,7 +4,7 @@ use native.Mathlib.Omega.{arith}
 use lib.ListN.{length}
 use Rattle.ea_geometry.specs.Sizes.{directSuperBlocks}
 use Rattle.ea_geometry.proofs.Positions.{direct-pointer-inside, super-pointers-inside, block-pointer-inside}
-use Rattle.ea_blocks.specs.Array.{arrayOf}
+use Rattle.ea_blocks.specs.Values.{arrayOf}
 use Rattle.ea_blocks.specs.Structures.{blockAt, blockUndefined}
 use Rattle.ea_blocks.proofs.StructureTests.{not-direct, named-in-index, named-in-super}
 use borrow.Author.Needs.{needs}

@@ -5,7 +5,7 @@ use lib.Dec.{leb}
 use lib.ListN.{length}
 use Rattle.refusal.proofs.Tests.{both}
 use Rattle.ea_geometry.specs.Sizes.{directSuperBlocks, overPage}
-use Rattle.ea_geometry.specs.Extents.{pageBitsAt}
+use Rattle.ea_geometry.specs.Extents.{blockPrefix}
 use Rattle.ea_geometry.specs.Sizes.{bitNumber}
 use Rattle.structures.specs.PageBits.{bitByte}
 use Rattle.ea_geometry.specs.Place.{inPages}
@@ -18,7 +18,7 @@ use Rattle.ea_blocks.proofs.pointers.page_set.Tie as tie
 -- the bit lies in the super block
 in-super : (a : tie.Start)
     → let g = a .args .array .geometry in
-    a .args .super-at + pageBitsAt (g .parameters) (g .«offset_size») + bitByte (bitNumber (g .parameters) (a .args .u) (a .args .k) (a .args .p)) < length (a .args .file .now)
+    a .args .super-at + blockPrefix (g .parameters) (g .«offset_size») + bitByte (bitNumber (g .parameters) (a .args .u) (a .args .k) (a .args .p)) < length (a .args .file .now)
 unfolding inPages
 in-super a =
     let h = a .args .array .geometry .parameters in
@@ -28,14 +28,14 @@ in-super a =
     omega (arith, a .pre, bit-inside h o u (a .args .k) (a .args .p) over (a .pre .block) (a .pre .page), block-pointer-inside h o u 0 (omega (arith, a .pre)))
 
 add-pos : tie.Need-add-pos
-add-pos c = omega (arith, c .page-bits-at .ensures, in-super (c .before .before))
+add-pos c = omega (arith, c .block-prefix .ensures, in-super (c .before .before))
 
 page-is-initialized-requires : tie.Need-page-is-initialized-requires
-page-is-initialized-requires c κs = rw (c .before .page-bits-at .ensures, c .bit-number .ensures) (in-super (c .before .before .before))
+page-is-initialized-requires c κs = rw (c .before .block-prefix .ensures, c .bit-number .ensures) (in-super (c .before .before .before))
 
 returns : tie.Need-returns
 unfolding pageSet bitSet
-returns c e = rw (← e, c .page-is-initialized .ensures, c .before .before .page-bits-at .ensures, c .before .bit-number .ensures)
+returns c e = rw (← e, c .page-is-initialized .ensures, c .before .before .block-prefix .ensures, c .before .bit-number .ensures)
 
 pub page-set-spec : {M : Type 1} → statement M
 page-set-spec =

@@ -20,7 +20,7 @@ use Rattle.ea_header.specs.Values.{Served}
 use Rattle.ea_header.proofs.Served.{tested-serves}
 use Rattle.ea_geometry.specs.Extents.{elementStride, inlineElementAt}
 use Rattle.ea_geometry.proofs.Places.{first-slot-zero}
-use Rattle.ea_blocks.specs.Array.{arrayOf}
+use Rattle.ea_blocks.specs.Values.{arrayOf}
 use Rattle.ea_blocks.specs.Structures.{indexBlock, testOf, arrayTest}
 use Rattle.ea_blocks.proofs.StructureTests.{index-in-file}
 use Rattle.ea_count.proofs.WalkStates.{count-few}

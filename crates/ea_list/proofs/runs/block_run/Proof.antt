@@ -6,7 +6,7 @@ use native.Mathlib.Omega.{arith}
 use Rattle.ea_geometry.proofs.Counts.{supers-few}
 use Rattle.ea_geometry.proofs.Places.{in-super-block}
 use Rattle.ea_blocks.specs.declared.enter.Entered.the-variants.{At}
-use Rattle.ea_blocks.specs.Array.{arrayOf}
+use Rattle.ea_blocks.specs.Values.{arrayOf}
 use Rattle.ea_blocks.specs.Entered.{EnteredSuper}
 use Rattle.ea_blocks.proofs.StructureTests.{is-direct, not-direct}
 use Rattle.ea_blocks.proofs.PointerValues.{pointer-undefined, pointer-at}

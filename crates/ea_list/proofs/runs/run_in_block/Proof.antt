@@ -13,7 +13,7 @@ use Rattle.ea_geometry.specs.Extents.{blockElementAt, pagedElementAt}
 use Rattle.ea_geometry.specs.Place.{inPages}
 use Rattle.ea_geometry.proofs.Counts.{elements-few}
 use Rattle.ea_geometry.proofs.Places.{page-below, paged-behind}
-use Rattle.ea_blocks.specs.Array.{arrayOf}
+use Rattle.ea_blocks.specs.Values.{arrayOf}
 use Rattle.ea_blocks.specs.Structures.{pageSet}
 use Rattle.ea_blocks.proofs.StructureTests.{not-direct}
 use Rattle.ea_blocks.proofs.Entering.{entered-at, entered-super-room}

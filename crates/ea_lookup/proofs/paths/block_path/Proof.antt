@@ -7,8 +7,7 @@ use Rattle.fields.specs.Fields.{widthTest}
 use Rattle.fields.proofs.Fields.{width-is}
 use Rattle.ea_header.specs.Values.{Served}
 use Rattle.ea_blocks.specs.declared.enter.Entered.the-variants.{At}
-use Rattle.ea_blocks.specs.Array.{arrayOf}
-use Rattle.ea_blocks.specs.Values.{IndexInFile}
+use Rattle.ea_blocks.specs.Values.{IndexInFile, arrayOf}
 use Rattle.ea_blocks.specs.Entered.{EnteredSuper, EnteredBlock}
 use Rattle.ea_blocks.proofs.StructureTests.{array-passed, index-in-file}
 use Rattle.ea_blocks.proofs.Entering.{entered-at, entered-super-room}

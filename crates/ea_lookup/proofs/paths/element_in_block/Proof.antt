@@ -15,7 +15,7 @@ use Rattle.ea_geometry.proofs.Counts.{elements-few}
 use Rattle.ea_geometry.proofs.Places.{page-below, paged-behind}
 use Rattle.ea_blocks.specs.declared.enter.Entered.{Entered}
 use Rattle.ea_blocks.specs.declared.enter.Entered.the-variants.{At}
-use Rattle.ea_blocks.specs.Array.{arrayOf}
+use Rattle.ea_blocks.specs.Values.{arrayOf}
 use Rattle.ea_blocks.specs.Entered.{EnteredPage}
 use Rattle.ea_blocks.proofs.StructureTests.{not-direct}
 use Rattle.ea_blocks.proofs.Entering.{entered-at, entered-super-room, entered-head-room}

@@ -11,7 +11,7 @@ use Rattle.ea_geometry.specs.declared.Place.{Place}
 use Rattle.ea_geometry.specs.Extents.{formOf}
 use Rattle.ea_geometry.specs.Slots.{InBlock, PlaceOf}
 use Rattle.ea_geometry.proofs.Places.{place-of}
-use Rattle.ea_blocks.specs.Array.{arrayOf}
+use Rattle.ea_blocks.specs.Values.{arrayOf}
 use Rattle.ea_blocks.proofs.StructureTests.{array-passed}
 use Rattle.ea_walk.proofs.Paths.{no-place}
 use Rattle.ea_lookup.proofs.PathEnds.{ends-nowhere, inline-room, inline-ends, unsized-ends}

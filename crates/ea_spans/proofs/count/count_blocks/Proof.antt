@@ -3,7 +3,7 @@ use Prim.Native.Nat.{_-_, _≤_}
 use mathlib.Core.Logic.{⊎-elim}
 use native.Mathlib.Omega.{arith}
 use borrow.Author.Needs.{needs}
-use Rattle.ea_blocks.specs.Array.{arrayOf}
+use Rattle.ea_blocks.specs.Values.{arrayOf}
 use Rattle.ea_blocks.proofs.Entering.{entered-super-room}
 use Rattle.ea_spans.proofs.SuperBlocks.{block-undefined, block-defined}
 use Rattle.ea_spans.proofs.Counting.{AtBlock, block-first, blocks-done, block-skip, block-counted}

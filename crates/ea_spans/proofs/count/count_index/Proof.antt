@@ -9,7 +9,8 @@ use Rattle.refusal.proofs.Tests.{then-inv}
 use Rattle.refusal.proofs.Outcomes.{yields-passed, yields-refused}
 use Rattle.fields.specs.Fields.{undefined}
 use Rattle.ea_geometry.specs.Sizes.{superBlocks}
-use Rattle.ea_blocks.specs.Array.{Array, arrayOf}
+use Rattle.ea_blocks.specs.Array.{Array}
+use Rattle.ea_blocks.specs.Values.{arrayOf}
 use Rattle.ea_blocks.specs.Structures.{indexBlock}
 use Rattle.ea_blocks.proofs.StructureTests.{index-in-file}
 use Rattle.span_walk.specs.Spans.{spanOf, spannedTest}

@@ -10,7 +10,8 @@ use Rattle.refusal.specs.Outcome.{countedOf}
 use Rattle.refusal.proofs.Outcomes.{yields-passed, yields-refused}
 use Rattle.ea_geometry.specs.Sizes.{blocks}
 use Rattle.ea_geometry.proofs.Counts.{blocks-few}
-use Rattle.ea_blocks.specs.Array.{Array, arrayOf}
+use Rattle.ea_blocks.specs.Array.{Array}
+use Rattle.ea_blocks.specs.Values.{arrayOf}
 use Rattle.ea_blocks.specs.Structures.{superBlock, isDirect, superAt, superUndefined}
 use Rattle.ea_blocks.proofs.PointerValues.{pointer-undefined, pointer-at}
 use Rattle.ea_blocks.proofs.StructureTests.{is-direct, not-direct}

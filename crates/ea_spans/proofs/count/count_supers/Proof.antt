@@ -3,7 +3,7 @@ use Prim.Native.Nat.{_+_, _-_, _≤_}
 use mathlib.Core.Path.{sym, _∙_}
 use native.Mathlib.Omega.{arith}
 use borrow.Author.Needs.{needs}
-use Rattle.ea_blocks.specs.Array.{arrayOf}
+use Rattle.ea_blocks.specs.Values.{arrayOf}
 use Rattle.ea_spans.proofs.Counting.{AtSuper, super-first, supers-done, super-refused, super-counted, few-counted}
 use Rattle.ea_spans.proofs.count.count_supers.Statement.{statement}
 use Rattle.ea_spans.proofs.count.count_supers.Tie as tie

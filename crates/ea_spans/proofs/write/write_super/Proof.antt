@@ -9,7 +9,8 @@ use Rattle.refusal.specs.declared.Checked.the-variants.{Passed}
 use Rattle.refusal.specs.Outcome.{accepted, also}
 use Rattle.refusal.proofs.Outcomes.{yields-inv, yields-passed}
 use Rattle.ea_geometry.specs.Sizes.{blocks}
-use Rattle.ea_blocks.specs.Array.{Array, arrayOf}
+use Rattle.ea_blocks.specs.Array.{Array}
+use Rattle.ea_blocks.specs.Values.{arrayOf}
 use Rattle.ea_blocks.specs.Structures.{superBlock, isDirect, superAt, superUndefined}
 use Rattle.ea_blocks.proofs.PointerValues.{pointer-undefined, pointer-at}
 use Rattle.ea_blocks.proofs.StructureTests.{is-direct, not-direct}

@@ -3,7 +3,7 @@ use Prim.Native.Nat.{_+_, _-_, _≤_}
 use native.Mathlib.Nat.{sub-zero}
 use native.Mathlib.Omega.{arith}
 use borrow.Author.Needs.{needs}
-use Rattle.ea_blocks.specs.Array.{arrayOf}
+use Rattle.ea_blocks.specs.Values.{arrayOf}
 use Rattle.span_walk.specs.Walk.{joined, superSpans, supersFrom}
 use Rattle.span_walk.proofs.Turns.{supers-none, supers-next}
 use Rattle.ea_spans.proofs.Writing.{Going, going-whole, going-as, going-lengths, going-none, going-room, going-behind}
