@@ -6,7 +6,8 @@ ghost use Rattle.chunk_grid.specs.Shapes.{shapeOf};
 ghost use Rattle.calls.specs.Call.{callOf};
 ghost use Rattle.calls.specs.Answer.{picked};
 ghost use Rattle.ea_calls.specs.Call.{callIndex, listAt};
-ghost use Rattle.ea_lookup.specs.Call.{lookupAt, foundAnswer};
+ghost use Rattle.ea_lookup.specs.Call.{lookupAt};
+ghost use Rattle.ea_lookup.specs.Values.{foundAnswer};
 ghost use Rattle.ea_lookup.specs.Found.{foundOf, Answered, Agreed};
 use crate::Found;
 use crate::lookup_chunk;
@@ -65,10 +66,12 @@ pub fn found_number(found: Found, which: u64) -> u64
 {
     match found {
         Found::Chunk(entry) => {
-            let numbers = [1, entry.address, entry.size as u64, entry.mask as u64];
-            pick(which, Checked::Passed.refusal(), &numbers)
+            let size = entry.size as u64;
+            let mask = entry.mask as u64;
+            let answer = [0, 0, 0, 1, entry.address, size, mask];
+            pick(which, &answer)
         }
-        Found::Absent => refused_number(which, Checked::Passed.refusal(), CHUNK_NAMES),
+        Found::Absent => 0,
         Found::Refused(r) => refused_number(which, r, CHUNK_NAMES),
     }
 }
