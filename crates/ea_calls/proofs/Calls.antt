@@ -73,11 +73,6 @@ module _ (c : Call) (r : CallRead) (grid : ChunkGrid) (k : ReadAs c r grid) wher
   unfolding callArray callElements
   read-own P t p = rw (← k .header t, ← k .grid t) p
 
-  -- .. whose grid is accepted
-  pub read-grid-passed : r .checked ≡ Passed → gridTest (c .grid) ≡ Passed
-  unfolding callTest
-  read-grid-passed t = then-inv _ _ (sym (k .tests) ∙ t) .1
-
   module _ {A : Type 0} (answer : Array → Elements → Outcome A) where
     -- .. and what they are answered is the call's answer
     pub read-passed : r .checked ≡ Passed → callAnswer answer c ≡ answer (callArray c) (callElements c)
