@@ -12,7 +12,7 @@ ghost use Rattle.chunk_grid.specs.Shapes.{shapeOf};
 ghost use Rattle.index.specs.Index.{Rec};
 ghost use Rattle.index.specs.ExactList.{ExactList, Answers, Agrees};
 ghost use Rattle.records.specs.Records.{recordLength, listContent, recordsIn};
-ghost use Rattle.calls.specs.Call.{callOf};
+ghost use Rattle.calls.specs.Call.{gridGiven, callOf};
 ghost use Rattle.calls.specs.Answer.{answered, picked, listNumbers, chunkNames, ZeroAccepts};
 ghost use Rattle.ea_calls.specs.Call.{callIndex, listAt};
 ghost use Rattle.ea_lookup.specs.Call.{lookupAt, foundNumbers};
@@ -48,8 +48,8 @@ pub extern "C" fn cellumaq_list(
     list: &mut [u8],
     which: u64,
 ) -> u64
-    ensures { λ r. ⌜ (let call = callOf (now (file .entry)) «offset_size» «length_size» address «element_bytes» order rank
-        (now (chunk .entry)) (now (present .entry)) «has_maximum» (now (maximum .entry)) in
+    ensures { λ r. ⌜ (let grid = gridGiven order rank (now (chunk .entry)) (now (present .entry)) «has_maximum» (now (maximum .entry)) in
+        let call = callOf (now (file .entry)) «offset_size» «length_size» address «element_bytes» grid in
         let answer = listAt call (length (now (list .entry)) / recordLength rank) in
         (r ≡ picked which (answered chunkNames listNumbers answer))
         × ZeroAccepts answer which r
@@ -92,8 +92,8 @@ pub extern "C" fn cellumaq_lookup(
     corner: &[u8],
     which: u64,
 ) -> u64
-    ensures { λ r. ⌜ (let call = callOf (now (file .entry)) «offset_size» «length_size» address «element_bytes» order rank
-        (now (chunk .entry)) (now (present .entry)) «has_maximum» (now (maximum .entry)) in
+    ensures { λ r. ⌜ (let grid = gridGiven order rank (now (chunk .entry)) (now (present .entry)) «has_maximum» (now (maximum .entry)) in
+        let call = callOf (now (file .entry)) «offset_size» «length_size» address «element_bytes» grid in
         let at = shapeOf rank (now (corner .entry)) in
         let answer = lookupAt call at in
         (r ≡ picked which (answered chunkNames foundNumbers answer))

@@ -3,7 +3,7 @@
 ghost use mathlib.Core.Path.{_≡_};
 ghost use Prim.Native.Nat.{ℕ};
 ghost use Rattle.chunk_grid.specs.Shapes.{shapeOf};
-ghost use Rattle.calls.specs.Call.{callOf};
+ghost use Rattle.calls.specs.Call.{gridGiven, callOf};
 ghost use Rattle.calls.specs.Answer.{picked};
 ghost use Rattle.ea_calls.specs.Call.{callIndex, listAt};
 ghost use Rattle.ea_lookup.specs.Call.{lookupAt};
@@ -34,8 +34,8 @@ pub fn lookup_at(
     maximum: &[u8],
     corner: &[u8],
 ) -> Found
-    ensures { λ r. ⌜ (let call = callOf (now (file .entry)) «offset_size» «length_size» address «element_bytes» order rank
-        (now (chunk .entry)) (now (present .entry)) «has_maximum» (now (maximum .entry)) in
+    ensures { λ r. ⌜ (let grid = gridGiven order rank (now (chunk .entry)) (now (present .entry)) «has_maximum» (now (maximum .entry)) in
+        let call = callOf (now (file .entry)) «offset_size» «length_size» address «element_bytes» grid in
         let at = shapeOf rank (now (corner .entry)) in
         (r ≡ foundOf (lookupAt call at))
         × Answered (lookupAt call at) (callIndex call) at r

@@ -1,6 +1,6 @@
 -- `cellumaq::cellumaq_lookup` meets its contract. Assumes nothing.
 use borrow.Author.Needs.{needs}
-use Rattle.chunk_grid.specs.Shapes.{given, givenBytes}
+use Rattle.chunk_grid.specs.Shapes.{given}
 use Rattle.calls.specs.Call.{gridGiven}
 use Rattle.ea_lookup.proofs.Numbered.{lookup-zero}
 use Rattle.ea_lookup.proofs.Answers.{found-picked}
@@ -8,7 +8,7 @@ use Rattle.cellumaq.proofs.cellumaq_lookup.Statement.{statement}
 use Rattle.cellumaq.proofs.cellumaq_lookup.Tie as tie
 
 returns : tie.Need-returns
-unfolding gridGiven givenBytes given
+unfolding gridGiven given
 returns c =
     let e = c .before .lookup-at .ensures in
     let number = found-picked _ _ _ _ (c .found-number .ensures) (e .0) in (

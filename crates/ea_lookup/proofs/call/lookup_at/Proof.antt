@@ -3,7 +3,7 @@ use Prim.Native.Nat.{_≤_}
 use mathlib.Core.Path.{sym, _∙_}
 use lib.Dec.{lit≤}
 use Rattle.refusal.proofs.Tests.{then-inv}
-use Rattle.chunk_grid.specs.Shapes.{given, givenBytes}
+use Rattle.chunk_grid.specs.Shapes.{given}
 use Rattle.chunk_grid.proofs.Grids.{accepted as grid-accepted}
 use Rattle.chunk_grid.proofs.Shapes.{BeginsWith, stored-shape}
 use Rattle.calls.specs.Call.{gridGiven}
@@ -24,7 +24,7 @@ returns c =
     called-refused _ _ _ _ (read-as _ _ _ (g .0) (g .1) (r .read-call .ensures .0) (r .read-call .ensures .1)) _ (c .before .checked .given .1)
 
 small : (c : tie.After-enum-told) → start (c .before .before) .args .rank ≤ 32
-unfolding gridGiven givenBytes given
+unfolding gridGiven given
 small c =
     let r = c .before .before in
     let tested = then-inv _ _ (sym (r .read-call .ensures .0) ∙ c .enum-told .given .1) .1 in
