@@ -2,97 +2,81 @@
 -- call is accepted. Assumes nothing.
 use Prim.Native.Nat.{ℕ, zero, suc, _-_, _<_, _≤_}
 use mathlib.Core.Path.{_≡_, refl, sym, ap, _∙_}
-use mathlib.Core.Bool.{Bool, true, false}
-use mathlib.Core.List.{List, _∷_}
+use mathlib.Core.List.{List, [], _∷_}
 use native.Mathlib.Omega.{arith}
-use borrow.Author.Tests.{lt-ltb, lt-leb, le-leb, leb-true, ltb-true}
-use lib.Dec.{eqb, ltb}
-use lib.ListN.{length, getD, replicate, length-replicate}
+use lib.ListN.{length, getD, replicate, getD-replicate, length-replicate, List·getD-eq-default}
 use Rattle.refusal.specs.declared.Refusal.{Refusal}
 use Rattle.refusal.specs.declared.Counted.{Counted}
-use Rattle.refusal.specs.declared.Counted.the-variants.{Count}
-use Rattle.refusal.specs.Refusals.{refusalOf}
-use Rattle.refusal.specs.Outcome.{Outcome, refused, accepted}
-use Rattle.refusal.proofs.Tests.{by-cond, both}
+use Rattle.refusal.specs.Outcome.{Outcome, refused, accepted, countedOf}
 use Rattle.refusal.proofs.Numbered.{Told}
-use Rattle.calls.specs.Answer.{Answer, isNamed, refusalNumber, picked, refusedAnswer, countedAnswer, ZeroAccepts}
+use Rattle.calls.specs.Answer.{answered, picked, listNumbers, ZeroAccepts}
+use Rattle.calls.specs.Values.{refusedAnswer, countedAnswer}
 
--- which numbers are named ones
-pub named-below : (which names : ℕ) → which < 3 → false ≡ isNamed which names
-unfolding isNamed
-named-below which names h = rw (lt-leb 3 which h) refl
+-- a number at a place of the answer doesn't depend on what it would be beyond
+pub picked-in : (l : List ℕ) (which : ℕ) → which < length l → getD l which 0 ≡ picked which l
+unfolding picked
+picked-in l which h = inside l which _ h
+  where
+    inside : (l : List ℕ) (k d : ℕ) → k < length l → getD l k 0 ≡ getD l k d
+    inside [] k d h = absurd (omega arith)
+    inside (x ∷ l) zero d h = refl
+    inside (x ∷ l) (suc k) d h = inside l k d (omega arith)
 
-pub named-from : (which names : ℕ) → 3 ≤ which → ltb (which - 3) names ≡ isNamed which names
-unfolding isNamed
-named-from which names h = rw (le-leb 3 which h) refl
+pub picked-beyond : (l : List ℕ) (which : ℕ) → length l ≤ which → getD l 0 0 ≡ picked which l
+unfolding picked
+picked-beyond l which h = sym (List·getD-eq-default l _ h)
 
-pub named-in : (which names : ℕ) → isNamed which names ≡ true → (3 ≤ which) × (which - 3 < names)
-unfolding isNamed
-named-in which names h = let b = both _ _ h in (leb-true 3 which (b .0), ltb-true (which - 3) names (b .1))
+pub picked-none : (l : List ℕ) (which : ℕ) → length l ≡ 0 → 0 ≡ picked which l
+picked-none l which h = sym (List·getD-eq-default l 0 {n = 0} (omega arith)) ∙ picked-beyond l which (omega arith)
 
--- a named number, and one of the refusal
-module _ (which : ℕ) (r : Refusal) (l : List ℕ) (b : Bool) (e : b ≡ isNamed which (length l)) where
-  abbrev answer : Answer
-  answer = record { refusal = r; numbers = l }
-
-  pub picked-named : b ≡ true → getD l (which - 3) 0 ≡ picked which answer
+-- the numbers of a refusal that are named, and those beyond
+module _ (which names : ℕ) (r : Refusal) (h : 3 ≤ which) where
+  behind : (k : ℕ) → which ≡ suc (suc (suc k)) → picked which (refusedAnswer names r) ≡ getD (replicate names 0) k (r .number)
   unfolding picked
-  picked-named t = rw (sym e ∙ t) refl
+  behind k e = rw e refl
 
-  pub picked-refusal : b ≡ false → refusalNumber which r ≡ picked which answer
-  unfolding picked
-  picked-refusal f = rw (sym e ∙ f) refl
+  pub refused-named : which - 3 < names → 0 ≡ picked which (refusedAnswer names r)
+  refused-named n = sym (behind (which - 3) (omega arith) ∙ getD-replicate names (which - 3) 0 (r .number) n)
 
--- the numbers after a refusal
-zeros : (m k : ℕ) → getD {A = ℕ} (replicate m 0) k 0 ≡ 0
-zeros zero k = refl
-zeros (suc m) zero = refl
-zeros (suc m) (suc k) = zeros m k
+  pub refused-beyond : names ≤ which - 3 → r .number ≡ picked which (refusedAnswer names r)
+  refused-beyond n =
+      let z = length-replicate {A = ℕ} names 0 in
+      sym (behind (which - 3) (omega arith) ∙ List·getD-eq-default (replicate names 0) _ {n = which - 3} (omega (arith, z)))
 
-module _ (which names : ℕ) (r : Refusal) (b : Bool) (e : b ≡ isNamed which names) where
-  same-names : b ≡ isNamed which (length {A = ℕ} (replicate names 0))
-  same-names = e ∙ ap (isNamed which) (sym (length-replicate names 0))
+-- of a list that is accepted only the count isn't 0
+pub picked-other : (which n : ℕ) → (which ≡ 3 → ⊥) → 0 ≡ picked which (0 ∷ 0 ∷ 0 ∷ n ∷ [])
+unfolding picked
+picked-other zero n h = refl
+picked-other (suc zero) n h = refl
+picked-other (suc (suc zero)) n h = refl
+picked-other (suc (suc (suc zero))) n h = absurd (h refl)
+picked-other (suc (suc (suc (suc which)))) n h = refl
 
-  pub refused-named : b ≡ true → 0 ≡ picked which (refusedAnswer names r)
-  unfolding refusedAnswer
-  refused-named t = sym (zeros names (which - 3)) ∙ picked-named which r _ b same-names t
+-- of a chunk that is absent all are 0
+pub picked-zeros : (which : ℕ) → 0 ≡ picked which (0 ∷ 0 ∷ 0 ∷ 0 ∷ [])
+unfolding picked
+picked-zeros zero = refl
+picked-zeros (suc zero) = refl
+picked-zeros (suc (suc zero)) = refl
+picked-zeros (suc (suc (suc zero))) = refl
+picked-zeros (suc (suc (suc (suc which)))) = refl
 
-  pub refused-refusal : b ≡ false → refusalNumber which r ≡ picked which (refusedAnswer names r)
-  unfolding refusedAnswer
-  refused-refusal f = picked-refusal which r _ b same-names f
+-- What is answered of a list's count is what is answered of the list.
+counted-same : {A : Type 0} (names : ℕ) (a : Outcome (List A)) → countedAnswer names (countedOf a) ≡ answered names listNumbers a
+unfolding countedAnswer countedOf answered listNumbers
+counted-same names (refused r) = refl
+counted-same names (accepted l) = refl
 
--- the numbers of a list that is accepted
-module _ (which names n : ℕ) (c : Counted) (e : c ≡ Count n) where
-  pub counted-count : which ≡ 3 → n ≡ picked which (countedAnswer names c)
-  unfolding countedAnswer picked isNamed
-  counted-count h = rw (e, h, lt-ltb 0 (suc (length {A = ℕ} (replicate (names - 1) 0))) (omega arith)) refl
+pub counted-picked : {A : Type 0} (names which number : ℕ) (counted : Counted) (a : Outcome (List A))
+    → number ≡ picked which (countedAnswer names counted) → counted ≡ countedOf a
+    → number ≡ picked which (answered names listNumbers a)
+counted-picked names which number counted a n e = n ∙ ap (λ (c : Counted). picked which (countedAnswer names c)) e ∙ ap (picked which) (counted-same names a)
 
-  pub counted-other : (which ≡ 3 → ⊥) → 0 ≡ picked which (countedAnswer names c)
-  unfolding countedAnswer picked refusalNumber refusalOf
-  counted-other h =
-      rw e
-      (by-cond Zero (isNamed which (length numbers)) named
-      (λ f. by-cond Zero (eqb which 1) (λ t. refl) (λ t. by-cond Zero (eqb which 2) (λ u. refl) (λ u. refl))))
-    where
-      numbers : List ℕ
-      numbers = n ∷ replicate (names - 1) 0
-
-      Zero : ℕ → Type 0
-      Zero x = 0 ≡ x
-
-      named : isNamed which (length numbers) ≡ true → 0 ≡ getD numbers (which - 3) 0
-      named f =
-          let k = named-in which _ f in
-          let z : which - 3 ≡ suc (which - 4) = omega arith in
-          rw z (sym (zeros (names - 1) (which - 4)))
-
--- The number 0, asked of the refusal, says that the call is accepted, where each refusal has a number above 0 and is
--- told as it is.
-pub zero-accepts : {A : Type 0} (answer : Outcome A → Answer) → ((r : Refusal) → answer (refused r) .refusal ≡ r)
-    → (a : Outcome A) → Told a → (which number : ℕ) → number ≡ picked which (answer a) → ZeroAccepts a which number
-unfolding picked isNamed refusalNumber
-zero-accepts answer tells (refused r) t which number e w z =
-    let k = t .above r refl in
-    let p : number ≡ answer (refused r) .refusal .number = e ∙ rw w refl in
-    absurd (omega (arith, k, p, ap (λ (x : Refusal). x .number) (tells r)))
-zero-accepts answer tells (accepted x) t which number e w z = (x, refl)
+-- The number 0, asked of the refusal, says that the call is accepted, where each refusal has a number above 0.
+pub zero-accepts : {A : Type 0} (names : ℕ) (numbers : A → List ℕ) (a : Outcome A) → Told a → (which number : ℕ)
+    → number ≡ picked which (answered names numbers a) → ZeroAccepts a which number
+unfolding picked answered
+zero-accepts names numbers (refused r) t which number e w z =
+    let p : number ≡ r .number = e ∙ rw w refl in
+    absurd (omega (arith, t .above r refl, p))
+zero-accepts names numbers (accepted x) t which number e w z = (x, refl)

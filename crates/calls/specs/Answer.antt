@@ -1,45 +1,23 @@
 -- What every call from C answers: one number, of those that its answer has.
-use Prim.Native.Nat.{ℕ, _-_}
+use Prim.Native.Nat.{ℕ}
 use mathlib.Core.Path.{_≡_}
-use mathlib.Core.Bool.{Bool, cond, _&&_}
-use mathlib.Core.List.{List, _∷_}
-use lib.Dec.{eqb, leb, ltb}
+use mathlib.Core.List.{List, [], _∷_}
 use lib.ListN.{length, getD, replicate}
-use Rattle.refusal.specs.declared.Refusal.{Refusal}
-use Rattle.refusal.specs.declared.Checked.the-variants.{Passed}
-use Rattle.refusal.specs.declared.Counted.{Counted}
-use Rattle.refusal.specs.declared.Counted.the-variants.{Count, Refused}
-use Rattle.refusal.specs.Refusals.{refusalOf}
-use Rattle.refusal.specs.Outcome.{Outcome, accepted}
+use Rattle.refusal.specs.Outcome.{Outcome, refused, accepted}
 
--- A call's refusal, of number 0 where it is accepted, and the numbers that it names.
-pub record Answer : Type 0 where
-  pub refusal : Refusal
-  pub numbers : List ℕ
+-- The numbers of an answer: those of the refusal (its number and two figures, all 0 where the call is accepted), then those
+-- that the call names. After a refusal the named numbers, this many, are 0.
+unfoldable pub answered : {A : Type 0} → ℕ → (A → List ℕ) → Outcome A → List ℕ
+answered names numbers (refused r) = r .number ∷ r .first ∷ r .second ∷ replicate names 0
+answered names numbers (accepted x) = 0 ∷ 0 ∷ 0 ∷ numbers x
 
--- An argument asks for one number: from 3 on for the named numbers, ..
-unfoldable pub isNamed : ℕ → ℕ → Bool
-isNamed which names = leb 3 which && ltb (which - 3) names
+-- An argument asks for one of them by its place; where there is none at that place, for the refusal's number.
+unfoldable pub picked : ℕ → List ℕ → ℕ
+picked which answer = getD answer which (getD answer 0 0)
 
--- .. 1 and 2 for the refusal's figures, anything else for the refusal's number.
-unfoldable pub refusalNumber : ℕ → Refusal → ℕ
-refusalNumber which r = cond (eqb which 1) (r .first) (cond (eqb which 2) (r .second) (r .number))
-
-unfoldable pub picked : ℕ → Answer → ℕ
-picked which a = cond (isNamed which (length (a .numbers))) (getD (a .numbers) (which - 3) 0) (refusalNumber which (a .refusal))
-
--- the answer of an accepted call
-abbrev pub acceptedAnswer : List ℕ → Answer
-acceptedAnswer numbers = record { refusal = refusalOf Passed; numbers = numbers }
-
--- After a refusal the named numbers, this many, are 0.
-unfoldable pub refusedAnswer : ℕ → Refusal → Answer
-refusedAnswer names r = record { refusal = r; numbers = replicate names 0 }
-
--- The first named number of a list is its count, the others are 0.
-unfoldable pub countedAnswer : ℕ → Counted → Answer
-countedAnswer names (Refused r) = refusedAnswer names r
-countedAnswer names (Count n) = acceptedAnswer (n ∷ replicate (names - 1) 0)
+-- A list names its count.
+unfoldable pub listNumbers : {A : Type 0} → List A → List ℕ
+listNumbers l = length l ∷ []
 
 -- The calls that list and look up chunks name four numbers: the count, and of the chunk that was looked up the
 -- address, size and mask.

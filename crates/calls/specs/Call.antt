@@ -6,7 +6,7 @@ use lib.Dec.{eqb}
 use Rattle.chunk_grid.specs.declared.GridOrder.{GridOrder}
 use Rattle.chunk_grid.specs.declared.GridOrder.the-variants.{RowMajor, UnlimitedFirst}
 use Rattle.chunk_grid.specs.Grid.{Grid}
-use Rattle.chunk_grid.specs.Shapes.{givenBytes}
+use Rattle.chunk_grid.specs.Shapes.{given, shapeOf}
 
 -- The file, the sizes of its offsets and lengths, the address of the index's header, the bytes of one element of the
 -- dataset, and the grid of the dataset's shapes.
@@ -24,15 +24,10 @@ orderOf n = cond (eqb n 0) RowMajor UnlimitedFirst
 
 -- .. a maximum is present unless its flag is 0; a shape has 8 bytes a dimension.
 unfoldable pub gridGiven : ℕ → ℕ → List ℕ → List ℕ → ℕ → List ℕ → Grid
-gridGiven order rank chunk present flag maximum = givenBytes rank chunk present (not (eqb flag 0)) maximum (orderOf order)
+gridGiven order rank chunk present flag maximum =
+    given rank (shapeOf rank chunk) (shapeOf rank present) (not (eqb flag 0)) (shapeOf rank maximum) (orderOf order)
 
 -- the call of these arguments
-abbrev pub callOf : List ℕ → ℕ → ℕ → ℕ → ℕ → ℕ → ℕ → List ℕ → List ℕ → ℕ → List ℕ → Call
-callOf file o l address n order rank chunk present flag maximum = record {
-  file = file;
-  offsetSize = o;
-  lengthSize = l;
-  address = address;
-  elementBytes = n;
-  grid = gridGiven order rank chunk present flag maximum;
-}
+abbrev pub callOf : List ℕ → ℕ → ℕ → ℕ → ℕ → Grid → Call
+callOf file o l address n grid =
+    record { file = file; offsetSize = o; lengthSize = l; address = address; elementBytes = n; grid = grid }

@@ -1,2 +1,3 @@
 pub mod Call
 pub mod Answer
+pub mod Values

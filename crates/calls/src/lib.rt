@@ -3,7 +3,8 @@ ghost use mathlib.Core.Path.{_≡_};
 ghost use Rattle.chunk_grid.specs.Grid.{gridTest};
 ghost use Rattle.chunk_grid.specs.Values.{gridOf, whereTested};
 ghost use Rattle.calls.specs.Call.{orderOf, gridGiven};
-ghost use Rattle.calls.specs.Answer.{isNamed, refusalNumber, picked, refusedAnswer, countedAnswer};
+ghost use Rattle.calls.specs.Answer.{picked};
+ghost use Rattle.calls.specs.Values.{refusedAnswer, countedAnswer};
 use chunk_grid::Built;
 use chunk_grid::ChunkGrid;
 use chunk_grid::GridOrder;
@@ -39,45 +40,35 @@ pub fn read_grid(
     ChunkGrid::from_bytes(rank, chunk, present, has_maximum != 0, maximum, order)
 }
 
-// Whether a number that is asked for is one of the named ones.
-fn is_named(which: u64, names: u64) -> bool
-    ensures { λ r. ⌜ r ≡ isNamed which names ⌝ }
+// The number of an answer that is asked for by its place; where there is none, the first.
+pub fn pick(which: u64, answer: &[u64]) -> u64
+    ensures { λ r. ⌜ r ≡ picked which (now (answer .entry)) ⌝ }
 {
-    if which < 3 {
-        return false;
+    let n = answer.len() as u64;
+    if which < n {
+        return answer[which as usize];
     }
-    which - 3 < names
-}
-
-// The number that is asked for, of a refusal.
-fn refusal_number(which: u64, refusal: Refusal) -> u64
-    ensures { λ r. ⌜ r ≡ refusalNumber which refusal ⌝ }
-{
-    match which {
-        1 => refusal.first,
-        2 => refusal.second,
-        _ => refusal.number,
+    if n == 0 {
+        return 0;
     }
-}
-
-// The number that is asked for, of an answer with this refusal and these named numbers.
-pub fn pick(which: u64, refusal: Refusal, numbers: &[u64]) -> u64
-    ensures { λ r. ⌜ r ≡ picked which (record { refusal = refusal; numbers = now (numbers .entry) }) ⌝ }
-{
-    if is_named(which, numbers.len() as u64) {
-        return numbers[(which - 3) as usize];
-    }
-    refusal_number(which, refusal)
+    answer[0]
 }
 
 // The same after a refusal.
 pub fn refused_number(which: u64, refusal: Refusal, names: u64) -> u64
     ensures { λ r. ⌜ r ≡ picked which (refusedAnswer names refusal) ⌝ }
 {
-    if is_named(which, names) {
-        return 0;
+    match which {
+        0 => refusal.number,
+        1 => refusal.first,
+        2 => refusal.second,
+        _ => {
+            if which - 3 < names {
+                return 0;
+            }
+            refusal.number
+        }
     }
-    refusal_number(which, refusal)
 }
 
 // The same of a list's answer.

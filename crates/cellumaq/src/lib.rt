@@ -5,18 +5,17 @@ ghost use mathlib.Core.List.{List};
 ghost use mathlib.Core.Option.{Option};
 ghost use Prim.Native.Nat.{ℕ, _/_, _<_};
 ghost use lib.ListN.{length};
-ghost use Rattle.refusal.specs.declared.Counted.the-variants.{Count};
-ghost use Rattle.refusal.specs.Outcome.{accepted, countedOf};
+ghost use Rattle.refusal.specs.Outcome.{accepted};
 ghost use Rattle.checksum.specs.Lookup3.{lookup3};
 ghost use Rattle.chunk_grid.specs.Grid.{isChunk};
 ghost use Rattle.chunk_grid.specs.Shapes.{shapeOf};
 ghost use Rattle.index.specs.Index.{Rec};
 ghost use Rattle.index.specs.ExactList.{ExactList, Answers, Agrees};
 ghost use Rattle.records.specs.Records.{recordLength, listContent, recordsIn};
-ghost use Rattle.calls.specs.Call.{callOf};
-ghost use Rattle.calls.specs.Answer.{picked, countedAnswer, chunkNames, ZeroAccepts};
+ghost use Rattle.calls.specs.Call.{gridGiven, callOf};
+ghost use Rattle.calls.specs.Answer.{answered, picked, listNumbers, chunkNames, ZeroAccepts};
 ghost use Rattle.ea_calls.specs.Call.{callIndex, listAt};
-ghost use Rattle.ea_lookup.specs.Call.{lookupAt, lookupAnswer};
+ghost use Rattle.ea_lookup.specs.Call.{lookupAt, foundNumbers};
 use calls::CHUNK_NAMES;
 use calls::counted_number;
 use ea_list::call::list_at;
@@ -49,13 +48,14 @@ pub extern "C" fn cellumaq_list(
     list: &mut [u8],
     which: u64,
 ) -> u64
-    ensures { λ r. ⌜ (let call = callOf (now (file .entry)) «offset_size» «length_size» address «element_bytes» order rank
-        (now (chunk .entry)) (now (present .entry)) «has_maximum» (now (maximum .entry)) in
+    ensures { λ r. ⌜ (let grid = gridGiven order rank (now (chunk .entry)) (now (present .entry)) «has_maximum» (now (maximum .entry)) in
+        let call = callOf (now (file .entry)) «offset_size» «length_size» address «element_bytes» grid in
         let answer = listAt call (length (now (list .entry)) / recordLength rank) in
-        (r ≡ picked which (countedAnswer chunkNames (countedOf answer)))
+        (r ≡ picked which (answered chunkNames listNumbers answer))
         × ZeroAccepts answer which r
         × (now (list .exit) ≡ listContent answer (now (list .entry)))
-        × ((n : ℕ) → countedOf answer ≡ Count n → 0 < rank → ExactList (callIndex call) (recordsIn rank n (now (list .exit))) n)) ⌝ }
+        × ((l : List Rec) → answer ≡ accepted l → 0 < rank
+        → ExactList (callIndex call) (recordsIn rank (length l) (now (list .exit))) (length l))) ⌝ }
 {
     let counted = list_at(
         file,
@@ -92,15 +92,15 @@ pub extern "C" fn cellumaq_lookup(
     corner: &[u8],
     which: u64,
 ) -> u64
-    ensures { λ r. ⌜ (let call = callOf (now (file .entry)) «offset_size» «length_size» address «element_bytes» order rank
-        (now (chunk .entry)) (now (present .entry)) «has_maximum» (now (maximum .entry)) in
+    ensures { λ r. ⌜ (let grid = gridGiven order rank (now (chunk .entry)) (now (present .entry)) «has_maximum» (now (maximum .entry)) in
+        let call = callOf (now (file .entry)) «offset_size» «length_size» address «element_bytes» grid in
         let at = shapeOf rank (now (corner .entry)) in
         let answer = lookupAt call at in
-        (r ≡ picked which (lookupAnswer answer))
+        (r ≡ picked which (answered chunkNames foundNumbers answer))
         × ZeroAccepts answer which r
         × ((x : Option Rec) → answer ≡ accepted x → Answers (callIndex call) at x)
         × ((room : ℕ) (l : List Rec) → 0 < rank → listAt call room ≡ accepted l → isChunk (call .grid) at ≡ true
-        → (x : Option Rec) × (r ≡ picked which (lookupAnswer (accepted x))) × Agrees l at x)) ⌝ }
+        → (x : Option Rec) × (r ≡ picked which (answered chunkNames foundNumbers (accepted x))) × Agrees l at x)) ⌝ }
 {
     let found = lookup_at(
         file,

@@ -14,16 +14,10 @@ unfoldable pub isUnlimitedFirst : GridOrder → Bool
 isUnlimitedFirst RowMajor = false
 isUnlimitedFirst UnlimitedFirst = true
 
--- the grid of these shapes; maximum extents that aren't given are no part of it
+-- the grid of these shapes, the chunk's, the present and the maximum one; a maximum that isn't given is no part of it
 unfoldable pub given : ℕ → List ℕ → List ℕ → Bool → List ℕ → GridOrder → Grid
-given rank chunk present hasMaximum maximum order = record {
-  rank = rank;
-  chunk = chunk;
-  present = present;
-  hasMaximum = hasMaximum;
-  maximum = cond hasMaximum maximum [];
-  unlimitedFirst = isUnlimitedFirst order;
-}
+given rank c p has m o =
+    record { rank = rank; chunk = c; present = p; hasMaximum = has; maximum = cond has m []; unlimitedFirst = isUnlimitedFirst o }
 
 -- A shape or corner has 8 bytes a dimension; ..
 unfoldable pub numbersIn : ℕ → List ℕ → List ℕ
@@ -37,8 +31,3 @@ otherRank (suc n) = []
 
 unfoldable pub shapeOf : ℕ → List ℕ → List ℕ
 shapeOf rank bytes = cond (eqb (length bytes) (8 * rank)) (numbersIn rank bytes) (otherRank rank)
-
--- the grid of the shapes that these bytes are
-unfoldable pub givenBytes : ℕ → List ℕ → List ℕ → Bool → List ℕ → GridOrder → Grid
-givenBytes rank chunk present hasMaximum maximum order =
-    given rank (shapeOf rank chunk) (shapeOf rank present) hasMaximum (shapeOf rank maximum) order

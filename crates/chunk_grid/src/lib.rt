@@ -9,7 +9,7 @@ ghost use Rattle.refusal.specs.Refusals.{_then_};
 ghost use Rattle.chunk_grid.specs.declared.Offsets.the-variants.{Inside};
 ghost use Rattle.chunk_grid.specs.Grid.{pairwise, ceilDiv, countOf, firstUnlimited, leadingIn, toFront, multipliers, hasZero};
 ghost use Rattle.chunk_grid.specs.Grid.{shapesTest, multiplierTest, productTest, gridTest};
-ghost use Rattle.chunk_grid.specs.Shapes.{isUnlimitedFirst, given, shapeOf, givenBytes};
+ghost use Rattle.chunk_grid.specs.Shapes.{isUnlimitedFirst, given, shapeOf};
 ghost use Rattle.chunk_grid.specs.Values.{gridOf, whereTested, placeOf, dimAt, numberingTest, Made, Numbers, Counted, Extents};
 use fields::bytes::read_u64_le;
 use fields::convert::Exact;
@@ -113,8 +113,9 @@ impl ChunkGrid {
         maximum: &[u8],
         order: GridOrder,
     ) -> Built
-        ensures checked { λ r. ⌜ r .checked ≡ gridTest (givenBytes rank (now (chunk .entry)) (now (present .entry)) «has_maximum» (now (maximum .entry)) order) ⌝ }
-        ensures grid { λ r. ⌜ gridOf (r .grid) ≡ whereTested (r .checked) (givenBytes rank (now (chunk .entry)) (now (present .entry)) «has_maximum» (now (maximum .entry)) order) ⌝ }
+        ensures { λ r. ⌜ (let grid = given rank (shapeOf rank (now (chunk .entry))) (shapeOf rank (now (present .entry)))
+            «has_maximum» (shapeOf rank (now (maximum .entry))) order in
+            (r .checked ≡ gridTest grid) × (gridOf (r .grid) ≡ whereTested (r .checked) grid)) ⌝ }
     {
         if 32 < rank {
             return refused_grid(Refusal::plain(Refusal::RANK));

@@ -5,7 +5,7 @@ use Rattle.refusal.specs.declared.Refusal.{Refusal}
 use Rattle.refusal.specs.declared.Checked.{Checked}
 use Rattle.refusal.specs.declared.Checked.the-variants.{Passed, Refused}
 use Rattle.refusal.specs.Refusals.{_then_}
-use Rattle.refusal.specs.Outcome.{Outcome, refused, countedOf}
+use Rattle.refusal.specs.Outcome.{Outcome, refused}
 use Rattle.refusal.proofs.Tests.{then-inv}
 use Rattle.refusal.proofs.Outcomes.{yields-passed, yields-stopped}
 use Rattle.refusal.proofs.Numbered.{Told, told-yields, told-room}
@@ -14,7 +14,6 @@ use Rattle.chunk_grid.specs.declared.Built.{Built}
 use Rattle.chunk_grid.specs.declared.ChunkGrid.{ChunkGrid}
 use Rattle.chunk_grid.specs.Grid.{gridTest}
 use Rattle.chunk_grid.specs.Values.{gridOf, whereTested}
-use Rattle.index.specs.Index.{Listing}
 use Rattle.elements.specs.Elements.{Elements}
 use Rattle.ea_header.specs.Header.{headerTest}
 use Rattle.ea_header.proofs.Numbered.{header-numbered}
@@ -23,7 +22,7 @@ use Rattle.ea_blocks.specs.Array.{Array, arrayFrom}
 use Rattle.ea_walk.specs.Walk.{elementsIn}
 use Rattle.ea_walk.proofs.Numbered.{list-told}
 use Rattle.calls.specs.Call.{Call}
-use Rattle.calls.specs.Answer.{picked, refusedAnswer, countedAnswer, chunkNames, ZeroAccepts}
+use Rattle.calls.specs.Answer.{answered, picked, listNumbers, ZeroAccepts}
 use Rattle.calls.proofs.Answers.{zero-accepts}
 use Rattle.ea_calls.specs.Call.{callHeader, callArray, callElements, callAnswer, listAt}
 use Rattle.ea_calls.specs.declared.CallRead.{CallRead}
@@ -60,12 +59,10 @@ module _ (c : Call) where
   answer-told answer t = told-yields _ _ (header-numbered lookup3 _ _ _ _) t
 
   -- The number 0, asked of a list's refusal, says that the call is accepted.
-  pub list-zero : (room which number : ℕ) → number ≡ picked which (countedAnswer chunkNames (countedOf (listAt c room)))
+  pub list-zero : (names room which number : ℕ) → number ≡ picked which (answered names listNumbers (listAt c room))
       → ZeroAccepts (listAt c room) which number
-  unfolding countedOf countedAnswer refusedAnswer
-  list-zero room which number e =
-      zero-accepts (λ (a : Listing). countedAnswer chunkNames (countedOf a)) (λ r. refl) _
-      (answer-told _ (told-room _ room (list-told _ _ call-form))) which number e
+  list-zero names room which number e =
+      zero-accepts names _ _ (answer-told _ (told-room _ room (list-told _ _ call-form))) which number e
 
 -- a call that is read
 module _ (c : Call) (r : CallRead) (grid : ChunkGrid) (k : ReadAs c r grid) where
@@ -75,11 +72,6 @@ module _ (c : Call) (r : CallRead) (grid : ChunkGrid) (k : ReadAs c r grid) wher
       → P (callArray c) (callElements c)
   unfolding callArray callElements
   read-own P t p = rw (← k .header t, ← k .grid t) p
-
-  -- .. whose grid is accepted
-  pub read-grid-passed : r .checked ≡ Passed → gridTest (c .grid) ≡ Passed
-  unfolding callTest
-  read-grid-passed t = then-inv _ _ (sym (k .tests) ∙ t) .1
 
   module _ {A : Type 0} (answer : Array → Elements → Outcome A) where
     -- .. and what they are answered is the call's answer

@@ -6,7 +6,7 @@ ghost use Rattle.refusal.specs.declared.Counted.the-variants.{Count};
 ghost use Rattle.refusal.specs.Outcome.{countedOf};
 ghost use Rattle.index.specs.ExactList.{ExactList};
 ghost use Rattle.records.specs.Records.{recordLength, listContent, recordsIn};
-ghost use Rattle.calls.specs.Call.{callOf};
+ghost use Rattle.calls.specs.Call.{gridGiven, callOf};
 ghost use Rattle.ea_calls.specs.Call.{callIndex, listAt};
 use crate::read_extensible_array_chunks;
 use calls::read_grid;
@@ -29,8 +29,8 @@ pub fn list_at(
     maximum: &[u8],
     list: &mut [u8],
 ) -> Counted
-    ensures { λ r. ⌜ (let call = callOf (now (file .entry)) «offset_size» «length_size» address «element_bytes» order rank
-        (now (chunk .entry)) (now (present .entry)) «has_maximum» (now (maximum .entry)) in
+    ensures { λ r. ⌜ (let grid = gridGiven order rank (now (chunk .entry)) (now (present .entry)) «has_maximum» (now (maximum .entry)) in
+        let call = callOf (now (file .entry)) «offset_size» «length_size» address «element_bytes» grid in
         let answer = listAt call (length (now (list .entry)) / recordLength rank) in
         (r ≡ countedOf answer)
         × (now (list .exit) ≡ listContent answer (now (list .entry)))

@@ -2,3 +2,4 @@ pub mod PathEnds
 pub mod Lookups
 pub mod Calls
 pub mod Numbered
+pub mod Answers

@@ -1,6 +1,6 @@
 -- Every refusal of a lookup has a number above 0, so the number 0 says that a call is accepted. Assumes nothing.
 use Prim.Native.Nat.{ℕ}
-use mathlib.Core.Path.{_≡_, refl}
+use mathlib.Core.Path.{_≡_}
 use mathlib.Core.List.{List}
 use Rattle.refusal.proofs.Numbered.{Told, numbered-then, told-yields}
 use Rattle.chunk_grid.specs.Grid.{slotOf}
@@ -12,12 +12,11 @@ use Rattle.ea_blocks.specs.Array.{Array}
 use Rattle.ea_blocks.proofs.Numbered.{array-numbered, place-numbered}
 use Rattle.ea_walk.specs.Walk.{located}
 use Rattle.calls.specs.Call.{Call}
-use Rattle.calls.specs.Answer.{picked, refusedAnswer, ZeroAccepts}
+use Rattle.calls.specs.Answer.{answered, picked, chunkNames, ZeroAccepts}
 use Rattle.calls.proofs.Answers.{zero-accepts}
 use Rattle.ea_calls.proofs.Calls.{answer-told}
 use Rattle.ea_lookup.specs.Lookup.{lookup}
-use Rattle.elements.specs.Values.{foundOf}
-use Rattle.ea_lookup.specs.Call.{lookupAt, foundAnswer, lookupAnswer}
+use Rattle.ea_lookup.specs.Call.{lookupAt, foundNumbers}
 
 lookup-told : (a : Array) (e : Elements) (corner : List ℕ) → Told (lookup a e corner)
 unfolding lookup
@@ -27,8 +26,6 @@ lookup-told a e corner =
     (slot-told (located a e) (λ s. place-numbered a (place (a .parameters) s)) (slotOf (e .grid) corner))
 
 -- The number 0, asked of the refusal, says that the call is accepted.
-pub lookup-zero : (c : Call) (corner : List ℕ) (which number : ℕ) → number ≡ picked which (lookupAnswer (lookupAt c corner))
+pub lookup-zero : (c : Call) (corner : List ℕ) (which number : ℕ) → number ≡ picked which (answered chunkNames foundNumbers (lookupAt c corner))
     → ZeroAccepts (lookupAt c corner) which number
-unfolding foundOf foundAnswer refusedAnswer
-lookup-zero c corner which number e =
-    zero-accepts lookupAnswer (λ r. refl) _ (answer-told c _ (lookup-told _ _ corner)) which number e
+lookup-zero c corner which number e = zero-accepts _ _ _ (answer-told c _ (lookup-told _ _ corner)) which number e

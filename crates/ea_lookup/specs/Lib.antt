@@ -2,3 +2,4 @@ pub mod Lookup
 pub mod Found
 pub mod PathEnds
 pub mod Call
+pub mod Values

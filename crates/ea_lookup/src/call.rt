@@ -3,11 +3,12 @@
 ghost use mathlib.Core.Path.{_≡_};
 ghost use Prim.Native.Nat.{ℕ};
 ghost use Rattle.chunk_grid.specs.Shapes.{shapeOf};
-ghost use Rattle.calls.specs.Call.{callOf};
+ghost use Rattle.calls.specs.Call.{gridGiven, callOf};
 ghost use Rattle.calls.specs.Answer.{picked};
 ghost use Rattle.ea_calls.specs.Call.{callIndex, listAt};
-ghost use Rattle.ea_lookup.specs.Call.{lookupAt, foundAnswer};
 ghost use Rattle.elements.specs.Values.{foundOf};
+ghost use Rattle.ea_lookup.specs.Call.{lookupAt};
+ghost use Rattle.ea_lookup.specs.Values.{foundAnswer};
 ghost use Rattle.ea_lookup.specs.Found.{Answered, Agreed};
 use crate::lookup_chunk;
 use calls::CHUNK_NAMES;
@@ -34,8 +35,8 @@ pub fn lookup_at(
     maximum: &[u8],
     corner: &[u8],
 ) -> Found
-    ensures { λ r. ⌜ (let call = callOf (now (file .entry)) «offset_size» «length_size» address «element_bytes» order rank
-        (now (chunk .entry)) (now (present .entry)) «has_maximum» (now (maximum .entry)) in
+    ensures { λ r. ⌜ (let grid = gridGiven order rank (now (chunk .entry)) (now (present .entry)) «has_maximum» (now (maximum .entry)) in
+        let call = callOf (now (file .entry)) «offset_size» «length_size» address «element_bytes» grid in
         let at = shapeOf rank (now (corner .entry)) in
         (r ≡ foundOf (lookupAt call at))
         × Answered (lookupAt call at) (callIndex call) at r
@@ -66,10 +67,12 @@ pub fn found_number(found: Found, which: u64) -> u64
 {
     match found {
         Found::Chunk(entry) => {
-            let numbers = [1, entry.address, entry.size as u64, entry.mask as u64];
-            pick(which, Checked::Passed.refusal(), &numbers)
+            let size = entry.size as u64;
+            let mask = entry.mask as u64;
+            let answer = [0, 0, 0, 1, entry.address, size, mask];
+            pick(which, &answer)
         }
-        Found::Absent => refused_number(which, Checked::Passed.refusal(), CHUNK_NAMES),
+        Found::Absent => 0,
         Found::Refused(r) => refused_number(which, r, CHUNK_NAMES),
     }
 }

@@ -1,15 +1,19 @@
 -- `calls::counted_number` meets its contract. Assumes nothing.
-use Rattle.calls.specs.Answer.{countedAnswer}
-use Rattle.calls.proofs.Answers.{counted-count, counted-other}
+use mathlib.Core.Path.{refl}
+use Rattle.calls.specs.Answer.{picked}
+use Rattle.calls.specs.Values.{countedAnswer}
+use Rattle.calls.proofs.Answers.{picked-other}
 use borrow.Author.Needs.{needs}
 use Rattle.calls.proofs.counted_number.Statement.{statement}
 use Rattle.calls.proofs.counted_number.Tie as tie
 
 returns : tie.Need-returns
-returns c = counted-count _ _ _ _ (c .before .before .counted .given .1) (c .if1 .taken)
+unfolding countedAnswer picked
+returns c = rw (c .before .before .counted .given .1, c .if1 .taken) refl
 
 returns-2 : tie.Need-returns-2
-returns-2 c = counted-other _ _ _ _ (c .before .before .counted .given .1) (c .if1 .left)
+unfolding countedAnswer
+returns-2 c = rw (c .before .before .counted .given .1) (picked-other _ _ (c .if1 .left))
 
 returns-3 : tie.Need-returns-3
 unfolding countedAnswer

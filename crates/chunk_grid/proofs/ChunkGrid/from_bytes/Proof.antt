@@ -3,7 +3,6 @@ use mathlib.Core.Path.{ap, _∙_}
 use lib.Dec.{lit≤}
 use Rattle.refusal.specs.declared.Checked.the-variants.{Refused}
 use Rattle.chunk_grid.specs.Values.{whereTested}
-use Rattle.chunk_grid.specs.Shapes.{givenBytes}
 use Rattle.chunk_grid.proofs.Building.{rank-over}
 use Rattle.chunk_grid.proofs.Numbered.{refused-shapes}
 use Rattle.chunk_grid.proofs.Shapes.{BeginsWith, stored-shape}
@@ -22,13 +21,12 @@ maximum-read : (c : tie.After-read-shape3) → BeginsWith (c .before .before .be
 maximum-read c = stored-shape _ _ _ _ _ (c .before .before .before .before .before .before .before .before .if1 .left) (lit≤ tt) (c .read-shape3 .ensures .0) (c .read-shape3 .ensures .1)
 
 returns : tie.Need-returns
-unfolding givenBytes whereTested
+unfolding whereTested
 returns c =
     let e = c .refused-grid .ensures in
     (e .0 ∙ ap Refused (c .before .plain .ensures) ∙ refused-shapes _ _ (rank-over _ _ _ _ _ _ (c .before .before .if1 .taken)), rw (e .0) (e .1))
 
 returns-2 : tie.Need-returns-2
-unfolding givenBytes
 returns-2 c = rw (chunk-read (c .before .before .before .before .before .before .before .before .before .before .before) .1, present-read (c .before .before .before .before .before .before .before .before) .1, maximum-read (c .before .before .before .before .before) .1) at (c .new .ensures)
 
 pub from-bytes-spec : {M : Type 1} → statement M

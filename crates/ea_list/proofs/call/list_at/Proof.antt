@@ -1,6 +1,6 @@
 -- `ea_list::call::list_at` meets its contract. Assumes nothing.
 use borrow.Author.Needs.{needs}
-use Rattle.chunk_grid.specs.Shapes.{givenBytes, given}
+use Rattle.chunk_grid.specs.Shapes.{given}
 use Rattle.chunk_grid.specs.Values.{gridOf}
 use Rattle.calls.specs.Call.{gridGiven}
 use Rattle.ea_calls.proofs.Calls.{read-as}
@@ -9,14 +9,14 @@ use Rattle.ea_list.proofs.call.list_at.Statement.{statement}
 use Rattle.ea_list.proofs.call.list_at.Tie as tie
 
 returns : tie.Need-returns
-unfolding gridGiven givenBytes given
+unfolding gridGiven given
 returns c =
     let r = c .before .before .before in
     let g = r .before .read-grid .ensures in
     listed-refused _ _ _ (read-as _ _ _ (g .0) (g .1) (r .read-call .ensures .0) (r .read-call .ensures .1)) _ _ (c .before .checked .given .1)
 
 returns-2 : tie.Need-returns-2
-unfolding gridGiven givenBytes given gridOf
+unfolding gridGiven given gridOf
 returns-2 c =
     let l = c .before .before in
     let t = l .before .before in
