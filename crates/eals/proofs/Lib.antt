@@ -1,7 +1,3 @@
-pub mod Words
-pub mod Numbers
-pub mod Questions
-pub mod Inputs
 pub mod Digits
 pub mod Puts
 pub mod Lines

@@ -8,9 +8,8 @@ use lib.Seq.{drop-drop}
 use Rattle.fields.specs.LittleEndian.{leAt}
 use Rattle.chunk_grid.specs.Shapes.{numbersIn}
 use Rattle.records.specs.Records.{recordLength}
-use Rattle.eals.specs.Text.{decimal}
 use Rattle.records.specs.Records.{recordIn, recordsIn}
-use Rattle.eals.specs.Printed.{spaced, recordLine, recordLines, recordsWord, listText}
+use Rattle.eals.specs.Printed.{decimal, spaced, recordLine, recordLines, recordsWord, listText}
 
 -- a number in a part of a list
 at-part : (s : List ℕ) (from pos w : ℕ) → leAt (drop from s) pos w ≡ leAt s (from + pos) w

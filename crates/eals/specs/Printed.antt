@@ -1,17 +1,26 @@
 -- What the program prints.
-use Prim.Native.Nat.{ℕ, _+_}
+use Prim.Native.Nat.{ℕ, zero, suc, _+_, _/_, _%_}
 use mathlib.Core.Path.{_≡_}
+use mathlib.Core.Bool.{cond}
 use mathlib.Core.List.{List, [], _∷_, _++_}
+use lib.Dec.{ltb}
 use lib.ListN.{length}
 use lib.Seq.{sets}
 use Rattle.refusal.specs.declared.Refusal.{Refusal}
 use Rattle.index.specs.Index.{Rec}
-use Rattle.eals.specs.Text.{decimal}
 
 -- A text is put into a buffer at a place: where it ends, and what the buffer holds then.
 pub record Put (out : List ℕ) (at : ℕ) (text out′ : List ℕ) (end : ℕ) : Type 0 where
   pub ends : end ≡ at + length text
   pub holds : out′ ≡ sets out at text
+
+-- the digits of a number below 10^20, without zeros in front
+unfoldable pub digitsIn : ℕ → ℕ → List ℕ
+digitsIn zero n = []
+digitsIn (suc most) n = cond (ltb n 10) ((48 + n) ∷ []) (digitsIn most (n / 10) ++ ((48 + n % 10) ∷ []))
+
+unfoldable pub decimal : ℕ → List ℕ
+decimal n = digitsIn 20 n
 
 -- numbers in decimal digits, each behind a space (32)
 unfoldable pub spaced : List ℕ → List ℕ

@@ -8,12 +8,12 @@ use Rattle.index.specs.Index.{Listing}
 use Rattle.refusal.specs.Outcome.{countedOf}
 use Rattle.calls.specs.Call.{callOf}
 use Rattle.ea_calls.specs.Call.{listAt}
-use Rattle.eals.specs.Line.{fileOf, questionOf, storedOf}
+use Rattle.questions.specs.Line.{fileOf, questionOf, storedOf}
 use Rattle.records.specs.Records.{recordLength, listContent, recordsIn}
 use Rattle.eals.specs.Printed.{listText, refusalText, unreadableText}
-use Rattle.eals.specs.declared.line.Question.{Question}
-use Rattle.eals.specs.declared.line.Parsed.{Parsed}
-use Rattle.eals.specs.declared.line.Parsed.the-variants.{Asked, Unreadable}
+use Rattle.questions.specs.declared.Question.{Question}
+use Rattle.questions.specs.declared.Parsed.{Parsed}
+use Rattle.questions.specs.declared.Parsed.the-variants.{Asked, Unreadable}
 
 -- Behind the line's first six numbers stand the chunk's, the present and the maximum lengths, 8 bytes each.
 unfoldable pub shapeAt : ℕ → ℕ → List ℕ → List ℕ

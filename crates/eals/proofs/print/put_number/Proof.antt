@@ -2,7 +2,7 @@
 use mathlib.Core.Path.{_≡_, _∙_}
 use native.Mathlib.Omega.{arith}
 use lib.ListN.{take}
-use Rattle.eals.specs.Text.{decimal}
+use Rattle.eals.specs.Printed.{decimal}
 use Rattle.eals.proofs.Digits.{decimal-digits, length-decimal}
 use borrow.Author.Needs.{needs}
 use Rattle.eals.proofs.print.put_number.Statement.{statement}
