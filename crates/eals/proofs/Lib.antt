@@ -1,5 +1,2 @@
-pub mod Digits
-pub mod Puts
-pub mod Lines
 pub mod Bounds
 pub mod Answers

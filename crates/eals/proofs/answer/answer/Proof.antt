@@ -6,7 +6,7 @@ use Rattle.questions.specs.declared.Parsed.the-variants.{Asked}
 use Rattle.questions.proofs.Bounds.{rank-small}
 use Rattle.eals.proofs.Bounds.{counted-room}
 use Rattle.eals.proofs.Answers.{asked, unread, put-counts}
-use Rattle.eals.proofs.Puts.{put-as}
+use Rattle.list_text.proofs.Puts.{put-as}
 use borrow.Author.Needs.{needs}
 use Rattle.eals.proofs.answer.answer.Statement.{statement}
 use Rattle.eals.proofs.answer.answer.Tie as tie

@@ -6,7 +6,7 @@ use native.Mathlib.Omega.{arith}
 use lib.ListN.{length, take, drop, drop-of-length-le, length-append, length-drop}
 use lib.Seq.{sets, sets-eq, take-all, drop-drop, length-sets}
 use Rattle.records.proofs.Records.{sets-append}
-use Rattle.eals.specs.Printed.{Put}
+use Rattle.list_text.specs.Printed.{Put}
 
 -- a text that is copied into the part of a buffer from `at` on
 pub text-put : (out text part : List ℕ) (at : ℕ) → at + length text ≤ length out

@@ -1,9 +1,9 @@
--- `eals::print::put_text` meets its contract. Assumes nothing.
+-- `list_text::put_text` meets its contract. Assumes nothing.
 use native.Mathlib.Omega.{arith}
 use borrow.Author.Needs.{needs}
-use Rattle.eals.proofs.Puts.{text-put}
-use Rattle.eals.proofs.print.put_text.Statement.{statement}
-use Rattle.eals.proofs.print.put_text.Tie as tie
+use Rattle.list_text.proofs.Puts.{text-put}
+use Rattle.list_text.proofs.put_text.Statement.{statement}
+use Rattle.list_text.proofs.put_text.Tie as tie
 
 returns : tie.Need-returns
 returns c =

@@ -9,7 +9,7 @@ use Rattle.fields.specs.LittleEndian.{leAt}
 use Rattle.chunk_grid.specs.Shapes.{numbersIn}
 use Rattle.records.specs.Records.{recordLength}
 use Rattle.records.specs.Records.{recordIn, recordsIn}
-use Rattle.eals.specs.Printed.{decimal, spaced, recordLine, recordLines, recordsWord, listText}
+use Rattle.list_text.specs.Printed.{decimal, spaced, recordLine, recordLines, recordsWord, listText}
 
 -- a number in a part of a list
 at-part : (s : List ℕ) (from pos w : ℕ) → leAt (drop from s) pos w ≡ leAt s (from + pos) w

@@ -1,15 +1,15 @@
--- `eals::print::put_offsets` meets its contract: the numbers left go behind those that are put. Assumes nothing.
+-- `list_text::put_offsets` meets its contract: the numbers left go behind those that are put. Assumes nothing.
 use borrow.Author.Needs.{needs}
 use Prim.Native.Nat.{_+_, _-_, _*_, _≤_}
 use native.Mathlib.Nat.{add-zero, sub-zero}
 use native.Mathlib.Omega.{arith}
 use lib.ListN.{drop}
 use Rattle.chunk_grid.specs.Shapes.{numbersIn}
-use Rattle.eals.specs.Printed.{spaced}
-use Rattle.eals.proofs.Puts.{Putting, put-none, put-more, put-all}
-use Rattle.eals.proofs.Lines.{offsets-on, offsets-end}
-use Rattle.eals.proofs.print.put_offsets.Statement.{statement}
-use Rattle.eals.proofs.print.put_offsets.Tie as tie
+use Rattle.list_text.specs.Printed.{spaced}
+use Rattle.list_text.proofs.Puts.{Putting, put-none, put-more, put-all}
+use Rattle.list_text.proofs.Lines.{offsets-on, offsets-end}
+use Rattle.list_text.proofs.put_offsets.Statement.{statement}
+use Rattle.list_text.proofs.put_offsets.Tie as tie
 
 abbrev Inv-loop : tie.InvT-loop
 Inv-loop out₀ at list from n to₀ i₀ out to i =

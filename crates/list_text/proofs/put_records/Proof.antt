@@ -1,15 +1,15 @@
--- `eals::print::put_records` meets its contract: the lines left go behind those that are put. Assumes nothing.
+-- `list_text::put_records` meets its contract: the lines left go behind those that are put. Assumes nothing.
 use borrow.Author.Needs.{needs}
 use Prim.Native.Nat.{_+_, _-_, _*_, _≤_}
 use native.Mathlib.Omega.{arith}
 use lib.ListN.{length, drop}
 use Rattle.records.specs.Records.{recordLength}
 use Rattle.records.specs.Records.{recordsIn}
-use Rattle.eals.specs.Printed.{recordLines}
-use Rattle.eals.proofs.Puts.{Putting, put-none, put-more, put-all}
-use Rattle.eals.proofs.Lines.{records-on, records-none, room-on}
-use Rattle.eals.proofs.print.put_records.Statement.{statement}
-use Rattle.eals.proofs.print.put_records.Tie as tie
+use Rattle.list_text.specs.Printed.{recordLines}
+use Rattle.list_text.proofs.Puts.{Putting, put-none, put-more, put-all}
+use Rattle.list_text.proofs.Lines.{records-on, records-none, room-on}
+use Rattle.list_text.proofs.put_records.Statement.{statement}
+use Rattle.list_text.proofs.put_records.Tie as tie
 
 abbrev Inv-loop : tie.InvT-loop
 Inv-loop out₀ list count rank to₀ from₀ left₀ out to from left =

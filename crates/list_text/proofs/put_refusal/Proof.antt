@@ -1,11 +1,11 @@
--- `eals::print::put_refusal` meets its contract: the word, the number, the figures and the line end, one behind the other. Assumes nothing.
+-- `list_text::put_refusal` meets its contract: the word, the number, the figures and the line end, one behind the other. Assumes nothing.
 use native.Mathlib.Omega.{arith}
 use mathlib.Core.List.{append-assoc, append-nil}
-use Rattle.eals.specs.Printed.{spaced, refusalText}
-use Rattle.eals.proofs.Puts.{put-then, put-as}
+use Rattle.list_text.specs.Printed.{spaced, refusalText}
+use Rattle.list_text.proofs.Puts.{put-then, put-as}
 use borrow.Author.Needs.{needs}
-use Rattle.eals.proofs.print.put_refusal.Statement.{statement}
-use Rattle.eals.proofs.print.put_refusal.Tie as tie
+use Rattle.list_text.proofs.put_refusal.Statement.{statement}
+use Rattle.list_text.proofs.put_refusal.Tie as tie
 
 returns : tie.Need-returns
 unfolding refusalText spaced

@@ -1,11 +1,11 @@
-// The text that the program prints.
+// The text of a list and of a refusal, put into a buffer. The program `eals` prints it.
 ghost use mathlib.Core.List.{_∷_};
 ghost use Prim.Native.Nat.{_+_, _*_, _≤_};
 ghost use lib.ListN.{length, drop};
 ghost use Rattle.chunk_grid.specs.Shapes.{numbersIn};
 ghost use Rattle.records.specs.Records.{recordLength};
 ghost use Rattle.records.specs.Records.{recordIn, recordsIn};
-ghost use Rattle.eals.specs.Printed.{Put, decimal, spaced, recordLine, recordLines, listText, refusalText};
+ghost use Rattle.list_text.specs.Printed.{Put, decimal, spaced, recordLine, recordLines, listText, refusalText};
 use fields::bytes::read_u32_le;
 use fields::bytes::read_u64_le;
 use refusal::Refusal;

@@ -1,10 +1,10 @@
--- `eals::print::put_list` meets its contract: the lines, the word, the count and the line end, one behind the other. Assumes nothing.
+-- `list_text::put_list` meets its contract: the lines, the word, the count and the line end, one behind the other. Assumes nothing.
 use native.Mathlib.Omega.{arith}
-use Rattle.eals.proofs.Puts.{put-then, put-as}
-use Rattle.eals.proofs.Lines.{list-parts}
+use Rattle.list_text.proofs.Puts.{put-then, put-as}
+use Rattle.list_text.proofs.Lines.{list-parts}
 use borrow.Author.Needs.{needs}
-use Rattle.eals.proofs.print.put_list.Statement.{statement}
-use Rattle.eals.proofs.print.put_list.Tie as tie
+use Rattle.list_text.proofs.put_list.Statement.{statement}
+use Rattle.list_text.proofs.put_list.Tie as tie
 
 returns : tie.Need-returns
 returns c =

@@ -1,12 +1,12 @@
--- `eals::print::put_number` meets its contract. Assumes nothing.
+-- `list_text::put_number` meets its contract. Assumes nothing.
 use mathlib.Core.Path.{_≡_, _∙_}
 use native.Mathlib.Omega.{arith}
 use lib.ListN.{take}
-use Rattle.eals.specs.Printed.{decimal}
-use Rattle.eals.proofs.Digits.{decimal-digits, length-decimal}
+use Rattle.list_text.specs.Printed.{decimal}
+use Rattle.list_text.proofs.Digits.{decimal-digits, length-decimal}
 use borrow.Author.Needs.{needs}
-use Rattle.eals.proofs.print.put_number.Statement.{statement}
-use Rattle.eals.proofs.print.put_number.Tie as tie
+use Rattle.list_text.proofs.put_number.Statement.{statement}
+use Rattle.list_text.proofs.put_number.Tie as tie
 
 text : (c : tie.After-decimal) → take (c .decimal .result) (c .decimal .last .1 .0) ≡ decimal (c .before .before .before .args .n)
 text c =

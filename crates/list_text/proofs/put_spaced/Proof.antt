@@ -1,9 +1,9 @@
--- `eals::print::put_spaced` meets its contract. Assumes nothing.
+-- `list_text::put_spaced` meets its contract. Assumes nothing.
 use native.Mathlib.Omega.{arith}
-use Rattle.eals.proofs.Puts.{put-then}
+use Rattle.list_text.proofs.Puts.{put-then}
 use borrow.Author.Needs.{needs}
-use Rattle.eals.proofs.print.put_spaced.Statement.{statement}
-use Rattle.eals.proofs.print.put_spaced.Tie as tie
+use Rattle.list_text.proofs.put_spaced.Statement.{statement}
+use Rattle.list_text.proofs.put_spaced.Tie as tie
 
 returns : tie.Need-returns
 returns c =

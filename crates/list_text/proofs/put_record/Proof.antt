@@ -1,11 +1,11 @@
--- `eals::print::put_record` meets its contract: address, size, mask, offsets and line end, one behind the other. Assumes nothing.
+-- `list_text::put_record` meets its contract: address, size, mask, offsets and line end, one behind the other. Assumes nothing.
 use native.Mathlib.Omega.{arith}
 use Rattle.records.specs.Records.{recordLength}
-use Rattle.eals.proofs.Puts.{put-then, put-as}
-use Rattle.eals.proofs.Lines.{record-parts}
+use Rattle.list_text.proofs.Puts.{put-then, put-as}
+use Rattle.list_text.proofs.Lines.{record-parts}
 use borrow.Author.Needs.{needs}
-use Rattle.eals.proofs.print.put_record.Statement.{statement}
-use Rattle.eals.proofs.print.put_record.Tie as tie
+use Rattle.list_text.proofs.put_record.Statement.{statement}
+use Rattle.list_text.proofs.put_record.Tie as tie
 
 returns : tie.Need-returns
 unfolding recordLength

@@ -9,7 +9,7 @@ use lib.ListN.{length, length-append}
 use borrow.Author.Tests.{lt-ltb, le-ltb}
 use Rattle.refusal.proofs.Tests.{by-cond, lt-or-ge}
 use Rattle.io.specs.Digits.{glyph, digits, Fewest}
-use Rattle.eals.specs.Printed.{digitsIn, decimal}
+use Rattle.list_text.specs.Printed.{digitsIn, decimal}
 
 figure : (n : ℕ) → glyph (n % 10) ≡ 48 + n % 10
 figure n = rw (lt-ltb (n % 10) 10 (omega arith)) refl

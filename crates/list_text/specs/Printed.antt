@@ -1,4 +1,4 @@
--- What the program prints.
+-- The text of a list and of a refusal.
 use Prim.Native.Nat.{ℕ, zero, suc, _+_, _/_, _%_}
 use mathlib.Core.Path.{_≡_}
 use mathlib.Core.Bool.{cond}
@@ -42,13 +42,9 @@ recordsWord = 114 ∷ 101 ∷ 99 ∷ 111 ∷ 114 ∷ 100 ∷ 115 ∷ []
 unfoldable pub listText : List Rec → List ℕ
 listText l = recordLines l ++ recordsWord ++ spaced (length l ∷ []) ++ 10 ∷ []
 
--- for a refusal `refused`, its number and its two figures;
+-- for a refusal `refused`, its number and its two figures.
 abbrev pub refusedWord : List ℕ
 refusedWord = 114 ∷ 101 ∷ 102 ∷ 117 ∷ 115 ∷ 101 ∷ 100 ∷ []
 
 unfoldable pub refusalText : Refusal → List ℕ
 refusalText r = refusedWord ++ spaced (r .number ∷ r .first ∷ r .second ∷ []) ++ 10 ∷ []
-
--- for a line of another form, or too long a file, `unreadable`.
-abbrev pub unreadableText : List ℕ
-unreadableText = 117 ∷ 110 ∷ 114 ∷ 101 ∷ 97 ∷ 100 ∷ 97 ∷ 98 ∷ 108 ∷ 101 ∷ 10 ∷ []
