@@ -4,11 +4,11 @@ ghost use Rattle.chunk_grid.specs.Grid.{gridTest};
 ghost use Rattle.chunk_grid.specs.Values.{gridOf, whereTested};
 ghost use Rattle.calls.specs.Call.{orderOf, gridGiven};
 ghost use Rattle.calls.specs.Answer.{isNamed, refusalNumber, picked, refusedAnswer, countedAnswer};
-use chunk_grid::Built;
-use chunk_grid::ChunkGrid;
 use chunk_grid::GridOrder;
 use refusal::Counted;
 use refusal::Refusal;
+use shapes::Built;
+use shapes::build_from_bytes;
 
 // The numbers that the calls name which list and look up chunks: count, address, size, mask.
 pub const CHUNK_NAMES: u64 = 4;
@@ -36,7 +36,7 @@ pub fn read_grid(
         (r .checked ≡ gridTest grid) × (gridOf (r .grid) ≡ whereTested (r .checked) grid)) ⌝ }
 {
     let order = grid_order(order);
-    ChunkGrid::from_bytes(rank, chunk, present, has_maximum != 0, maximum, order)
+    build_from_bytes(rank, chunk, present, has_maximum != 0, maximum, order)
 }
 
 // Whether a number that is asked for is one of the named ones.

@@ -9,7 +9,7 @@ ghost use Rattle.refusal.specs.declared.Counted.the-variants.{Count};
 ghost use Rattle.refusal.specs.Outcome.{accepted, countedOf};
 ghost use Rattle.checksum.specs.Lookup3.{lookup3};
 ghost use Rattle.chunk_grid.specs.Grid.{isChunk};
-ghost use Rattle.chunk_grid.specs.Shapes.{shapeOf};
+ghost use Rattle.shapes.specs.Shapes.{shapeOf};
 ghost use Rattle.index.specs.Index.{Rec};
 ghost use Rattle.index.specs.ExactList.{ExactList, Answers, Agrees};
 ghost use Rattle.records.specs.Records.{recordLength, listContent, recordsIn};

@@ -16,7 +16,7 @@ use Rattle.chunk_grid.specs.declared.ChunkGrid.{ChunkGrid}
 use Rattle.chunk_grid.specs.declared.GridOrder.{GridOrder}
 use Rattle.chunk_grid.specs.Grid.{Grid, pairwise, any, ceilDiv, countOf, counts, leadingIn, leading, toFront, ordered, multipliers, hasZero, numbersNothing, overflows, shapesTest, multiplierTest, productTest, gridTest}
 use Rattle.chunk_grid.specs.Shapes.{isUnlimitedFirst, given}
-use Rattle.chunk_grid.specs.Values.{gridOf, numberingTest, Made, Numbers, Counted, Extents}
+use Rattle.chunk_grid.specs.Values.{gridOf, numberingTest, Made, GridNumbers, GridCounts, Extents}
 use Rattle.chunk_grid.proofs.Grids.{shaped}
 use Rattle.chunk_grid.proofs.Building.{rank-over, shapes-agree}
 
@@ -91,7 +91,7 @@ module _ (b : Bool) (limits present chunk counts bound down : List ℕ) (rotated
 -- what is made of a grid, in arrays
 pub numbered : (g : Grid) (chunk counted bound down : List ℕ) (rotated : ℕ) (numbers : Bool) → gridTest g ≡ Passed → take (g .rank) chunk ≡ g .chunk → overflows (g .present) ≡ false
     → Made (g .unlimitedFirst) (limitsOf g) (g .present) (g .chunk) rotated numbers (take (g .rank) counted) (take (g .rank) bound) (take (g .rank) down)
-    → (Numbers (g .rank) rotated chunk down g) × (Counted (g .rank) counted g) × (Extents (g .rank) numbers bound g)
+    → (GridNumbers (g .rank) rotated chunk down g) × (GridCounts (g .rank) counted g) × (Extents (g .rank) numbers bound g)
 unfolding counts leading ordered numbersNothing
 numbered g chunk counted bound down rotated numbers t c fit m = (
   record { built = t; ranked = refl; leads = m .leads; chunks = c; downs = m .downs ∙ rw (m .leads) refl },
@@ -124,7 +124,7 @@ module _ (k : ChunkGrid) (small : k .rank ≤ 32) (sizes : (length (k .chunk) �
       → Made (isUnlimitedFirst (k .order)) (take (k .rank) (cond (k .«has_maximum») (k .maximum) (k .present))) (take (k .rank) (k .present)) (take (k .rank) (k .chunk)) rotated numbers a b d)
       → (checked ≡ gridTest (gridOf k))
       × (checked ≡ Passed
-      → (Numbers (k .rank) rotated (k .chunk) (d ++ z) (gridOf k)) × (Counted (k .rank) (a ++ x) (gridOf k)) × (Extents (k .rank) numbers (b ++ y) (gridOf k)))
+      → (GridNumbers (k .rank) rotated (k .chunk) (d ++ z) (gridOf k)) × (GridCounts (k .rank) (a ++ x) (gridOf k)) × (Extents (k .rank) numbers (b ++ y) (gridOf k)))
   unfolding gridOf given
   numbering-is a b d x y z rotated numbers checked la lb ld fit c m =
       let e : checked ≡ gridTest (gridOf k) = c ∙ rw (← limits-are) (sym (tests (gridOf k) shapes-pass)) in (

@@ -4,7 +4,7 @@ use mathlib.Core.Path.{_≡_}
 use mathlib.Core.List.{List}
 use Rattle.refusal.specs.Refusals.{figure}
 use Rattle.chunk_grid.specs.Grid.{Grid}
-use Rattle.chunk_grid.specs.Values.{Numbers, Extents}
+use Rattle.chunk_grid.specs.Values.{GridNumbers, Extents}
 use Rattle.elements.specs.declared.ElementReader.{ElementReader}
 use Rattle.elements.specs.Elements.{Elements, chunkBytes}
 
@@ -15,5 +15,5 @@ elementsOf file r grid n = record { file = file; form = r .form; grid = grid; el
 -- The reader and the arrays of its numbering are made of this grid and element size.
 pub record Reads (r : ElementReader) (chunk bound down : List ℕ) (grid : Grid) (n : ℕ) : Type 0 where
   pub chunked : r .«chunk_bytes» ≡ figure (chunkBytes grid n)
-  pub numbered : Numbers (r .rank) (r .rotated) chunk down grid
+  pub numbered : GridNumbers (r .rank) (r .rotated) chunk down grid
   pub extended : Extents (r .rank) (r .numbers) bound grid

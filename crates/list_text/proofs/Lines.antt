@@ -6,7 +6,7 @@ use native.Mathlib.Omega.{arith}
 use lib.ListN.{length, drop}
 use lib.Seq.{drop-drop}
 use Rattle.fields.specs.LittleEndian.{leAt}
-use Rattle.chunk_grid.specs.Shapes.{numbersIn}
+use Rattle.shapes.specs.Shapes.{numbersIn}
 use Rattle.records.specs.Records.{recordLength}
 use Rattle.records.specs.Records.{recordIn, recordsIn}
 use Rattle.list_text.specs.Printed.{decimal, spaced, recordLine, recordLines, recordsWord, listText}

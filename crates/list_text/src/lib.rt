@@ -2,7 +2,7 @@
 ghost use mathlib.Core.List.{_∷_};
 ghost use Prim.Native.Nat.{_+_, _*_, _≤_};
 ghost use lib.ListN.{length, drop};
-ghost use Rattle.chunk_grid.specs.Shapes.{numbersIn};
+ghost use Rattle.shapes.specs.Shapes.{numbersIn};
 ghost use Rattle.records.specs.Records.{recordLength};
 ghost use Rattle.records.specs.Records.{recordIn, recordsIn};
 ghost use Rattle.list_text.specs.Printed.{Put, decimal, spaced, recordLine, recordLines, listText, refusalText};

@@ -2,7 +2,8 @@
 use borrow.Author.Needs.{needs}
 use Prim.Native.Nat.{ℕ}
 use mathlib.Core.Path.{_≡_, ap, _∙_}
-use Rattle.chunk_grid.specs.Shapes.{given, givenBytes}
+use Rattle.chunk_grid.specs.Shapes.{given}
+use Rattle.shapes.specs.Shapes.{givenBytes}
 use Rattle.calls.specs.Call.{gridGiven}
 use Rattle.calls.specs.Answer.{picked}
 use Rattle.ea_lookup.specs.declared.Found.{Found}

@@ -4,7 +4,7 @@ use Prim.Native.Nat.{_+_, _-_, _*_, _≤_}
 use native.Mathlib.Nat.{add-zero, sub-zero}
 use native.Mathlib.Omega.{arith}
 use lib.ListN.{drop}
-use Rattle.chunk_grid.specs.Shapes.{numbersIn}
+use Rattle.shapes.specs.Shapes.{numbersIn}
 use Rattle.list_text.specs.Printed.{spaced}
 use Rattle.list_text.proofs.Puts.{Putting, put-none, put-more, put-all}
 use Rattle.list_text.proofs.Lines.{offsets-on, offsets-end}

@@ -3,9 +3,10 @@ use Prim.Native.Nat.{_≤_}
 use mathlib.Core.Path.{_≡_}
 use lib.Dec.{lit≤}
 use lib.ListN.{length, take}
-use Rattle.chunk_grid.specs.Shapes.{shapeOf, given, givenBytes}
+use Rattle.chunk_grid.specs.Shapes.{given}
+use Rattle.shapes.specs.Shapes.{shapeOf, givenBytes}
 use Rattle.chunk_grid.proofs.Grids.{accepted as grid-accepted}
-use Rattle.chunk_grid.proofs.Shapes.{stored-shape}
+use Rattle.shapes.proofs.Shapes.{stored-shape}
 use Rattle.calls.specs.Call.{Call, callOf, gridGiven}
 use Rattle.ea_calls.proofs.Calls.{ReadAs, read-as, read-grid-passed}
 use Rattle.ea_lookup.proofs.Calls.{called-refused, called-passed}

@@ -1,4 +1,4 @@
--- `chunk_grid::ChunkGrid::new` meets its contract. Assumes nothing.
+-- `shapes::build` meets its contract. Assumes nothing.
 use mathlib.Core.Path.{_≡_, sym, ap, _∙_}
 use mathlib.Core.Logic.{⊎-elim}
 use mathlib.Core.Bool.{Bool, true, cond}
@@ -6,13 +6,13 @@ use Prim.Native.Nat.{_≤_}
 use lib.ListN.{length}
 use Rattle.refusal.specs.declared.Checked.{Checked}
 use Rattle.refusal.specs.declared.Checked.the-variants.{Passed}
 use Rattle.chunk_grid.specs.Grid.{Grid, shapesTest, gridTest}
 use Rattle.chunk_grid.specs.Shapes.{isUnlimitedFirst, given}
 use Rattle.chunk_grid.specs.Values.{whereTested, numberingTest}
 use Rattle.chunk_grid.proofs.Numbered.{refused-shapes, given-lengths, tests-given, same-grid}
 use borrow.Author.Needs.{needs}
-use Rattle.chunk_grid.proofs.ChunkGrid.new.Statement.{statement}
-use Rattle.chunk_grid.proofs.ChunkGrid.new.Tie as tie
+use Rattle.shapes.proofs.build.Statement.{statement}
+use Rattle.shapes.proofs.build.Tie as tie
 
 -- the grid that is asked for
 abbrev asked : tie.Start → Grid
@@ -62,8 +62,8 @@ returns-3 : tie.Need-returns-3
 unfolding whereTested
 returns-3 c = (tested (c .before .before .before .before .before), rw (c .before .before .before .enum-told2 .given .1) (same-grid _ _ _ _ _ _ _ _ _ (passed (c .before .before .before .before .before .before)) (c .before .before .padded .ensures) (c .before .padded2 .ensures) (c .padded3 .ensures)))
 
-pub new-spec : {M : Type 1} → statement M
-new-spec =
+pub build-spec : {M : Type 1} → statement M
+build-spec =
     tie.close
     (tie.spec (search needs) (search needs) (search needs) returns (search needs) numbering-test-requires
     numbering-test-requires-2 (search needs) (search needs) returns-2 (search needs) (search needs)

@@ -1,4 +1,4 @@
--- `chunk_grid::padded` meets its contract. Assumes nothing.
+-- `shapes::padded` meets its contract. Assumes nothing.
 use mathlib.Core.Path.{_≡_, refl, sym, ap, _∙_}
 use native.Mathlib.Omega.{arith}
 use borrow.Author.Needs.{needs}
@@ -6,9 +6,9 @@ use Prim.Native.Nat.{ℕ, _-_, _≤_}
 use lib.ListN.{length, take}
 use lib.ListN.{length-set}
 use lib.Seq.{take-all}
 use Rattle.chunk_grid.proofs.Members.{take-more}
-use Rattle.chunk_grid.proofs.padded.Statement.{statement}
-use Rattle.chunk_grid.proofs.padded.Tie as tie
+use Rattle.shapes.proofs.padded.Statement.{statement}
+use Rattle.shapes.proofs.padded.Tie as tie
 
 abbrev Inv-loop : tie.InvT-loop
 Inv-loop s r₀ i₀ r i =

@@ -9,7 +9,7 @@ use lib.Dec.{eqb}
 use lib.ListN.{length, getD, take, drop, set, drop-of-length-le}
 use lib.Seq.{drop-cons, drop-drop, sets, sets-eq, length-sets, take-at}
 use Rattle.fields.specs.LittleEndian.{leAt}
-use Rattle.chunk_grid.specs.Shapes.{numbersIn, otherRank, shapeOf}
+use Rattle.shapes.specs.Shapes.{numbersIn, otherRank, shapeOf}
 use Rattle.refusal.proofs.Tests.{by-cond}
 
 pub length-numbers : (n : ℕ) (s : List ℕ) → length (numbersIn n s) ≡ n

@@ -1,15 +1,15 @@
--- `chunk_grid::ChunkGrid::from_bytes` meets its contract. Assumes nothing.
+-- `shapes::build_from_bytes` meets its contract. Assumes nothing.
 use mathlib.Core.Path.{ap, _∙_}
 use lib.Dec.{lit≤}
 use Rattle.refusal.specs.declared.Checked.the-variants.{Refused}
 use Rattle.chunk_grid.specs.Values.{whereTested}
-use Rattle.chunk_grid.specs.Shapes.{givenBytes}
+use Rattle.shapes.specs.Shapes.{givenBytes}
 use Rattle.chunk_grid.proofs.Building.{rank-over}
 use Rattle.chunk_grid.proofs.Numbered.{refused-shapes}
-use Rattle.chunk_grid.proofs.Shapes.{BeginsWith, stored-shape}
+use Rattle.shapes.proofs.Shapes.{BeginsWith, stored-shape}
 use borrow.Author.Needs.{needs}
-use Rattle.chunk_grid.proofs.ChunkGrid.from_bytes.Statement.{statement}
-use Rattle.chunk_grid.proofs.ChunkGrid.from_bytes.Tie as tie
+use Rattle.shapes.proofs.build_from_bytes.Statement.{statement}
+use Rattle.shapes.proofs.build_from_bytes.Tie as tie
 
 -- each shape is at the beginning of its array
 chunk-read : (c : tie.After-read-shape) → BeginsWith (c .before .before .before .before .before .before .args .rank) (c .before .before .before .before .before .before .args .chunk .now) (c .read-shape .last .0) (c .read-shape .result)
@@ -29,10 +29,10 @@ returns c =
 
 returns-2 : tie.Need-returns-2
 unfolding givenBytes
-returns-2 c = rw (chunk-read (c .before .before .before .before .before .before .before .before .before .before .before) .1, present-read (c .before .before .before .before .before .before .before .before) .1, maximum-read (c .before .before .before .before .before) .1) at (c .new .ensures)
+returns-2 c = rw (chunk-read (c .before .before .before .before .before .before .before .before .before .before .before) .1, present-read (c .before .before .before .before .before .before .before .before) .1, maximum-read (c .before .before .before .before .before) .1) at (c .build .ensures)
 
-pub from-bytes-spec : {M : Type 1} → statement M
-from-bytes-spec =
+pub build-from-bytes-spec : {M : Type 1} → statement M
+build-from-bytes-spec =
     tie.close
     (tie.spec (search needs) (search needs) returns (search needs) (search needs) (search needs) (search needs)
     (search needs) (search needs)

@@ -1,14 +1,14 @@
--- `chunk_grid::read_shape` meets its contract. Assumes nothing.
+-- `shapes::read_shape` meets its contract. Assumes nothing.
 use Prim.Native.Nat.{_-_, _≤_}
 use mathlib.Core.Path.{_≡_, refl, sym, _∙_}
 use native.Mathlib.Omega.{arith}
 use borrow.Author.Needs.{needs}
 use lib.ListN.{length, drop, length-set}
 use lib.Seq.{sets}
-use Rattle.chunk_grid.specs.Shapes.{numbersIn}
-use Rattle.chunk_grid.proofs.Shapes.{length-numbers, number-at, shape-is, shape-none, shape-one, stored-on, stored-end}
-use Rattle.chunk_grid.proofs.read_shape.Statement.{statement}
-use Rattle.chunk_grid.proofs.read_shape.Tie as tie
+use Rattle.shapes.specs.Shapes.{numbersIn}
+use Rattle.shapes.proofs.Shapes.{length-numbers, number-at, shape-is, shape-none, shape-one, stored-on, stored-end}
+use Rattle.shapes.proofs.read_shape.Statement.{statement}
+use Rattle.shapes.proofs.read_shape.Tie as tie
 
 abbrev Inv-loop : tie.InvT-loop
 Inv-loop shape₀ rank bytes n i₀ shape i =

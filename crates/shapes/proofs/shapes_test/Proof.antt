@@ -1,10 +1,10 @@
--- `chunk_grid::shapes_test` meets its contract. Assumes nothing.
+-- `shapes::shapes_test` meets its contract. Assumes nothing.
 use mathlib.Core.Bool.{true≢false}
 use mathlib.Core.Path.{sym, _∙_}
 use Rattle.chunk_grid.proofs.Building.{rank-over, rank-differs, present-differs, maximum-differs, shapes-agree}
 use borrow.Author.Needs.{needs}
-use Rattle.chunk_grid.proofs.shapes_test.Statement.{statement}
-use Rattle.chunk_grid.proofs.shapes_test.Tie as tie
+use Rattle.shapes.proofs.shapes_test.Statement.{statement}
+use Rattle.shapes.proofs.shapes_test.Tie as tie
 
 returns : tie.Need-returns
 returns c = λ o. c .refused .ensures ∙ rank-over _ _ _ _ o _ (c .before .if1 .taken)
