@@ -7,7 +7,7 @@ use native.Mathlib.Omega.{arith}
 use borrow.Author.Tests.{le-ltb}
 use lib.ListN.{length, getD, take, drop}
 use lib.Seq.{length-take-le, take-all, take-at}
-use Rattle.refusal.proofs.Tests.{then-passed}
+use Rattle.refusal.proofs.Tests.{refused-passed, then-passed}
 use Rattle.refusal.specs.declared.Refusal.{Refusal}
 use Rattle.refusal.specs.declared.Checked.{Checked}
 use Rattle.refusal.specs.declared.Checked.the-variants.{Passed, Refused}
@@ -34,6 +34,9 @@ none-over (a ∷ l) (suc n) h = rw (le-ltb largest64 a (h 0)) (none-over l n (λ
 pub refused-shapes : (g : Grid) (r : Refusal) → Refused r ≡ shapesTest g → Refused r ≡ gridTest g
 unfolding gridTest _then_
 refused-shapes g r e = rw (← e) refl
+
+pub refused-by : (g : Grid) (r : Refusal) (test : Checked) → test ≡ Refused r → test ≡ shapesTest g → Refused r ≡ gridTest g
+refused-by g r test e t = refused-shapes g r (sym e ∙ t)
 
 -- the arrays of shapes of one rank describe the grid of these shapes
 pub same-grid : (rank : ℕ) (chunk present maximum c p m : List ℕ) (has : Bool) (o : GridOrder) → Passed ≡ shapesTest (given rank chunk present has maximum o)
@@ -63,9 +66,14 @@ pub tests : (g : Grid) → shapesTest g ≡ Passed → gridTest g ≡ numberingT
 unfolding gridTest numberingTest ordered leading counts _then_
 tests g e = rw e refl
 
-pub zero-length : (b : Bool) (limits chunk : List ℕ) → hasZero chunk ≡ true → Refused (record { number = 6; first = 0; second = 0 }) ≡ numberingTest b limits chunk
+zero-length : (b : Bool) (limits chunk : List ℕ) → hasZero chunk ≡ true → Refused (record { number = 6; first = 0; second = 0 }) ≡ numberingTest b limits chunk
 unfolding numberingTest refuse _then_
 zero-length b limits chunk z = rw z refl
+
+pub zero-refused : (b : Bool) (limits present chunk counts bound down : List ℕ) (rotated : ℕ) (numbers : Bool) (checked : Checked) → hasZero chunk ≡ true
+    → checked ≡ Refused (record { number = 6; first = 0; second = 0 })
+    → (checked ≡ numberingTest b limits chunk) × (checked ≡ Passed → Made b limits present chunk rotated numbers counts bound down)
+zero-refused b limits present chunk counts bound down rotated numbers checked z e = (e ∙ zero-length b limits chunk z, λ p. absurd (refused-passed _ (sym e ∙ p)))
 
 -- each number from the one before, all from the counts
 module _ (b : Bool) (limits present chunk counts bound down : List ℕ) (rotated : ℕ) (numbers : Bool) (behind product checked : Checked)

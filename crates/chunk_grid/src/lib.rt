@@ -5,7 +5,7 @@ ghost use Prim.Native.Nat.{_-_, _<_, _≤_, max};
 ghost use lib.ListN.{length, drop};
 ghost use Rattle.refusal.specs.declared.Checked.the-variants.{Passed, Refused};
 ghost use Rattle.refusal.specs.Refusals.{_then_};
-ghost use Rattle.chunk_grid.specs.Grid.{pairwise, ceilDiv, countOf, firstUnlimited, leadingIn, toFront, multipliers, hasZero};
+ghost use Rattle.chunk_grid.specs.Grid.{pairwise, ceilDiv, countOf, leadingIn, toFront, multipliers, hasZero};
 ghost use Rattle.chunk_grid.specs.Grid.{multiplierTest, productTest, gridTest};
 ghost use Rattle.chunk_grid.specs.Shapes.{isUnlimitedFirst};
 ghost use Rattle.chunk_grid.specs.Values.{gridOf, placeOf, dimAt, numberingTest, Made, GridNumbers, GridCounts, Extents};
@@ -184,13 +184,6 @@ fn counts_of(counts: &mut [u64], bound: &mut [u64], limits: &[u64], present: &[u
     }
 }
 
-// The first unlimited dimension; the rank where there is none.
-fn first_unlimited(counts: &[u64]) -> usize
-    ensures { λ r. ⌜ r ≡ firstUnlimited (now (counts .entry)) ⌝ }
-{
-    place_of(counts, u64::MAX)
-}
-
 // The dimension in front of the grid's order.
 fn leading(order: GridOrder, counts: &[u64]) -> usize
     ensures { λ r. ⌜ r ≡ leadingIn (isUnlimitedFirst order) (now (counts .entry)) ⌝ }
@@ -198,7 +191,7 @@ fn leading(order: GridOrder, counts: &[u64]) -> usize
     match order {
         GridOrder::RowMajor => 0,
         GridOrder::UnlimitedFirst => {
-            let u = first_unlimited(counts);
+            let u = place_of(counts, u64::MAX);
             if u < counts.len() { u } else { 0 }
         }
     }
@@ -274,7 +267,7 @@ fn product_test(counts: &[u64]) -> Checked
 }
 
 // Makes every number of a grid whose shapes have one rank; where a test refuses, the lent lists hold some of them.
-fn number(
+pub fn number(
     counts: &mut [u64],
     bound: &mut [u64],
     down: &mut [u64],
@@ -305,28 +298,6 @@ fn number(
         rotated: rotated as u64,
         numbers: made.numbers,
     }
-}
-
-// The tests of a grid whose shapes have one rank.
-pub fn numbering_test(limits: &[u64], present: &[u64], chunk: &[u64], order: GridOrder) -> Checked
-    requires { ⌜ (length (now limits) ≡ length (now chunk)) × (length (now present) ≡ length (now chunk))
-        × (length (now chunk) ≤ 32) ⌝ }
-    ensures { λ r. ⌜ r ≡ numberingTest (isUnlimitedFirst order) (now (limits .entry)) (now (chunk .entry)) ⌝ }
-{
-    let mut counts = [0u64; 32];
-    let mut bound = [0u64; 32];
-    let mut down = [0u64; 32];
-    let n = chunk.len();
-    let numbering = number(
-        &mut counts[..n],
-        &mut bound[..n],
-        &mut down[..n],
-        limits,
-        present,
-        chunk,
-        order,
-    );
-    numbering.checked
 }
 
 // The dimension at place i of the grid's order: dimension `rotated` is in front, those before it are one place later.

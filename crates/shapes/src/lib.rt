@@ -6,12 +6,12 @@ ghost use lib.Seq.{sets};
 ghost use Rattle.refusal.specs.declared.Checked.the-variants.{Refused};
 ghost use Rattle.chunk_grid.specs.declared.GridOrder.{GridOrder};
 ghost use Rattle.chunk_grid.specs.Grid.{shapesTest, gridTest};
-ghost use Rattle.chunk_grid.specs.Shapes.{given};
-ghost use Rattle.chunk_grid.specs.Values.{gridOf, whereTested};
+ghost use Rattle.chunk_grid.specs.Shapes.{isUnlimitedFirst, given};
+ghost use Rattle.chunk_grid.specs.Values.{gridOf, whereTested, numberingTest};
 ghost use Rattle.shapes.specs.Shapes.{shapeOf, givenBytes};
 use chunk_grid::ChunkGrid;
 use chunk_grid::GridOrder;
-use chunk_grid::numbering_test;
+use chunk_grid::number;
 use chunk_grid::refused;
 use fields::bytes::read_u64_le;
 use refusal::Checked;
@@ -168,6 +168,28 @@ fn shapes_test(
         }
     }
     Checked::Passed
+}
+
+// The tests of a grid whose shapes have one rank.
+fn numbering_test(limits: &[u64], present: &[u64], chunk: &[u64], order: GridOrder) -> Checked
+    requires { ⌜ (length (now limits) ≡ length (now chunk)) × (length (now present) ≡ length (now chunk))
+        × (length (now chunk) ≤ 32) ⌝ }
+    ensures { λ r. ⌜ r ≡ numberingTest (isUnlimitedFirst order) (now (limits .entry)) (now (chunk .entry)) ⌝ }
+{
+    let mut counts = [0u64; 32];
+    let mut bound = [0u64; 32];
+    let mut down = [0u64; 32];
+    let n = chunk.len();
+    let numbering = number(
+        &mut counts[..n],
+        &mut bound[..n],
+        &mut down[..n],
+        limits,
+        present,
+        chunk,
+        order,
+    );
+    numbering.checked
 }
 
 // The numbers of s in an array, up to 32 of them.

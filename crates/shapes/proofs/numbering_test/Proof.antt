@@ -1,10 +1,10 @@
--- `chunk_grid::numbering_test` meets its contract. Assumes nothing.
+-- `shapes::numbering_test` meets its contract. Assumes nothing.
 use mathlib.Core.Path.{sym}
 use native.Mathlib.Omega.{arith}
 use lib.Seq.{length-take-le}
 use borrow.Author.Needs.{needs}
-use Rattle.chunk_grid.proofs.numbering_test.Statement.{statement}
-use Rattle.chunk_grid.proofs.numbering_test.Tie as tie
+use Rattle.shapes.proofs.numbering_test.Statement.{statement}
+use Rattle.shapes.proofs.numbering_test.Tie as tie
 
 slice-aggregate-number : tie.Need-slice-aggregate-number
 slice-aggregate-number c = sym (length-take-le _ _ (omega arith))
