@@ -45,6 +45,6 @@ returns c =
 pub counts-of-spec : {M : Type 1} → statement M
 counts-of-spec =
     tie.close
-    (tie.spec Inv-loop μ-loop (λ c. search needs) (search needs) (search needs) (search needs) (search needs)
-    count-of-requires (search needs) (search needs) (search needs) (search needs) ceil-div-requires
-    (search needs) (search needs) (search needs) (search needs) loop-again (search needs) (search needs) returns)
+    (tie.spec Inv-loop μ-loop (λ c. search needs) (λ c. omega arith) (λ c. omega arith) (λ c. omega arith) (λ c. omega arith)
+    count-of-requires (λ c. omega arith) (λ c. omega arith) (λ c. omega arith) (λ c. omega arith) ceil-div-requires
+    (λ c. omega arith) (λ c. omega arith) (λ c. omega arith) (λ c. omega arith) loop-again (λ c. omega arith) (λ c. omega arith) returns)
