@@ -6,7 +6,8 @@ use lib.Dec.{eqb}
 use Rattle.chunk_grid.specs.declared.GridOrder.{GridOrder}
 use Rattle.chunk_grid.specs.declared.GridOrder.the-variants.{RowMajor, UnlimitedFirst}
 use Rattle.chunk_grid.specs.Grid.{Grid}
-use Rattle.chunk_grid.specs.Shapes.{given, shapeOf}
+use Rattle.chunk_grid.specs.Shapes.{given}
+use Rattle.shapes.specs.Shapes.{shapeOf}
 
 -- The file, the sizes of its offsets and lengths, the address of the index's header, the bytes of one element of the
 -- dataset, and the grid of the dataset's shapes.

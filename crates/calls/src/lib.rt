@@ -6,10 +6,10 @@ ghost use Rattle.calls.specs.Call.{orderOf, gridGiven};
 ghost use Rattle.calls.specs.Answer.{picked};
 ghost use Rattle.calls.specs.Values.{refusedAnswer, countedAnswer};
 use chunk_grid::Built;
-use chunk_grid::ChunkGrid;
 use chunk_grid::GridOrder;
 use refusal::Counted;
 use refusal::Refusal;
+use shapes::grid_from_bytes;
 
 // The numbers that the calls name which list and look up chunks: count, address, size, mask.
 pub const CHUNK_NAMES: u64 = 4;
@@ -37,7 +37,7 @@ pub fn read_grid(
         (r .checked ≡ gridTest grid) × (gridOf (r .grid) ≡ whereTested (r .checked) grid)) ⌝ }
 {
     let order = grid_order(order);
-    ChunkGrid::from_bytes(rank, chunk, present, has_maximum != 0, maximum, order)
+    grid_from_bytes(rank, chunk, present, has_maximum != 0, maximum, order)
 }
 
 // The number of an answer that is asked for by its place; where there is none, the first.

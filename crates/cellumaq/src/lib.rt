@@ -8,7 +8,7 @@ ghost use lib.ListN.{length};
 ghost use Rattle.refusal.specs.Outcome.{accepted};
 ghost use Rattle.checksum.specs.Lookup3.{lookup3};
 ghost use Rattle.chunk_grid.specs.Grid.{isChunk};
-ghost use Rattle.chunk_grid.specs.Shapes.{shapeOf};
+ghost use Rattle.shapes.specs.Shapes.{shapeOf};
 ghost use Rattle.index.specs.Index.{Rec};
 ghost use Rattle.index.specs.ExactList.{ExactList, Answers, Agrees};
 ghost use Rattle.records.specs.Records.{recordLength, listContent, recordsIn};

@@ -7,21 +7,36 @@ use native.Mathlib.Decide.{ℕ-discrete}
 use native.Mathlib.Nat.{mul-comm, pos-of-ne-zero, div-add-mod', mod-lt, mul-le-mul-left}
 use native.Mathlib.Numerals.{add-one}
 use native.Mathlib.Omega.{arith}
-use borrow.Author.Tests.{eq-eqb, ne-eqb, lt-ltb, le-ltb}
+use borrow.Author.Tests.{eq-eqb, ne-eqb, eqb-false, lt-ltb, le-ltb}
 use lib.Arith.{digits-div}
 use lib.Dec.{eqb, ltb, leb·suc-suc}
-use lib.ListN.{length, getD, drop, set, length-set, drop-of-length-le}
-use lib.Seq.{drop-cons, drop-drop, getD-set-same, getD-set-other, ext-getD}
+use lib.ListN.{length, getD, take, drop, set, length-set, drop-of-length-le}
+use lib.Seq.{drop-cons, drop-drop, take-all, getD-set-same, getD-set-other, ext-getD}
 use Rattle.refusal.specs.declared.Refusal.{Refusal}
 use Rattle.refusal.specs.declared.Checked.the-variants.{Passed, Refused}
 use Rattle.refusal.specs.Refusals.{largest64, refuse, _then_}
-use Rattle.chunk_grid.specs.Grid.{any, ceilDiv, firstUnlimited, leadingIn, toFront, multiplier, multipliers, hasZero, shapesTest, multiplierTest, productTest}
+use Rattle.chunk_grid.specs.Grid.{pairwise, any, ceilDiv, firstUnlimited, leadingIn, toFront, multiplier, multipliers, hasZero, shapesTest, multiplierTest, productTest}
 use Rattle.chunk_grid.specs.Shapes.{given}
 use Rattle.chunk_grid.specs.Values.{placeOf}
 use Rattle.chunk_grid.specs.declared.GridOrder.{GridOrder}
-use Rattle.chunk_grid.proofs.Order.{front-nil}
-use Rattle.chunk_grid.proofs.Members.{multiplier-at}
+use Rattle.chunk_grid.proofs.Order.{front-nil, length-pairwise}
+use Rattle.chunk_grid.proofs.Members.{take-more, getD-pairwise, any-at, multiplier-at}
 use Rattle.chunk_grid.proofs.Grids.{length-multipliers}
+
+-- lists of one length, of which the first i members are combined
+module _ (f : ℕ → ℕ → ℕ) (l m out : List ℕ) (i : ℕ) (same : length l ≡ length m) (size : length out ≡ length m) (stored : take i out ≡ take i (pairwise f l m)) where
+  pub paired-more : i < length m → (v : ℕ) → v ≡ f (getD l i 0) (getD m i 0) → take (i + 1) (set out i v) ≡ take (i + 1) (pairwise f l m)
+  paired-more h v is =
+      take-more (pairwise f l m) out i v stored (omega arith) (omega (arith, length-pairwise f l m same)) (is ∙ sym (getD-pairwise f l m i same (omega arith)))
+
+  pub paired-all : length m ≤ i → out ≡ pairwise f l m
+  paired-all h =
+      sym (take-all i out (omega arith)) ∙ stored ∙ take-all i (pairwise f l m) (omega (arith, length-pairwise f l m same))
+
+-- no member of such a list is 0
+pub none-zero : (l : List ℕ) (i : ℕ) → hasZero l ≡ false → i < length l → 0 < getD l i 0
+unfolding hasZero
+none-zero l i e h = pos-of-ne-zero (eqb-false (getD l i 0) 0 (any-at (λ (n : ℕ). eqb n 0) l i e h))
 
 -- rounding up
 pub ceil-exact : (a b : ℕ) → 0 < b → a % b ≡ 0 → a / b ≡ ceilDiv a b

@@ -4,7 +4,6 @@ pub mod Places
 pub mod Members
 pub mod Building
 pub mod Numbered
-pub mod Shapes
 pub mod Slots
 pub mod Worked
 pub mod Chunks

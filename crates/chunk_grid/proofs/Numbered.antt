@@ -7,7 +7,7 @@ use native.Mathlib.Omega.{arith}
 use borrow.Author.Tests.{le-ltb}
 use lib.ListN.{length, getD, take, drop}
 use lib.Seq.{length-take-le, take-all, take-at}
-use Rattle.refusal.proofs.Tests.{then-passed}
+use Rattle.refusal.proofs.Tests.{refused-passed, then-passed}
 use Rattle.refusal.specs.declared.Refusal.{Refusal}
 use Rattle.refusal.specs.declared.Checked.{Checked}
 use Rattle.refusal.specs.declared.Checked.the-variants.{Passed, Refused}
@@ -16,7 +16,7 @@ use Rattle.chunk_grid.specs.declared.ChunkGrid.{ChunkGrid}
 use Rattle.chunk_grid.specs.declared.GridOrder.{GridOrder}
 use Rattle.chunk_grid.specs.Grid.{Grid, pairwise, any, ceilDiv, countOf, counts, leadingIn, leading, toFront, ordered, multipliers, hasZero, numbersNothing, overflows, shapesTest, multiplierTest, productTest, gridTest}
 use Rattle.chunk_grid.specs.Shapes.{isUnlimitedFirst, given}
-use Rattle.chunk_grid.specs.Values.{gridOf, numberingTest, Made, Numbers, Counted, Extents}
+use Rattle.chunk_grid.specs.Values.{gridOf, numberingTest, Made, GridNumbers, GridCounts, Extents}
 use Rattle.chunk_grid.proofs.Grids.{shaped}
 use Rattle.chunk_grid.proofs.Building.{rank-over, shapes-agree}
 
@@ -34,6 +34,9 @@ none-over (a ∷ l) (suc n) h = rw (le-ltb largest64 a (h 0)) (none-over l n (λ
 pub refused-shapes : (g : Grid) (r : Refusal) → Refused r ≡ shapesTest g → Refused r ≡ gridTest g
 unfolding gridTest _then_
 refused-shapes g r e = rw (← e) refl
+
+pub refused-by : (g : Grid) (r : Refusal) (test : Checked) → test ≡ Refused r → test ≡ shapesTest g → Refused r ≡ gridTest g
+refused-by g r test e t = refused-shapes g r (sym e ∙ t)
 
 -- the arrays of shapes of one rank describe the grid of these shapes
 pub same-grid : (rank : ℕ) (chunk present maximum c p m : List ℕ) (has : Bool) (o : GridOrder) → Passed ≡ shapesTest (given rank chunk present has maximum o)
@@ -63,9 +66,14 @@ pub tests : (g : Grid) → shapesTest g ≡ Passed → gridTest g ≡ numberingT
 unfolding gridTest numberingTest ordered leading counts _then_
 tests g e = rw e refl
 
-pub zero-length : (b : Bool) (limits chunk : List ℕ) → hasZero chunk ≡ true → Refused (record { number = 6; first = 0; second = 0 }) ≡ numberingTest b limits chunk
+zero-length : (b : Bool) (limits chunk : List ℕ) → hasZero chunk ≡ true → Refused (record { number = 6; first = 0; second = 0 }) ≡ numberingTest b limits chunk
 unfolding numberingTest refuse _then_
 zero-length b limits chunk z = rw z refl
+
+pub zero-refused : (b : Bool) (limits present chunk counts bound down : List ℕ) (rotated : ℕ) (numbers : Bool) (checked : Checked) → hasZero chunk ≡ true
+    → checked ≡ Refused (record { number = 6; first = 0; second = 0 })
+    → (checked ≡ numberingTest b limits chunk) × (checked ≡ Passed → Made b limits present chunk rotated numbers counts bound down)
+zero-refused b limits present chunk counts bound down rotated numbers checked z e = (e ∙ zero-length b limits chunk z, λ p. absurd (refused-passed _ (sym e ∙ p)))
 
 -- each number from the one before, all from the counts
 module _ (b : Bool) (limits present chunk counts bound down : List ℕ) (rotated : ℕ) (numbers : Bool) (behind product checked : Checked)
@@ -91,7 +99,7 @@ module _ (b : Bool) (limits present chunk counts bound down : List ℕ) (rotated
 -- what is made of a grid, in arrays
 pub numbered : (g : Grid) (chunk counted bound down : List ℕ) (rotated : ℕ) (numbers : Bool) → gridTest g ≡ Passed → take (g .rank) chunk ≡ g .chunk → overflows (g .present) ≡ false
     → Made (g .unlimitedFirst) (limitsOf g) (g .present) (g .chunk) rotated numbers (take (g .rank) counted) (take (g .rank) bound) (take (g .rank) down)
-    → (Numbers (g .rank) rotated chunk down g) × (Counted (g .rank) counted g) × (Extents (g .rank) numbers bound g)
+    → (GridNumbers (g .rank) rotated chunk down g) × (GridCounts (g .rank) counted g) × (Extents (g .rank) numbers bound g)
 unfolding counts leading ordered numbersNothing
 numbered g chunk counted bound down rotated numbers t c fit m = (
   record { built = t; ranked = refl; leads = m .leads; chunks = c; downs = m .downs ∙ rw (m .leads) refl },
@@ -124,7 +132,7 @@ module _ (k : ChunkGrid) (small : k .rank ≤ 32) (sizes : (length (k .chunk) �
       → Made (isUnlimitedFirst (k .order)) (take (k .rank) (cond (k .«has_maximum») (k .maximum) (k .present))) (take (k .rank) (k .present)) (take (k .rank) (k .chunk)) rotated numbers a b d)
       → (checked ≡ gridTest (gridOf k))
       × (checked ≡ Passed
-      → (Numbers (k .rank) rotated (k .chunk) (d ++ z) (gridOf k)) × (Counted (k .rank) (a ++ x) (gridOf k)) × (Extents (k .rank) numbers (b ++ y) (gridOf k)))
+      → (GridNumbers (k .rank) rotated (k .chunk) (d ++ z) (gridOf k)) × (GridCounts (k .rank) (a ++ x) (gridOf k)) × (Extents (k .rank) numbers (b ++ y) (gridOf k)))
   unfolding gridOf given
   numbering-is a b d x y z rotated numbers checked la lb ld fit c m =
       let e : checked ≡ gridTest (gridOf k) = c ∙ rw (← limits-are) (sym (tests (gridOf k) shapes-pass)) in (

@@ -48,7 +48,7 @@ pub record Made (unlimitedFirst : Bool) (limits present chunk : List ℕ) (rotat
   pub downs : down ≡ multipliers (toFront rotated (pairwise countOf limits chunk))
 
 -- What is made of a built grid g once: the leading dimension, and the multipliers in the grid's order, beside the chunk's lengths.
-pub record Numbers (rank rotated : ℕ) (chunk down : List ℕ) (g : Grid) : Type 0 where
+pub record GridNumbers (rank rotated : ℕ) (chunk down : List ℕ) (g : Grid) : Type 0 where
   pub built : gridTest g ≡ Passed
   pub ranked : rank ≡ g .rank
   pub leads : rotated ≡ leading g
@@ -56,8 +56,8 @@ pub record Numbers (rank rotated : ℕ) (chunk down : List ℕ) (g : Grid) : Typ
   pub downs : take rank down ≡ multipliers (ordered g)
 
 -- And its counts.
-abbrev pub Counted : ℕ → List ℕ → Grid → Type 0
-Counted rank l g = take rank l ≡ counts g
+abbrev pub GridCounts : ℕ → List ℕ → Grid → Type 0
+GridCounts rank l g = take rank l ≡ counts g
 
 -- And for its present extents: whether it numbers anything, and how many chunks the extents reach into in each dimension.
 pub record Extents (rank : ℕ) (numbers : Bool) (bound : List ℕ) (g : Grid) : Type 0 where

@@ -1,17 +1,15 @@
 // The chunk grid: which slot of a chunk index is which chunk's.
 ghost use mathlib.Core.Path.{_≡_};
 ghost use mathlib.Core.Bool.{false, not, cond};
-ghost use Prim.Native.Nat.{_-_, _*_, _/_, _%_, _<_, _≤_, max};
+ghost use Prim.Native.Nat.{_-_, _<_, _≤_, max};
 ghost use lib.ListN.{length, take, drop};
-ghost use lib.Seq.{sets};
 ghost use Rattle.refusal.specs.declared.Checked.the-variants.{Passed, Refused};
 ghost use Rattle.refusal.specs.Refusals.{_then_};
-ghost use Rattle.chunk_grid.specs.declared.Offsets.the-variants.{Inside};
-ghost use Rattle.chunk_grid.specs.Grid.{pairwise, ceilDiv, countOf, firstUnlimited, leadingIn, toFront, multipliers, hasZero};
+ghost use Rattle.chunk_grid.specs.Grid.{pairwise, ceilDiv, countOf, leadingIn, toFront, multipliers, hasZero};
 ghost use Rattle.chunk_grid.specs.Grid.{shapesTest, multiplierTest, productTest, gridTest};
-ghost use Rattle.chunk_grid.specs.Shapes.{isUnlimitedFirst, given, shapeOf};
-ghost use Rattle.chunk_grid.specs.Values.{gridOf, whereTested, placeOf, dimAt, numberingTest, Made, Numbers, Counted, Extents};
-use fields::bytes::read_u64_le;
+ghost use Rattle.chunk_grid.specs.Shapes.{isUnlimitedFirst, given};
+ghost use Rattle.chunk_grid.specs.Values.{gridOf, whereTested, placeOf, dimAt, numberingTest, Made};
+ghost use Rattle.chunk_grid.specs.Values.{GridNumbers, GridCounts, Extents};
 use fields::convert::Exact;
 use fields::convert::checked_mul;
 use refusal::Checked;
@@ -31,12 +29,6 @@ pub struct ChunkGrid {
     pub has_maximum: bool,
     pub maximum: [u64; 32],
     pub order: GridOrder,
-}
-
-// A grid, where its test has passed; else one of rank 0.
-pub struct Built {
-    pub checked: Checked,
-    pub grid: ChunkGrid,
 }
 
 // What a grid's slots are numbered by, beside the lists of numbers that are lent: the dimension in front, and whether any slot is
@@ -59,6 +51,12 @@ pub enum Offsets {
     Refused(Refusal),
 }
 
+// A grid, where its test has passed; else one of rank 0.
+pub struct Built {
+    pub checked: Checked,
+    pub grid: ChunkGrid,
+}
+
 // The slot of a chunk.
 pub enum Slot {
     At(u64),
@@ -75,8 +73,12 @@ impl ChunkGrid {
         maximum: &[u64],
         order: GridOrder,
     ) -> Built
-        ensures checked { λ r. ⌜ r .checked ≡ gridTest (given rank (now (chunk .entry)) (now (present .entry)) «has_maximum» (now (maximum .entry)) order) ⌝ }
-        ensures grid { λ r. ⌜ gridOf (r .grid) ≡ whereTested (r .checked) (given rank (now (chunk .entry)) (now (present .entry)) «has_maximum» (now (maximum .entry)) order) ⌝ }
+        ensures checked { λ r. ⌜ r .checked
+            ≡ gridTest (given rank (now (chunk .entry)) (now (present .entry)) «has_maximum»
+            (now (maximum .entry)) order) ⌝ }
+        ensures grid { λ r. ⌜ gridOf (r .grid)
+            ≡ whereTested (r .checked) (given rank (now (chunk .entry)) (now (present .entry)) «has_maximum»
+            (now (maximum .entry)) order) ⌝ }
     {
         let shapes = shapes_test(rank, chunk, present, has_maximum, maximum);
         if let Checked::Refused(r) = shapes {
@@ -104,44 +106,15 @@ impl ChunkGrid {
         Built { checked, grid }
     }
 
-    // The same of shapes that are given as bytes.
-    pub fn from_bytes(
-        rank: u64,
-        chunk: &[u8],
-        present: &[u8],
-        has_maximum: bool,
-        maximum: &[u8],
-        order: GridOrder,
-    ) -> Built
-        ensures { λ r. ⌜ (let grid = given rank (shapeOf rank (now (chunk .entry))) (shapeOf rank (now (present .entry)))
-            «has_maximum» (shapeOf rank (now (maximum .entry))) order in
-            (r .checked ≡ gridTest grid) × (gridOf (r .grid) ≡ whereTested (r .checked) grid)) ⌝ }
-    {
-        if 32 < rank {
-            return refused_grid(Refusal::plain(Refusal::RANK));
-        }
-        let mut lengths = [0u64; 32];
-        let mut extents = [0u64; 32];
-        let mut limits = [0u64; 32];
-        let n = read_shape(&mut lengths, rank, chunk) as usize;
-        let p = read_shape(&mut extents, rank, present) as usize;
-        let m = read_shape(&mut limits, rank, maximum) as usize;
-        ChunkGrid::new(
-            rank,
-            &lengths[..n],
-            &extents[..p],
-            has_maximum,
-            &limits[..m],
-            order,
-        )
-    }
-
     // What the grid's slots are numbered by: for each dimension its count, and how many chunks its present extent reaches into; and the
     // multipliers, in the grid's order.
     pub fn numbering(self, counts: &mut [u64], bound: &mut [u64], down: &mut [u64]) -> Numbering
         requires { ⌜ (32 ≤ length (now counts)) × (32 ≤ length (now bound)) × (32 ≤ length (now down)) ⌝ }
         ensures checked { λ r. ⌜ r .checked ≡ gridTest (gridOf self) ⌝ }
-        ensures numbers { λ r. ⌜ (r .checked ≡ Passed → (Numbers (self .rank) (r .rotated) (self .chunk) (now (down .exit)) (gridOf self)) × (Counted (self .rank) (now (counts .exit)) (gridOf self)) × (Extents (self .rank) (r .numbers) (now (bound .exit)) (gridOf self))) ⌝ }
+        ensures numbers { λ r. ⌜ (r .checked ≡ Passed
+            → (GridNumbers (self .rank) (r .rotated) (self .chunk) (now (down .exit)) (gridOf self))
+            × (GridCounts (self .rank) (now (counts .exit)) (gridOf self))
+            × (Extents (self .rank) (r .numbers) (now (bound .exit)) (gridOf self))) ⌝ }
     {
         if 32 < self.rank {
             return refused_numbering(Refusal::RANK);
@@ -174,28 +147,6 @@ impl ChunkGrid {
     }
 }
 
-// Reads a shape or corner, 8 bytes a dimension, and answers its rank: another one where there aren't 8 * rank bytes.
-pub fn read_shape(shape: &mut [u64], rank: u64, bytes: &[u8]) -> u64
-    requires { ⌜ (rank ≤ 32) × (32 ≤ length (now shape)) ⌝ }
-    ensures { λ r. ⌜ (r ≡ length (shapeOf rank (now (bytes .entry)))) × (now (shape .exit) ≡ sets (now (shape .entry)) 0 (shapeOf rank (now (bytes .entry)))) ⌝ }
-{
-    let n = rank as usize;
-    if bytes.len() != 8 * n {
-        if n == 0 {
-            shape[0] = 0;
-            return 1;
-        }
-        return 0;
-    }
-    let mut i = 0;
-    // The first i numbers are read.
-    while i < n {
-        shape[i] = read_u64_le(bytes, 8 * i);
-        i += 1;
-    }
-    rank
-}
-
 // Refused with this number, which names no figures.
 pub fn refused(number: u64) -> Checked
     ensures { λ r. ⌜ r ≡ Refused (record { number = number; first = 0; second = 0 }) ⌝ }
@@ -203,7 +154,7 @@ pub fn refused(number: u64) -> Checked
     Checked::Refused(Refusal::plain(number))
 }
 
-fn refused_grid(r: Refusal) -> Built
+pub fn refused_grid(r: Refusal) -> Built
     ensures { λ b. ⌜ (b .checked ≡ Refused r) × (gridOf (b .grid) ≡ whereTested (Refused r) (gridOf (b .grid))) ⌝ }
 {
     let zeros = [0u64; 32];
@@ -239,50 +190,6 @@ fn and_then(first: Checked, second: Checked) -> Checked
         Checked::Passed => second,
         Checked::Refused(r) => Checked::Refused(r),
     }
-}
-
-// Tests the lengths of the shapes.
-fn shapes_test(
-    rank: u64,
-    chunk: &[u64],
-    present: &[u64],
-    has_maximum: bool,
-    maximum: &[u64],
-) -> Checked
-    ensures { λ r. ⌜ ((o : GridOrder) → r ≡ shapesTest (given rank (now (chunk .entry)) (now (present .entry)) «has_maximum» (now (maximum .entry)) o)) ⌝ }
-{
-    if 32 < rank {
-        return refused(Refusal::RANK);
-    }
-    if chunk.len() as u64 != rank {
-        return refused(Refusal::RANK);
-    }
-    if present.len() as u64 != rank {
-        return refused(Refusal::PRESENT_RANK);
-    }
-    if has_maximum {
-        if maximum.len() as u64 != rank {
-            return refused(Refusal::MAXIMUM_RANK);
-        }
-    }
-    Checked::Passed
-}
-
-// The numbers of s in an array, up to 32 of them.
-fn padded(s: &[u64]) -> [u64; 32]
-    ensures { λ r. ⌜ take (length (now (s .entry))) r ≡ take 32 (now (s .entry)) ⌝ }
-{
-    let mut r = [0u64; 32];
-    let mut i = 0;
-    // The first i members of r are those of s.
-    while i < 32 {
-        if s.len() <= i {
-            return r;
-        }
-        r[i] = s[i];
-        i += 1;
-    }
-    r
 }
 
 // The place of the first member of s that is `value`; the length of s where there is none.
@@ -328,8 +235,11 @@ fn count_of(extent: u64, length: u64) -> u64
 
 // Every dimension's chunk count, and how many chunks its present extent reaches into.
 fn counts_of(counts: &mut [u64], bound: &mut [u64], limits: &[u64], present: &[u64], chunk: &[u64])
-    requires { ⌜ (length (now counts) ≡ length (now chunk)) × (length (now bound) ≡ length (now chunk)) × (length (now limits) ≡ length (now chunk)) × (length (now present) ≡ length (now chunk)) × (hasZero (now chunk) ≡ false) ⌝ }
-    ensures { λ _. ⌜ (now (counts .exit) ≡ pairwise countOf (now (limits .entry)) (now (chunk .entry))) × (now (bound .exit) ≡ pairwise ceilDiv (now (present .entry)) (now (chunk .entry))) ⌝ }
+    requires { ⌜ (length (now counts) ≡ length (now chunk)) × (length (now bound) ≡ length (now chunk))
+        × (length (now limits) ≡ length (now chunk)) × (length (now present) ≡ length (now chunk))
+        × (hasZero (now chunk) ≡ false) ⌝ }
+    ensures { λ _. ⌜ (now (counts .exit) ≡ pairwise countOf (now (limits .entry)) (now (chunk .entry)))
+        × (now (bound .exit) ≡ pairwise ceilDiv (now (present .entry)) (now (chunk .entry))) ⌝ }
 {
     let mut i = 0;
     // The first i dimensions' numbers are stored.
@@ -341,13 +251,6 @@ fn counts_of(counts: &mut [u64], bound: &mut [u64], limits: &[u64], present: &[u
     }
 }
 
-// The first unlimited dimension; the rank where there is none.
-fn first_unlimited(counts: &[u64]) -> usize
-    ensures { λ r. ⌜ r ≡ firstUnlimited (now (counts .entry)) ⌝ }
-{
-    place_of(counts, u64::MAX)
-}
-
 // The dimension in front of the grid's order.
 fn leading(order: GridOrder, counts: &[u64]) -> usize
     ensures { λ r. ⌜ r ≡ leadingIn (isUnlimitedFirst order) (now (counts .entry)) ⌝ }
@@ -355,7 +258,7 @@ fn leading(order: GridOrder, counts: &[u64]) -> usize
     match order {
         GridOrder::RowMajor => 0,
         GridOrder::UnlimitedFirst => {
-            let u = first_unlimited(counts);
+            let u = place_of(counts, u64::MAX);
             if u < counts.len() { u } else { 0 }
         }
     }
@@ -371,7 +274,9 @@ fn at_least_one(n: u64) -> u64
 fn multipliers_of(down: &mut [u64], counts: &[u64], rotated: usize) -> Multipliers
     requires { ⌜ (length (now down) ≡ length (now counts)) × (rotated ≤ length (now counts) - 1) ⌝ }
     ensures checked { λ r. ⌜ r .checked ≡ multiplierTest (drop 1 (toFront rotated (now (counts .entry)))) ⌝ }
-    ensures made { λ r. ⌜ (r .checked ≡ Passed → (r .numbers ≡ not (hasZero (drop 1 (toFront rotated (now (counts .entry)))))) × (now (down .exit) ≡ multipliers (toFront rotated (now (counts .entry))))) ⌝ }
+    ensures made { λ r. ⌜ (r .checked ≡ Passed
+        → (r .numbers ≡ not (hasZero (drop 1 (toFront rotated (now (counts .entry))))))
+        × (now (down .exit) ≡ multipliers (toFront rotated (now (counts .entry))))) ⌝ }
 {
     let mut numbers = true;
     let mut i = counts.len();
@@ -438,9 +343,14 @@ fn number(
     chunk: &[u64],
     order: GridOrder,
 ) -> Numbering
-    requires { ⌜ (length (now counts) ≡ length (now chunk)) × (length (now bound) ≡ length (now chunk)) × (length (now down) ≡ length (now chunk)) × (length (now limits) ≡ length (now chunk)) × (length (now present) ≡ length (now chunk)) ⌝ }
-    ensures checked { λ r. ⌜ r .checked ≡ numberingTest (isUnlimitedFirst order) (now (limits .entry)) (now (chunk .entry)) ⌝ }
-    ensures numbers { λ r. ⌜ (r .checked ≡ Passed → Made (isUnlimitedFirst order) (now (limits .entry)) (now (present .entry)) (now (chunk .entry)) (r .rotated) (r .numbers) (now (counts .exit)) (now (bound .exit)) (now (down .exit))) ⌝ }
+    requires { ⌜ (length (now counts) ≡ length (now chunk)) × (length (now bound) ≡ length (now chunk))
+        × (length (now down) ≡ length (now chunk)) × (length (now limits) ≡ length (now chunk))
+        × (length (now present) ≡ length (now chunk)) ⌝ }
+    ensures checked { λ r. ⌜ r .checked
+        ≡ numberingTest (isUnlimitedFirst order) (now (limits .entry)) (now (chunk .entry)) ⌝ }
+    ensures numbers { λ r. ⌜ (r .checked ≡ Passed
+        → Made (isUnlimitedFirst order) (now (limits .entry)) (now (present .entry)) (now (chunk .entry)) (r .rotated)
+        (r .numbers) (now (counts .exit)) (now (bound .exit)) (now (down .exit))) ⌝ }
 {
     if has_zero(chunk) {
         return refused_numbering(Refusal::CHUNK_LENGTH);
@@ -457,9 +367,49 @@ fn number(
     }
 }
 
+// The dimension at place i of the grid's order: dimension `rotated` is in front, those before it are one place later.
+pub fn dim_at(i: usize, rotated: usize) -> usize
+    ensures { λ r. ⌜ r ≡ dimAt rotated i ⌝ }
+{
+    if i == 0 {
+        return rotated;
+    }
+    if i <= rotated { i - 1 } else { i }
+}
+
+// Tests the lengths of the shapes.
+fn shapes_test(
+    rank: u64,
+    chunk: &[u64],
+    present: &[u64],
+    has_maximum: bool,
+    maximum: &[u64],
+) -> Checked
+    ensures { λ r. ⌜ ((o : GridOrder)
+        → r ≡ shapesTest (given rank (now (chunk .entry)) (now (present .entry)) «has_maximum»
+        (now (maximum .entry)) o)) ⌝ }
+{
+    if 32 < rank {
+        return refused(Refusal::RANK);
+    }
+    if chunk.len() as u64 != rank {
+        return refused(Refusal::RANK);
+    }
+    if present.len() as u64 != rank {
+        return refused(Refusal::PRESENT_RANK);
+    }
+    if has_maximum {
+        if maximum.len() as u64 != rank {
+            return refused(Refusal::MAXIMUM_RANK);
+        }
+    }
+    Checked::Passed
+}
+
 // The tests of a grid whose shapes have one rank.
 fn numbering_test(limits: &[u64], present: &[u64], chunk: &[u64], order: GridOrder) -> Checked
-    requires { ⌜ (length (now limits) ≡ length (now chunk)) × (length (now present) ≡ length (now chunk)) × (length (now chunk) ≤ 32) ⌝ }
+    requires { ⌜ (length (now limits) ≡ length (now chunk)) × (length (now present) ≡ length (now chunk))
+        × (length (now chunk) ≤ 32) ⌝ }
     ensures { λ r. ⌜ r ≡ numberingTest (isUnlimitedFirst order) (now (limits .entry)) (now (chunk .entry)) ⌝ }
 {
     let mut counts = [0u64; 32];
@@ -478,12 +428,19 @@ fn numbering_test(limits: &[u64], present: &[u64], chunk: &[u64], order: GridOrd
     numbering.checked
 }
 
-// The dimension at place i of the grid's order: dimension `rotated` is in front, those before it are one place later.
-pub fn dim_at(i: usize, rotated: usize) -> usize
-    ensures { λ r. ⌜ r ≡ dimAt rotated i ⌝ }
+// The numbers of s in an array, up to 32 of them.
+fn padded(s: &[u64]) -> [u64; 32]
+    ensures { λ r. ⌜ take (length (now (s .entry))) r ≡ take 32 (now (s .entry)) ⌝ }
 {
-    if i == 0 {
-        return rotated;
+    let mut r = [0u64; 32];
+    let mut i = 0;
+    // The first i members of r are those of s.
+    while i < 32 {
+        if s.len() <= i {
+            return r;
+        }
+        r[i] = s[i];
+        i += 1;
     }
-    if i <= rotated { i - 1 } else { i }
+    r
 }

@@ -6,20 +6,21 @@ ghost use Prim.Native.Nat.{_≤_};
 ghost use lib.ListN.{length};
 ghost use Rattle.refusal.specs.declared.Checked.the-variants.{Passed};
 ghost use Rattle.chunk_grid.specs.Grid.{Grid, gridTest};
-ghost use Rattle.chunk_grid.specs.Values.{gridOf, Numbers, Counted, Extents};
+ghost use Rattle.chunk_grid.specs.Values.{gridOf, GridNumbers, GridCounts, Extents};
 use chunk_grid::Built;
 use chunk_grid::ChunkGrid;
 use chunk_grid::GridOrder;
 use chunk_grid::Numbering;
 use chunk_grid::Offsets;
 use chunk_grid::Slot;
-use chunk_grid::read_shape;
 use chunk_slots::corner_test;
 use chunk_slots::offsets_in_extent;
 use chunk_slots::slot_of;
 use libc::STDOUT_FILENO;
 use refusal::Checked;
 use refusal::Refusal;
+use shapes::grid_from_bytes;
+use shapes::read_shape;
 
 fn print_text(s: &[u8]) {
     io::write_all(STDOUT_FILENO, s);
@@ -87,7 +88,7 @@ fn print_slot(
     bound: &[u64; 32],
     down: &[u64; 32],
 )
-    requires { ⌜ ((g : Grid) × (Numbers rank (numbering .rotated) (now chunk) (now down) g) × (Extents rank (numbering .numbers) (now bound) g)) ⌝ }
+    requires { ⌜ ((g : Grid) × (GridNumbers rank (numbering .rotated) (now chunk) (now down) g) × (Extents rank (numbering .numbers) (now bound) g)) ⌝ }
 {
     print_text(b"  slot");
     print_number(slot);
@@ -124,7 +125,7 @@ fn print_slots(
     bound: &[u64; 32],
     down: &[u64; 32],
 )
-    requires { ⌜ ((g : Grid) × (Numbers rank (numbering .rotated) (now chunk) (now down) g) × (Extents rank (numbering .numbers) (now bound) g)) ⌝ }
+    requires { ⌜ ((g : Grid) × (GridNumbers rank (numbering .rotated) (now chunk) (now down) g) × (Extents rank (numbering .numbers) (now bound) g)) ⌝ }
 {
     let mut s = from;
     // The slots before s are printed.
@@ -142,7 +143,7 @@ fn print_corner(
     counts: &[u64; 32],
     down: &[u64; 32],
 )
-    requires { ⌜ (gridTest (gridOf grid) ≡ Passed) × (Numbers (grid .rank) (numbering .rotated) (grid .chunk) (now down) (gridOf grid)) × (Counted (grid .rank) (now counts) (gridOf grid)) ⌝ }
+    requires { ⌜ (gridTest (gridOf grid) ≡ Passed) × (GridNumbers (grid .rank) (numbering .rotated) (grid .chunk) (now down) (gridOf grid)) × (GridCounts (grid .rank) (now counts) (gridOf grid)) ⌝ }
 {
     print_text(b"  corner");
     print_numbers(corner);
@@ -220,7 +221,7 @@ fn print_bytes(
     let p = bytes_of(&mut extents, present);
     let m = bytes_of(&mut limits, maximum);
     let k = bytes_of(&mut place, corner);
-    let built = ChunkGrid::from_bytes(
+    let built = grid_from_bytes(
         rank,
         &lengths[..c],
         &extents[..p],

@@ -18,7 +18,7 @@ use Rattle.chunk_grid.specs.declared.Slot.{Slot}
 use Rattle.chunk_grid.specs.declared.Slot.the-variants.{At, NoSlot}
 use Rattle.chunk_grid.specs.Grid.{Grid, pairwise, every, toFront, ordered, multipliers, hasZero, below, aligned, isChunk, cornerTest, total, slotFrom, slotOf, gridTest}
 use Rattle.chunk_grid.specs.Shapes.{given}
-use Rattle.chunk_grid.specs.Values.{gridOf, dimAt, Numbers, Counted}
+use Rattle.chunk_grid.specs.Values.{gridOf, dimAt, GridNumbers, GridCounts}
 use Rattle.refusal.proofs.Tests.{lt-or-ge}
 use Rattle.chunk_grid.proofs.Grids.{Chunk, is-chunk, accepted}
 use Rattle.chunk_grid.proofs.Order.{length-front, length-pairwise}
@@ -167,7 +167,7 @@ abbrev pub cornerQuotients : ℕ → List ℕ → List ℕ → List ℕ
 cornerQuotients u corner chunk = pairwise _/_ (toFront u corner) (inOrder (length corner) u chunk)
 
 -- For a built grid with its numbers.
-module _ (g : Grid) (corner : List ℕ) (u : ℕ) (chunk counts down : List ℕ) (n : Numbers (length corner) u chunk down g) (k : Counted (length corner) counts g) where
+module _ (g : Grid) (corner : List ℕ) (u : ℕ) (chunk counts down : List ℕ) (n : GridNumbers (length corner) u chunk down g) (k : GridCounts (length corner) counts g) where
   pub counts-room : length corner ≤ length counts
   counts-room = omega (arith, sym (length-take (length corner) counts) ∙ ap length k ∙ accepted g (n .built) .counted, n .ranked)
 

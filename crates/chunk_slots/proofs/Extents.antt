@@ -15,7 +15,7 @@ use Rattle.refusal.specs.Refusals.{largest64, refuse, _then_}
 use Rattle.chunk_grid.specs.declared.Offsets.{Offsets}
 use Rattle.chunk_grid.specs.declared.Offsets.the-variants.{Inside, Dropped, Refused as OffsetsRefused}
 use Rattle.chunk_grid.specs.Grid.{Grid, pairwise, every, any, ceilDiv, leading, toFront, ordered, multipliers, hasZero, numbersNothing, quotients, offsets, overflows, below, offsetsTest, insideOr, inExtent}
-use Rattle.chunk_grid.specs.Values.{dimAt, Numbers, Extents}
+use Rattle.chunk_grid.specs.Values.{dimAt, GridNumbers, Extents}
 use Rattle.chunk_slots.specs.Values.{shown, handed}
 use Rattle.refusal.proofs.Tests.{lt-or-ge, neither}
 use Rattle.chunk_grid.proofs.Order.{front-back, length-front, length-pairwise, pairwise-front, every-front, any-front}
@@ -126,7 +126,7 @@ picked true inside = refl
 picked false inside = refl
 
 -- For a built grid with its numbers.
-module _ (g : Grid) (rank u : ℕ) (chunk down : List ℕ) (n : Numbers rank u chunk down g) where
+module _ (g : Grid) (rank u : ℕ) (chunk down : List ℕ) (n : GridNumbers rank u chunk down g) where
   b : Accepted g
   b = accepted g (n .built)
 

@@ -17,7 +17,7 @@ use Rattle.refusal.specs.Refusals.{largest64}
 use Rattle.refusal.proofs.Tests.{false-true, both, lt-or-ge}
 use Rattle.chunk_grid.specs.declared.Offsets.the-variants.{Inside}
 use Rattle.chunk_grid.specs.Grid.{Grid, pairwise, every, leading, toFront, fromFront, ordered, multiplier, multipliers, quotients, offsets, below, inExtent}
-use Rattle.chunk_grid.specs.Values.{dimAt, Numbers, Extents}
+use Rattle.chunk_grid.specs.Values.{dimAt, GridNumbers, Extents}
 use Rattle.chunk_slots.specs.Lines.{InLine}
 use Rattle.chunk_grid.proofs.Order.{length-back}
 use Rattle.chunk_grid.proofs.Grids.{Accepted, accepted, lead, length-ordered, quotients-chunk, length-products, length-offsets}
@@ -133,7 +133,7 @@ back-set u l i v k h =
         getD-set-other l i j v 0 n ∙ sym (getD-set-other (fromFront u l) (dimAt u i) (dimAt u j) v 0 (λ q. n (dim-inj u j i q)) ∙ back-at u j l k lt)
 
 -- For a built grid with its numbers, and a slot in the present extents.
-module _ (g : Grid) (rank u : ℕ) (chunk down : List ℕ) (n : Numbers rank u chunk down g) (numbers : Bool) (bound : List ℕ) (x : Extents rank numbers bound g)
+module _ (g : Grid) (rank u : ℕ) (chunk down : List ℕ) (n : GridNumbers rank u chunk down g) (numbers : Bool) (bound : List ℕ) (x : Extents rank numbers bound g)
     (slot : ℕ) (h : inExtent g slot ≡ Inside) {slots rest i : ℕ} (l : Lining slot rank down slots rest i) where
   b : Accepted g
   b = accepted g (n .built)

@@ -14,7 +14,7 @@ use lib.Seq.{drop-cons, getD-take}
 use Rattle.refusal.proofs.Tests.{both, false-true}
 use Rattle.chunk_grid.specs.declared.Offsets.the-variants.{Inside}
 use Rattle.chunk_grid.specs.Grid.{Grid, every, ceilDiv, ordered, multiplier, multipliers, quotients, offsets, below, numbersNothing, inExtent}
-use Rattle.chunk_grid.specs.Values.{dimAt, Numbers, Extents}
+use Rattle.chunk_grid.specs.Values.{dimAt, GridNumbers, Extents}
 use Rattle.chunk_slots.specs.Reach.{allBelow, allInside}
 use Rattle.chunk_grid.proofs.Grids.{multiplier-pos}
 use Rattle.chunk_grid.proofs.Places.{inOrder, length-order, order-at}
@@ -72,7 +72,7 @@ module _ {n rank u : ℕ} {bound down : List ℕ} {rests i : ℕ} (a : Asking n 
     }
 
 -- For a built grid with its numbers.
-module _ (g : Grid) (rank u : ℕ) (chunk down : List ℕ) (n : Numbers rank u chunk down g) (numbers : Bool) (bound : List ℕ) (x : Extents rank numbers bound g) (k : ℕ) where
+module _ (g : Grid) (rank u : ℕ) (chunk down : List ℕ) (n : GridNumbers rank u chunk down g) (numbers : Bool) (bound : List ℕ) (x : Extents rank numbers bound g) (k : ℕ) where
   pub asked : numbers ≡ true → allBelow k (take rank down) (inOrder rank u bound) ≡ allInside g k
   unfolding allInside
   asked e = rw (← x .numbering, e, n .downs, bound-are g rank u chunk down n numbers bound x k) refl

@@ -9,7 +9,7 @@ ghost use Rattle.refusal.specs.declared.Checked.the-variants.{Passed};
 ghost use Rattle.refusal.specs.Refusals.{largest64};
 ghost use Rattle.chunk_grid.specs.declared.Offsets.the-variants.{Inside};
 ghost use Rattle.chunk_grid.specs.Grid.{Grid, inExtent, cornerTest, slotOf, gridTest};
-ghost use Rattle.chunk_grid.specs.Values.{gridOf, Numbers, Counted, Extents};
+ghost use Rattle.chunk_grid.specs.Values.{gridOf, GridNumbers, GridCounts, Extents};
 ghost use Rattle.chunk_slots.specs.Values.{handed};
 ghost use Rattle.chunk_slots.specs.Reach.{allInside};
 ghost use Rattle.chunk_slots.specs.Lines.{InLine};
@@ -103,8 +103,10 @@ pub fn offsets_in_extent(
     bound: &[u64; 32],
     down: &[u64; 32],
 ) -> Offsets
-    requires { ⌜ ((g : Grid) × (Numbers rank rotated (now chunk) (now down) g) × (Extents rank numbers (now bound) g)) ⌝ }
-    ensures { λ r. ⌜ ((g : Grid) → Numbers rank rotated (now (chunk .entry)) (now (down .entry)) g → Extents rank numbers (now (bound .entry)) g
+    requires { ⌜ ((g : Grid) × (GridNumbers rank rotated (now chunk) (now down) g)
+        × (Extents rank numbers (now bound) g)) ⌝ }
+    ensures { λ r. ⌜ ((g : Grid) → GridNumbers rank rotated (now (chunk .entry)) (now (down .entry)) g
+        → Extents rank numbers (now (bound .entry)) g
         → (r ≡ inExtent g slot) × (now (offsets .exit) ≡ handed g slot (now (offsets .entry)))) ⌝ }
 {
     if !numbers {
@@ -152,8 +154,10 @@ pub fn line_from(
     bound: &[u64; 32],
     down: &[u64; 32],
 ) -> Line
-    requires { ⌜ ((g : Grid) × (chunk : List ℕ) × (numbers : Bool) × (Numbers rank rotated chunk (now down) g) × (Extents rank numbers (now bound) g) × (inExtent g slot ≡ Inside)) ⌝ }
-    ensures { λ r. ⌜ ((g : Grid) (chunk : List ℕ) (numbers : Bool) → Numbers rank rotated chunk (now (down .entry)) g → Extents rank numbers (now (bound .entry)) g
+    requires { ⌜ ((g : Grid) × (chunk : List ℕ) × (numbers : Bool) × (GridNumbers rank rotated chunk (now down) g)
+        × (Extents rank numbers (now bound) g) × (inExtent g slot ≡ Inside)) ⌝ }
+    ensures { λ r. ⌜ ((g : Grid) (chunk : List ℕ) (numbers : Bool)
+        → GridNumbers rank rotated chunk (now (down .entry)) g → Extents rank numbers (now (bound .entry)) g
         → inExtent g slot ≡ Inside → InLine g chunk slot r) ⌝ }
 {
     let mut slots = u64::MAX;
@@ -192,8 +196,10 @@ pub fn all_inside(
     bound: &[u64; 32],
     down: &[u64; 32],
 ) -> bool
-    requires { ⌜ ((g : Grid) × (chunk : List ℕ) × (Numbers rank rotated chunk (now down) g) × (Extents rank numbers (now bound) g)) ⌝ }
-    ensures { λ r. ⌜ ((g : Grid) (chunk : List ℕ) → Numbers rank rotated chunk (now (down .entry)) g → Extents rank numbers (now (bound .entry)) g
+    requires { ⌜ ((g : Grid) × (chunk : List ℕ) × (GridNumbers rank rotated chunk (now down) g)
+        × (Extents rank numbers (now bound) g)) ⌝ }
+    ensures { λ r. ⌜ ((g : Grid) (chunk : List ℕ) → GridNumbers rank rotated chunk (now (down .entry)) g
+        → Extents rank numbers (now (bound .entry)) g
         → r ≡ allInside g n) ⌝ }
 {
     if !numbers {
@@ -222,8 +228,11 @@ pub fn slot_of(
     counts: &[u64; 32],
     down: &[u64; 32],
 ) -> Slot
-    requires { ⌜ ((g : Grid) × (Numbers (length (now corner)) rotated (now chunk) (now down) g) × (Counted (length (now corner)) (now counts) g)) ⌝ }
-    ensures { λ r. ⌜ ((g : Grid) → Numbers (length (now (corner .entry))) rotated (now (chunk .entry)) (now (down .entry)) g → Counted (length (now (corner .entry))) (now (counts .entry)) g
+    requires { ⌜ ((g : Grid) × (GridNumbers (length (now corner)) rotated (now chunk) (now down) g)
+        × (GridCounts (length (now corner)) (now counts) g)) ⌝ }
+    ensures { λ r. ⌜ ((g : Grid)
+        → GridNumbers (length (now (corner .entry))) rotated (now (chunk .entry)) (now (down .entry)) g
+        → GridCounts (length (now (corner .entry))) (now (counts .entry)) g
         → r ≡ slotOf g (now (corner .entry))) ⌝ }
 {
     let mut slot = 0u64;

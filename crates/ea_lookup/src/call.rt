@@ -2,7 +2,7 @@
 // answer.
 ghost use mathlib.Core.Path.{_≡_};
 ghost use Prim.Native.Nat.{ℕ};
-ghost use Rattle.chunk_grid.specs.Shapes.{shapeOf};
+ghost use Rattle.shapes.specs.Shapes.{shapeOf};
 ghost use Rattle.calls.specs.Call.{gridGiven, callOf};
 ghost use Rattle.calls.specs.Answer.{picked};
 ghost use Rattle.ea_calls.specs.Call.{callIndex, listAt};
@@ -15,10 +15,10 @@ use calls::CHUNK_NAMES;
 use calls::pick;
 use calls::read_grid;
 use calls::refused_number;
-use chunk_grid::read_shape;
 use ea_calls::read_call;
 use elements::Found;
 use refusal::Checked;
+use shapes::read_shape;
 
 // Reads the header at an address, the shapes of a dataset and a corner, and looks up the chunk at the corner.
 pub fn lookup_at(

@@ -9,11 +9,11 @@ use Rattle.io.proofs.Counting.{counts}
 use Rattle.refusal.specs.declared.Counted.{Counted}
 use Rattle.refusal.specs.Outcome.{countedOf}
 use Rattle.records.specs.Records.{listContent}
-use Rattle.eals.specs.Line.{fileOf, questionOf, storedOf}
-use Rattle.eals.specs.Printed.{Put, unreadableText}
-use Rattle.eals.specs.Program.{listingOf, countedText, parsedText, programText}
-use Rattle.eals.specs.declared.line.Question.{Question}
-use Rattle.eals.specs.declared.line.Parsed.the-variants.{Asked, Unreadable}
+use Rattle.questions.specs.Line.{fileOf, questionOf, storedOf}
+use Rattle.list_text.specs.Printed.{Put}
+use Rattle.eals.specs.Program.{listingOf, countedText, unreadableText, parsedText, programText}
+use Rattle.questions.specs.declared.Question.{Question}
+use Rattle.questions.specs.declared.Parsed.the-variants.{Asked, Unreadable}
 
 module _ (input numbers list : List ℕ) where
   -- a question is answered

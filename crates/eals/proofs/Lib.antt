@@ -1,9 +1,2 @@
-pub mod Words
-pub mod Numbers
-pub mod Questions
-pub mod Inputs
-pub mod Digits
-pub mod Puts
-pub mod Lines
 pub mod Bounds
 pub mod Answers

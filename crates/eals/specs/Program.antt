@@ -1,6 +1,6 @@
 -- The program: what it prints of an input.
 use Prim.Native.Nat.{ℕ, _+_, _*_, _/_}
-use mathlib.Core.List.{List}
+use mathlib.Core.List.{List, [], _∷_}
 use lib.ListN.{length, take, drop}
 use Rattle.refusal.specs.declared.Counted.{Counted}
 use Rattle.refusal.specs.declared.Counted.the-variants.{Count, Refused}
@@ -8,12 +8,12 @@ use Rattle.index.specs.Index.{Listing}
 use Rattle.refusal.specs.Outcome.{countedOf}
 use Rattle.calls.specs.Call.{gridGiven, callOf}
 use Rattle.ea_calls.specs.Call.{listAt}
-use Rattle.eals.specs.Line.{fileOf, questionOf, storedOf}
+use Rattle.questions.specs.Line.{fileOf, questionOf, storedOf}
 use Rattle.records.specs.Records.{recordLength, listContent, recordsIn}
-use Rattle.eals.specs.Printed.{listText, refusalText, unreadableText}
-use Rattle.eals.specs.declared.line.Question.{Question}
-use Rattle.eals.specs.declared.line.Parsed.{Parsed}
-use Rattle.eals.specs.declared.line.Parsed.the-variants.{Asked, Unreadable}
+use Rattle.list_text.specs.Printed.{listText, refusalText}
+use Rattle.questions.specs.declared.Question.{Question}
+use Rattle.questions.specs.declared.Parsed.{Parsed}
+use Rattle.questions.specs.declared.Parsed.the-variants.{Asked, Unreadable}
 
 -- Behind the line's first six numbers stand the chunk's, the present and the maximum lengths, 8 bytes each.
 unfoldable pub shapeAt : ℕ → ℕ → List ℕ → List ℕ
@@ -35,6 +35,10 @@ countedText rank (Refused r) list = refusalText r
 unfoldable pub countOf : Counted → ℕ
 countOf (Count n) = n
 countOf (Refused r) = 0
+
+-- For a line of another form, or too long a file, `unreadable` is printed.
+abbrev pub unreadableText : List ℕ
+unreadableText = 117 ∷ 110 ∷ 114 ∷ 101 ∷ 97 ∷ 100 ∷ 97 ∷ 98 ∷ 108 ∷ 101 ∷ 10 ∷ []
 
 -- what a line comes to, with the numbers that are stored of it
 unfoldable pub parsedText : Parsed → List ℕ → List ℕ → List ℕ → List ℕ

@@ -6,16 +6,16 @@ ghost use Rattle.io.specs.Counts.{Counts};
 ghost use Rattle.refusal.specs.Outcome.{countedOf};
 ghost use Rattle.records.specs.Records.{recordLength};
 ghost use Rattle.records.specs.Records.{listContent};
-ghost use Rattle.eals.specs.Printed.{Put};
+ghost use Rattle.list_text.specs.Printed.{Put};
 ghost use Rattle.eals.specs.Program.{listingOf, countedText, countOf, programText};
-use crate::line::Parsed;
-use crate::line::Question;
-use crate::line::file_of;
-use crate::line::parse;
-use crate::print::put_list;
-use crate::print::put_refusal;
-use crate::print::put_text;
 use ea_list::call::list_at;
+use list_text::put_list;
+use list_text::put_refusal;
+use list_text::put_text;
+use questions::Parsed;
+use questions::Question;
+use questions::file_of;
+use questions::parse;
 use refusal::Counted;
 
 // Lists the chunks that a question asks for.

@@ -10,7 +10,7 @@ use Rattle.refusal.specs.Outcome.{Outcome, refused, accepted}
 use Rattle.chunk_grid.specs.declared.Offsets.{Offsets}
 use Rattle.chunk_grid.specs.declared.Offsets.the-variants.{Inside, Dropped, Refused as OffsetsRefused}
 use Rattle.chunk_grid.specs.Grid.{Grid}
-use Rattle.chunk_grid.specs.Values.{Numbers, Extents}
+use Rattle.chunk_grid.specs.Values.{GridNumbers, Extents}
 use Rattle.index.specs.Index.{Rec}
 use Rattle.elements.specs.declared.Found.{Found}
 use Rattle.elements.specs.declared.Found.the-variants.{Absent, Chunk, Refused as FoundRefused}
@@ -42,5 +42,5 @@ elementsOf file r grid n = record { file = file; form = r .form; grid = grid; el
 -- The reader and the arrays of its numbering are made of this grid and element size.
 pub record Reads (r : ElementReader) (chunk bound down : List ℕ) (grid : Grid) (n : ℕ) : Type 0 where
   pub chunked : r .«chunk_bytes» ≡ figure (chunkBytes grid n)
-  pub numbered : Numbers (r .rank) (r .rotated) chunk down grid
+  pub numbered : GridNumbers (r .rank) (r .rotated) chunk down grid
   pub extended : Extents (r .rank) (r .numbers) bound grid

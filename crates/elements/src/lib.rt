@@ -5,7 +5,7 @@ ghost use Prim.Native.Nat.{ℕ, _*_, _≤_};
 ghost use lib.ListN.{length, take};
 ghost use Rattle.refusal.specs.Refusals.{figure};
 ghost use Rattle.chunk_grid.specs.Grid.{Grid, inExtent};
-ghost use Rattle.chunk_grid.specs.Values.{Numbers, Extents};
+ghost use Rattle.chunk_grid.specs.Values.{GridNumbers, Extents};
 ghost use Rattle.chunk_slots.specs.Values.{handed};
 ghost use Rattle.elements.specs.Elements.{product};
 ghost use Rattle.elements.specs.Values.{Reads};
@@ -48,9 +48,9 @@ impl ElementReader {
         numbering: Numbering,
         element_bytes: u64,
     ) -> ElementReader
-        requires { ⌜ ((grid : Grid) × (down : List ℕ) × Numbers rank (numbering .rotated) (now chunk) down grid) ⌝ }
+        requires { ⌜ ((grid : Grid) × (down : List ℕ) × GridNumbers rank (numbering .rotated) (now chunk) down grid) ⌝ }
         ensures { λ r. ⌜ (r .form ≡ form) × (r .count ≡ count)
-            × ((grid : Grid) (bound down : List ℕ) → Numbers rank (numbering .rotated) (now (chunk .entry)) down grid
+            × ((grid : Grid) (bound down : List ℕ) → GridNumbers rank (numbering .rotated) (now (chunk .entry)) down grid
             → Extents rank (numbering .numbers) bound grid → Reads r (now (chunk .entry)) bound down grid «element_bytes») ⌝ }
     {
         ElementReader {

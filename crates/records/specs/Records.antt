@@ -5,7 +5,7 @@ use lib.ListN.{drop}
 use lib.Seq.{sets}
 use Rattle.refusal.specs.Outcome.{refused, accepted}
 use Rattle.fields.specs.LittleEndian.{leAt, leBytes}
-use Rattle.chunk_grid.specs.Shapes.{numbersIn}
+use Rattle.shapes.specs.Shapes.{numbersIn}
 use Rattle.index.specs.Index.{Rec, Listing}
 
 -- A record has 16 + 8 × rank bytes: ..

@@ -35,7 +35,9 @@ pub fn put_record(
     offset: u64,
 )
     requires { ⌜ (rank ≤ 32) × (rank ≤ length (now offsets)) × (at + recordLength rank ≤ length (now out)) ⌝ }
-    ensures { λ _. ⌜ now (out .exit) ≡ sets (now (out .entry)) at (recordBytes (record { entry = entry; corner = set (take rank (now (offsets .entry))) dim offset })) ⌝ }
+    ensures { λ _. ⌜ now (out .exit)
+        ≡ sets (now (out .entry)) at
+        (recordBytes (record { entry = entry; corner = set (take rank (now (offsets .entry))) dim offset })) ⌝ }
 {
     put_le(out, at, 8, entry.address);
     put_le(out, at + 8, 4, entry.size as u64);
@@ -46,7 +48,8 @@ pub fn put_record(
 // Writes these offsets from `at` on.
 fn put_offsets(out: &mut [u8], at: usize, rank: usize, offsets: &[u64; 32], dim: usize, offset: u64)
     requires { ⌜ (rank ≤ 32) × (rank ≤ length (now offsets)) × (at + 8 * rank ≤ length (now out)) ⌝ }
-    ensures { λ _. ⌜ now (out .exit) ≡ sets (now (out .entry)) at (offsetBytes (set (take rank (now (offsets .entry))) dim offset)) ⌝ }
+    ensures { λ _. ⌜ now (out .exit)
+        ≡ sets (now (out .entry)) at (offsetBytes (set (take rank (now (offsets .entry))) dim offset)) ⌝ }
 {
     let mut i = 0;
     // The first i offsets are written.
@@ -70,12 +73,15 @@ fn write_line(
     line: Line,
     chunk: &[u64; 32],
 ) -> usize
-    requires { ⌜ ((grid : Grid) × (m : ℕ) × (s : ℕ) × (l : List Rec) × ReadsLine reader (now offsets) line (now chunk) grid m s
+    requires { ⌜ ((grid : Grid) × (m : ℕ) × (s : ℕ) × (l : List Rec)
+        × ReadsLine reader (now offsets) line (now chunk) grid m s
         × (elementsFrom (elementsOf (now file) reader grid m) pos n s (accepted []) ≡ accepted l)
         × (at + length (listBytes l) ≤ length (now out)) × (s + n ≤ reader .count))
         × (n ≤ line .slots) × (pos + n * stride (reader .form) ≤ length (now file)) ⌝ }
-    ensures { λ r. ⌜ ((grid : Grid) (m s : ℕ) (l : List Rec) → ReadsLine reader (now (offsets .entry)) line (now (chunk .entry)) grid m s
-        → elementsFrom (elementsOf (now (file .entry)) reader grid m) pos n s (accepted []) ≡ accepted l → s + n ≤ reader .count
+    ensures { λ r. ⌜ ((grid : Grid) (m s : ℕ) (l : List Rec)
+        → ReadsLine reader (now (offsets .entry)) line (now (chunk .entry)) grid m s
+        → elementsFrom (elementsOf (now (file .entry)) reader grid m) pos n s (accepted []) ≡ accepted l
+        → s + n ≤ reader .count
         → (now (out .exit) ≡ sets (now (out .entry)) at (listBytes l)) × (r ≡ at + length (listBytes l))) ⌝ }
 {
     let stride = reader.form.stride() as usize;
@@ -117,7 +123,8 @@ pub fn write_elements(
         × (elementsFrom (elementsOf (now file) reader grid m) pos n slot (accepted []) ≡ accepted l)
         × (at + length (listBytes l) ≤ length (now out)))
         × (pos + n * stride (reader .form) ≤ length (now file)) ⌝ }
-    ensures { λ r. ⌜ ((grid : Grid) (m : ℕ) (l : List Rec) → Reads reader (now (chunk .entry)) (now (bound .entry)) (now (down .entry)) grid m
+    ensures { λ r. ⌜ ((grid : Grid) (m : ℕ) (l : List Rec)
+        → Reads reader (now (chunk .entry)) (now (bound .entry)) (now (down .entry)) grid m
         → elementsFrom (elementsOf (now (file .entry)) reader grid m) pos n slot (accepted []) ≡ accepted l
         → (now (out .exit) ≡ sets (now (out .entry)) at (listBytes l)) × (r ≡ at + length (listBytes l))) ⌝ }
 {

@@ -1,17 +1,11 @@
 -- `chunk_grid::counts_of` meets its contract. Assumes nothing.
-use mathlib.Core.Path.{_≡_, sym, _∙_}
+use mathlib.Core.Path.{_≡_, _∙_}
 use native.Mathlib.Omega.{arith}
 use borrow.Author.Needs.{needs}
-use Prim.Native.Nat.{ℕ, _-_, _≤_}
-use lib.ListN.{length, take}
-use lib.ListN.{length-set}
-use lib.Seq.{take-all}
-use lib.Dec.{eqb}
-use native.Mathlib.Nat.{pos-of-ne-zero}
-use borrow.Author.Tests.{eqb-false}
-use Rattle.chunk_grid.specs.Grid.{pairwise, ceilDiv, countOf, hasZero}
-use Rattle.chunk_grid.proofs.Members.{take-more, getD-pairwise, any-at}
-use Rattle.chunk_grid.proofs.Order.{length-pairwise}
+use Prim.Native.Nat.{_-_, _≤_}
+use lib.ListN.{length, take, length-set}
+use Rattle.chunk_grid.specs.Grid.{pairwise, ceilDiv, countOf}
+use Rattle.chunk_grid.proofs.Building.{paired-more, paired-all, none-zero}
 use Rattle.chunk_grid.proofs.counts_of.Statement.{statement}
 use Rattle.chunk_grid.proofs.counts_of.Tie as tie
 
@@ -24,10 +18,7 @@ abbrev μ-loop : tie.MeasureT-loop
     length chunk - i
 
 count-of-requires : tie.Need-count-of-requires Inv-loop μ-loop
-unfolding hasZero
-count-of-requires c κs =
-    let a = c .before .before .before .before .before .before .before .before .before in
-    pos-of-ne-zero (eqb-false _ 0 (any-at (λ (n : ℕ). eqb n 0) (a .args .chunk .now) _ (a .pre .4) (c .before .before .loop-test .taken)))
+count-of-requires c κs = none-zero _ _ (c .before .before .before .before .before .before .before .before .before .pre .4) (c .before .before .loop-test .taken)
 
 ceil-div-requires : tie.Need-ceil-div-requires Inv-loop μ-loop
 ceil-div-requires c κs = count-of-requires (c .before .before) κs
@@ -35,31 +26,25 @@ ceil-div-requires c κs = count-of-requires (c .before .before) κs
 loop-again : tie.Need-loop-again Inv-loop μ-loop
 loop-again c =
     let l = c .before .before .before .before .before .before .loop in
-    let s = c .before .before .before .before .before .before .before .before .before .before .before .before in
-    let x = s .args .limits .now in
-    let y = s .args .present .now in
-    let z = s .args .chunk .now in (
+    let h = c .before .before .before .before .before .loop-test .taken in
+    let p = c .before .before .before .before .before .before .before .before .before .before .before .before .pre in (
       omega arith,
       length-set (l .counts) (l .i) _ ∙ l .inv .1,
       length-set (l .bound) (l .i) _ ∙ l .inv .2,
-      take-more (pairwise countOf x z) (l .counts) (l .i) _ (l .inv .3) (omega arith) (omega (arith, length-pairwise countOf x z (s .pre .2))) (c .before .before .count-of .ensures ∙ sym (getD-pairwise countOf x z (l .i) (s .pre .2) (omega arith))),
-      take-more (pairwise ceilDiv y z) (l .bound) (l .i) _ (l .inv .4) (omega arith) (omega (arith, length-pairwise ceilDiv y z (s .pre .3))) (c .ceil-div .ensures ∙ sym (getD-pairwise ceilDiv y z (l .i) (s .pre .3) (omega arith))),
+      paired-more countOf _ _ _ _ (p .2) (l .inv .1) (l .inv .3) h _ (c .before .before .count-of .ensures),
+      paired-more ceilDiv _ _ _ _ (p .3) (l .inv .2) (l .inv .4) h _ (c .ceil-div .ensures),
     )
 
 returns : tie.Need-returns Inv-loop μ-loop
 returns c =
     let l = c .before .loop in
-    let s = c .before .before .before .before .before .before .before in
-    let x = s .args .limits .now in
-    let y = s .args .present .now in
-    let z = s .args .chunk .now in (
-      sym (take-all (l .i) (l .counts) (omega arith)) ∙ l .inv .3 ∙ take-all (l .i) (pairwise countOf x z) (omega (arith, length-pairwise countOf x z (s .pre .2))),
-      sym (take-all (l .i) (l .bound) (omega arith)) ∙ l .inv .4 ∙ take-all (l .i) (pairwise ceilDiv y z) (omega (arith, length-pairwise ceilDiv y z (s .pre .3))),
-    )
+    let h = c .loop-test .left in
+    let p = c .before .before .before .before .before .before .before .pre in
+    (paired-all countOf _ _ _ _ (p .2) (l .inv .1) (l .inv .3) h, paired-all ceilDiv _ _ _ _ (p .3) (l .inv .2) (l .inv .4) h)
 
 pub counts-of-spec : {M : Type 1} → statement M
 counts-of-spec =
     tie.close
-    (tie.spec Inv-loop μ-loop (λ c. search needs) (search needs) (search needs) (search needs) (search needs)
-    count-of-requires (search needs) (search needs) (search needs) (search needs) ceil-div-requires
-    (search needs) (search needs) (search needs) (search needs) loop-again (search needs) (search needs) returns)
+    (tie.spec Inv-loop μ-loop (λ c. search needs) (λ c. omega arith) (λ c. omega arith) (λ c. omega arith) (λ c. omega arith)
+    count-of-requires (λ c. omega arith) (λ c. omega arith) (λ c. omega arith) (λ c. omega arith) ceil-div-requires
+    (λ c. omega arith) (λ c. omega arith) (λ c. omega arith) (λ c. omega arith) loop-again (λ c. omega arith) (λ c. omega arith) returns)

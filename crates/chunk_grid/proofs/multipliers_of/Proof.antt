@@ -83,8 +83,8 @@ returns-4 c =
 pub multipliers-of-spec : {M : Type 1} → statement M
 multipliers-of-spec =
     tie.close
-    (tie.spec Inv-loop μ-loop returns (search needs) (search needs) (search needs) loop-holds (search needs)
-    (search needs) (λ c. omega (arith, within c)) (λ c. within (c .before)) (search needs) (search needs)
-    returns-2 (search needs) (search needs) (search needs) (search needs) (search needs) (search needs)
-    (search needs) (search needs) returns-3 (search needs) (search needs) (search needs) (search needs)
-    loop-again (search needs) returns-4)
+    (tie.spec Inv-loop μ-loop returns (λ c. omega arith) (λ c. omega arith) (λ c. omega arith) loop-holds (λ c. omega arith)
+    (λ c. omega arith) (λ c. omega (arith, within c)) (λ c. within (c .before)) (λ c. omega arith) (λ c. omega arith)
+    returns-2 (λ c. omega arith) (λ c. omega arith) (λ c. omega arith) (λ c. omega arith) (λ c. omega arith) (λ c. omega arith)
+    (λ c. omega arith) (λ c. omega arith) returns-3 (λ c. omega arith) (λ c. omega arith) (λ c. omega arith) (λ c. omega arith)
+    loop-again (λ c. omega arith) returns-4)

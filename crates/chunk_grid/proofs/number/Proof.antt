@@ -1,18 +1,15 @@
 -- `chunk_grid::number` meets its contract. Assumes nothing.
 use mathlib.Core.Path.{sym, ap, _∙_}
-use Rattle.refusal.proofs.Tests.{refused-passed}
 use Rattle.chunk_grid.proofs.Order.{length-pairwise}
 use Rattle.chunk_grid.proofs.Grids.{leading-le}
-use Rattle.chunk_grid.proofs.Numbered.{zero-length, made}
+use Rattle.chunk_grid.proofs.Numbered.{zero-refused, made}
 use lib.ListN.{length}
 use borrow.Author.Needs.{needs}
 use Rattle.chunk_grid.proofs.number.Statement.{statement}
 use Rattle.chunk_grid.proofs.number.Tie as tie
 
 returns : tie.Need-returns
-returns c =
-    let e = c .refused-numbering .ensures in
-    (e ∙ zero-length _ _ _ (sym (c .before .before .has-zero .ensures) ∙ c .before .if1 .taken), λ p. absurd (refused-passed _ (sym e ∙ p)))
+returns c = zero-refused _ _ _ _ _ _ _ _ _ _ (sym (c .before .before .has-zero .ensures) ∙ c .before .if1 .taken) (c .refused-numbering .ensures)
 
 counts-of-requires : tie.Need-counts-of-requires
 counts-of-requires c κs =

@@ -3,7 +3,7 @@ use Prim.Native.Nat.{_-_, _<_, _≤_}
 use native.Mathlib.Omega.{arith}
 use mathlib.Core.Path.{_≡_}
 use Rattle.chunk_grid.specs.Grid.{Grid, inExtent}
-use Rattle.chunk_grid.specs.Values.{Numbers, Extents}
+use Rattle.chunk_grid.specs.Values.{GridNumbers, Extents}
 use Rattle.chunk_slots.specs.Values.{handed}
 use borrow.Author.Needs.{needs}
 use borrow.Author.Tests.{not-true, not-false}
@@ -25,7 +25,7 @@ dim c = rw (c .dim-at .ensures) (dim-lt _ _ _ (omega (arith, leads _ _ _ _ _ (c 
 
 -- what all returns behind the loop have
 ended : (c : tie.After-loop Inv-loop μ-loop) (g : Grid)
-    → Numbers (c .before .before .before .args .rank) (c .before .before .before .args .rotated) (c .before .before .before .args .chunk .now) (c .before .before .before .args .down .now) g
+    → GridNumbers (c .before .before .before .args .rank) (c .before .before .before .args .rotated) (c .before .before .before .args .chunk .now) (c .before .before .before .args .down .now) g
     → Extents (c .before .before .before .args .rank) (c .before .before .before .args .numbers) (c .before .before .before .args .bound .now) g
     → (answered (c .before .loop .over) (c .before .loop .inside) ≡ inExtent g (c .before .before .before .args .slot))
     × (c .before .loop .offsets ≡ handed g (c .before .before .before .args .slot) (c .before .before .before .args .offsets .now))

@@ -9,7 +9,7 @@ use Rattle.refusal.specs.Refusals.{largest64}
 use Rattle.refusal.specs.Outcome.{countedOf}
 use Rattle.chunk_grid.specs.Grid.{gridTest}
 use Rattle.chunk_grid.specs.Shapes.{given}
-use Rattle.chunk_grid.specs.Values.{gridOf, Numbers, Extents}
+use Rattle.chunk_grid.specs.Values.{gridOf, GridNumbers, Extents}
 use Rattle.index.specs.Index.{Listing}
 use Rattle.elements.specs.Elements.{Elements}
 use Rattle.elements.specs.Values.{Reads}
@@ -50,7 +50,7 @@ numbered : (c : tie.After-enum-told)
     → let n = numbering c in
     let g = start n .args .grid in
     let r = n .numbering in
-    Numbers (g .rank) (r .result .rotated) (g .chunk) (r .last .1 .1 .1 .0) (gridOf g) × Extents (g .rank) (r .result .numbers) (r .last .1 .1 .0) (gridOf g)
+    GridNumbers (g .rank) (r .result .rotated) (g .chunk) (r .last .1 .1 .1 .0) (gridOf g) × Extents (g .rank) (r .result .numbers) (r .last .1 .1 .0) (gridOf g)
 numbered c = let x = numbering c .numbering .ensures .1 (c .enum-told .given .1) in (x .0, x .2)
 
 new-requires : tie.Need-new-requires

@@ -5,7 +5,7 @@ use lib.ListN.{length}
 use Rattle.refusal.specs.declared.Checked.the-variants.{Passed}
 use Rattle.refusal.specs.Refusals.{largest64}
 use Rattle.chunk_grid.specs.Grid.{gridTest}
-use Rattle.chunk_grid.specs.Values.{gridOf, Numbers, Counted, Extents}
+use Rattle.chunk_grid.specs.Values.{gridOf, GridNumbers, GridCounts, Extents}
 use Rattle.elements.specs.Elements.{Elements}
 use Rattle.elements.specs.Values.{Reads, foundOf}
 use Rattle.located.specs.Located.{slotPath}
@@ -57,8 +57,8 @@ numbered : (c : tie.After-enum-told)
     → let n = c .before .before .before .before .before .before in
     let g = start n .args .grid in
     let r = n .numbering in
-    Numbers (g .rank) (r .result .rotated) (g .chunk) (r .last .1 .1 .1 .0) (gridOf g)
-    × Counted (g .rank) (r .last .1 .0) (gridOf g) × Extents (g .rank) (r .result .numbers) (r .last .1 .1 .0) (gridOf g)
+    GridNumbers (g .rank) (r .result .rotated) (g .chunk) (r .last .1 .1 .1 .0) (gridOf g)
+    × GridCounts (g .rank) (r .last .1 .0) (gridOf g) × Extents (g .rank) (r .result .numbers) (r .last .1 .1 .0) (gridOf g)
 numbered c = let n = c .before .before .before .before .before .before in n .numbering .ensures .1 (n .numbering .ensures .0 ∙ tested c .0)
 
 -- the corner has the grid's rank
@@ -66,16 +66,16 @@ cornered : (c : tie.After-enum-told)
     → let n = c .before .before .before .before .before .before in
     let a = start n .args in
     let r = n .numbering in
-    Numbers (length (a .corner .now)) (r .result .rotated) (a .grid .chunk) (r .last .1 .1 .1 .0) (gridOf (a .grid))
-    × Counted (length (a .corner .now)) (r .last .1 .0) (gridOf (a .grid))
+    GridNumbers (length (a .corner .now)) (r .result .rotated) (a .grid .chunk) (r .last .1 .1 .1 .0) (gridOf (a .grid))
+    × GridCounts (length (a .corner .now)) (r .last .1 .0) (gridOf (a .grid))
 cornered c =
     let x = numbered c in
     let e = x .0 .ranked ∙ sym (tested c .1) in
     let n = c .before .before .before .before .before .before in
     let g = start n .args .grid in
     let r = n .numbering in (
-      subst (λ (n : ℕ). Numbers n (r .result .rotated) (g .chunk) (r .last .1 .1 .1 .0) (gridOf g)) e (x .0),
-      subst (λ (n : ℕ). Counted n (r .last .1 .0) (gridOf g)) e (x .1),
+      subst (λ (n : ℕ). GridNumbers n (r .result .rotated) (g .chunk) (r .last .1 .1 .1 .0) (gridOf g)) e (x .0),
+      subst (λ (n : ℕ). GridCounts n (r .last .1 .0) (gridOf g)) e (x .1),
     )
 
 slot-of-requires : tie.Need-slot-of-requires

@@ -9,7 +9,7 @@ use Rattle.refusal.specs.declared.Checked.the-variants.{Passed}
 use Rattle.chunk_grid.specs.Grid.{Grid, shapesTest, gridTest}
 use Rattle.chunk_grid.specs.Shapes.{isUnlimitedFirst, given}
 use Rattle.chunk_grid.specs.Values.{whereTested, numberingTest}
-use Rattle.chunk_grid.proofs.Numbered.{refused-shapes, given-lengths, tests-given, same-grid}
+use Rattle.chunk_grid.proofs.Numbered.{refused-by, given-lengths, tests-given, same-grid}
 use borrow.Author.Needs.{needs}
 use Rattle.chunk_grid.proofs.ChunkGrid.new.Statement.{statement}
 use Rattle.chunk_grid.proofs.ChunkGrid.new.Tie as tie
@@ -40,7 +40,7 @@ unfolding whereTested
 returns c =
     let e = c .refused-grid .ensures in
     let s = c .before .before .before .before .shapes-test .ensures in
-    (e .0 ∙ refused-shapes (asked (c .before .before .before .before .before .before .before .before)) _ (sym (c .before .before .shapes .given .1) ∙ s _), rw (e .0) (e .1))
+    (e .0 ∙ refused-by (asked (c .before .before .before .before .before .before .before .before)) _ _ (c .before .before .shapes .given .1) (s _), rw (e .0) (e .1))
 
 numbering-test-requires : tie.Need-numbering-test-requires
 numbering-test-requires c κs =

@@ -50,11 +50,11 @@ returns-2 c =
 pub numbering-spec : {M : Type 1} → statement M
 numbering-spec =
     tie.close
-    (tie.spec (search needs) returns (search needs) (search needs) (λ c. sym (length-take-le _ _ (omega arith)))
-    (search needs) (λ c. sym (length-take-le _ _ (omega arith))) (search needs)
-    (λ c. sym (length-take-le _ _ (omega arith))) (search needs) (λ c. sym (length-take-le _ _ (search needs)))
+    (tie.spec (λ c. omega arith) returns (λ c. omega arith) (λ c. omega arith) (λ c. sym (length-take-le _ _ (omega arith)))
+    (λ c. omega arith) (λ c. sym (length-take-le _ _ (omega arith))) (λ c. omega arith)
+    (λ c. sym (length-take-le _ _ (omega arith))) (λ c. omega arith) (λ c. sym (length-take-le _ _ (search needs)))
     (λ c. omega (arith, sizes (c .before .before .before .before .before .before .before)))
     (λ c. sym (length-take-le _ _ (omega (arith, sizes (c .before .before .before .before .before .before .before .before)))))
     (λ c. omega (arith, sizes (c .before .before .before .before .before .before .before .before)))
     (λ c. sym (length-take-le _ _ (omega (arith, sizes (c .before .before .before .before .before .before .before .before .before)))))
-    number-requires (search needs) (search needs) (search needs) returns-2)
+    number-requires (λ c. omega arith) (λ c. omega arith) (λ c. omega arith) returns-2)

@@ -5,7 +5,7 @@ use lib.Dec.{lit≤}
 use Rattle.refusal.proofs.Tests.{then-inv}
 use Rattle.chunk_grid.specs.Shapes.{given}
 use Rattle.chunk_grid.proofs.Grids.{accepted as grid-accepted}
-use Rattle.chunk_grid.proofs.Shapes.{BeginsWith, stored-shape}
+use Rattle.shapes.proofs.Shapes.{BeginsWith, stored-shape}
 use Rattle.calls.specs.Call.{gridGiven}
 use Rattle.ea_calls.proofs.Calls.{read-as}
 use Rattle.ea_lookup.proofs.Calls.{called-refused, called-passed}

@@ -1,11 +1,12 @@
 -- `eals::answer::answer` meets its contract. Assumes nothing.
 use mathlib.Core.Path.{_≡_, sym, _∙_}
 use native.Mathlib.Omega.{arith}
-use Rattle.eals.specs.Line.{questionOf}
-use Rattle.eals.specs.declared.line.Parsed.the-variants.{Asked}
-use Rattle.eals.proofs.Bounds.{rank-small, counted-room}
+use Rattle.questions.specs.Line.{questionOf}
+use Rattle.questions.specs.declared.Parsed.the-variants.{Asked}
+use Rattle.questions.proofs.Bounds.{rank-small}
+use Rattle.eals.proofs.Bounds.{counted-room}
 use Rattle.eals.proofs.Answers.{asked, unread, put-counts}
-use Rattle.eals.proofs.Puts.{put-as}
+use Rattle.list_text.proofs.Puts.{put-as}
 use borrow.Author.Needs.{needs}
 use Rattle.eals.proofs.answer.answer.Statement.{statement}
 use Rattle.eals.proofs.answer.answer.Tie as tie

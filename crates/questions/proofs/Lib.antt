@@ -1,0 +1,5 @@
+pub mod Words
+pub mod Numbers
+pub mod Questions
+pub mod Inputs
+pub mod Bounds
