@@ -7,6 +7,15 @@ ghost use lib.ListN.{length};
 ghost use Rattle.refusal.specs.declared.Checked.the-variants.{Passed};
 ghost use Rattle.chunk_grid.specs.Grid.{Grid, gridTest};
 ghost use Rattle.chunk_grid.specs.Values.{gridOf, GridNumbers, GridCounts, Extents};
+use check_lines::end_line;
+use check_lines::list;
+use check_lines::number;
+use check_lines::print_first;
+use check_lines::print_number;
+use check_lines::print_numbers;
+use check_lines::print_refusal;
+use check_lines::print_text;
+use check_lines::print_word;
 use chunk_grid::Built;
 use chunk_grid::ChunkGrid;
 use chunk_grid::GridOrder;
@@ -16,44 +25,10 @@ use chunk_grid::Slot;
 use chunk_slots::corner_test;
 use chunk_slots::offsets_in_extent;
 use chunk_slots::slot_of;
-use libc::STDOUT_FILENO;
 use refusal::Checked;
 use refusal::Refusal;
 use shapes::grid_from_bytes;
 use shapes::read_shape;
-
-fn print_text(s: &[u8]) {
-    io::write_all(STDOUT_FILENO, s);
-}
-
-fn print_number(n: u64) {
-    print_text(b" ");
-    io::print_decimal(STDOUT_FILENO, n);
-}
-
-fn print_numbers(s: &[u64]) {
-    let mut i = 0;
-    // The first i numbers are printed.
-    while i < s.len() {
-        print_number(s[i]);
-        i += 1;
-    }
-}
-
-// The first n numbers of an array.
-fn print_first(s: [u64; 32], n: u64) {
-    if n <= 32 {
-        let end = n as usize;
-        print_numbers(&s[..end]);
-    }
-}
-
-fn print_refusal(r: Refusal) {
-    print_text(b" refused");
-    print_number(r.number);
-    print_number(r.first);
-    print_number(r.second);
-}
 
 // A grid's numbers, in the grid's order where they are multipliers, in dimension order elsewhere.
 fn print_numbering(
@@ -63,8 +38,7 @@ fn print_numbering(
     bound: [u64; 32],
     down: [u64; 32],
 ) {
-    print_text(b" leads");
-    print_number(numbering.rotated);
+    print_word(b" leads ", numbering.rotated);
     if numbering.numbers {
         print_text(b" numbers");
     } else {
@@ -76,7 +50,7 @@ fn print_numbering(
     print_first(bound, rank);
     print_text(b" multipliers");
     print_first(down, rank);
-    print_text(b"\n");
+    end_line();
 }
 
 // What a slot's offsets come to, and the offsets.
@@ -90,8 +64,7 @@ fn print_slot(
 )
     requires { ⌜ ((g : Grid) × (GridNumbers rank (numbering .rotated) (now chunk) (now down) g) × (Extents rank (numbering .numbers) (now bound) g)) ⌝ }
 {
-    print_text(b"  slot");
-    print_number(slot);
+    print_word(b"  slot ", slot);
     print_text(b":");
     let places = rank as usize;
     let rotated = numbering.rotated as usize;
@@ -113,7 +86,7 @@ fn print_slot(
         Offsets::Refused(r) => print_refusal(r),
     }
     print_first(offsets, rank);
-    print_text(b"\n");
+    end_line();
 }
 
 fn print_slots(
@@ -168,7 +141,7 @@ fn print_built(built: Built, from: u64, to: u64, corner: &[u64]) {
     let checked = built.checked;
     if let Checked::Refused(r) = checked {
         print_refusal(r);
-        print_text(b"\n");
+        end_line();
         return;
     }
     let grid = built.grid;
@@ -185,7 +158,7 @@ fn print_built(built: Built, from: u64, to: u64, corner: &[u64]) {
     print_numbering(grid.rank, numbering, counts, bound, down);
     print_slots(from, to, grid.rank, numbering, &chunk, &bound, &down);
     print_corner(grid, corner, numbering, &counts, &down);
-    print_text(b"\n");
+    end_line();
 }
 
 // The numbers as bytes, at most as many as `out` has; how many they are.
@@ -242,71 +215,6 @@ fn print_shape(built: Built, shape: [u64; 32], n: u64) {
     if n <= 32 {
         let end = n as usize;
         print_built(built, 0, 0, &shape[..end]);
-    }
-}
-
-// A number, or a list's length, and where the input goes on.
-struct Item {
-    value: u64,
-    at: usize,
-}
-
-fn is_digit(b: u8) -> bool {
-    if b < b'0' { false } else { b <= b'9' }
-}
-
-fn digit(b: u8) -> u64
-    ensures { λ r. ⌜ r ≤ 9 ⌝ }
-{
-    (b % 16) as u64 % 10
-}
-
-// The number that begins at the first digit from `from` on; 0 where there is none, or one that 64 bits don't hold.
-fn number(s: &[u8], from: usize) -> Item {
-    let mut at = from;
-    // No digit lies between `from` and `at`.
-    while at < s.len() {
-        if is_digit(s[at]) {
-            break;
-        }
-        at += 1;
-    }
-    let mut value = 0u64;
-    // `value` is the number of the digits before `at`.
-    while at < s.len() {
-        if !is_digit(s[at]) {
-            break;
-        }
-        let d = digit(s[at]);
-        if value > (u64::MAX - d) / 10 {
-            return Item { value: 0, at };
-        }
-        value = value * 10 + d;
-        at += 1;
-    }
-    Item { value, at }
-}
-
-// A list of at most as many numbers as `out` has.
-fn list(out: &mut [u64], s: &[u8], from: usize) -> Item
-    ensures { λ r. ⌜ r .value ≤ length (now (out .entry)) ⌝ }
-{
-    let n = number(s, from);
-    let mut at = n.at;
-    let mut i = 0usize;
-    // The first i members are read, and the input goes on at `at`.
-    while i < out.len() {
-        if n.value <= i as u64 {
-            break;
-        }
-        let item = number(s, at);
-        out[i] = item.value;
-        at = item.at;
-        i += 1;
-    }
-    Item {
-        value: i as u64,
-        at,
     }
 }
 

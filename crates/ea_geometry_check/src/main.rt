@@ -2,6 +2,8 @@
 // elements, max bits and page exponent; then prints sizes, places and page bits of a worked array.
 ghost use mathlib.Core.Path.{_≡_};
 ghost use Rattle.ea_header.specs.Values.{Served};
+use check_lines::end_line;
+use check_lines::print_word;
 use ea_geometry::EaGeometry;
 use ea_geometry::Place;
 use ea_header::Parameters;
@@ -273,21 +275,12 @@ fn print_tally(inline: u8, minimum: u8, t: Tally) {
     end_line();
 }
 
-fn print_word(word: &[u8], n: u64) {
-    io::write_all(STDOUT_FILENO, word);
-    io::print_decimal(STDOUT_FILENO, n);
-}
-
 fn print_bit(set: bool) {
     if set {
         io::write_all(STDOUT_FILENO, b"1");
     } else {
         io::write_all(STDOUT_FILENO, b"0");
     }
-}
-
-fn end_line() {
-    io::write_all(STDOUT_FILENO, b"\n");
 }
 
 fn print_element(super_block: u64, block: u64, element: u64) {

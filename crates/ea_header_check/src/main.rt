@@ -1,20 +1,13 @@
 // Prints what parse answers: headers of each width, and each refusal with what goes before it; then which least block
 // elements are served, and the bytes of a header.
 ghost use Prim.Native.Nat.{_<_};
+use check_lines::end_line;
+use check_lines::print_word;
 use ea_header::ExtensibleArrayHeader;
 use ea_header::Parameters;
 use ea_header::Parsed;
 use libc::STDOUT_FILENO;
 use refusal::Refusal;
-
-fn print_word(word: &[u8], n: u64) {
-    io::write_all(STDOUT_FILENO, word);
-    io::print_decimal(STDOUT_FILENO, n);
-}
-
-fn end_line() {
-    io::write_all(STDOUT_FILENO, b"\n");
-}
 
 fn print_parameters(p: Parameters) {
     print_word(b"header ", p.client_id as u64);

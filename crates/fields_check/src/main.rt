@@ -1,5 +1,8 @@
 // Prints what the readers, the stores and the conversions answer at their limits: every width, one byte short, positions near
 // 2^64, all bits set at each width and one less.
+use check_lines::end_line;
+use check_lines::print_number;
+use check_lines::print_refusal;
 use fields::address::Address;
 use fields::address::is_undefined_addr;
 use fields::bytes::Field;
@@ -8,23 +11,6 @@ use fields::convert::Exact;
 use fields::convert::Narrowed;
 use libc::STDOUT_FILENO;
 use refusal::Checked;
-use refusal::Refusal;
-
-fn print_number(n: u64) {
-    io::write_all(STDOUT_FILENO, b" ");
-    io::print_decimal(STDOUT_FILENO, n);
-}
-
-fn print_line_end() {
-    io::write_all(STDOUT_FILENO, b"\n");
-}
-
-fn print_refusal(r: Refusal) {
-    io::write_all(STDOUT_FILENO, b" refused");
-    print_number(r.number);
-    print_number(r.first);
-    print_number(r.second);
-}
 
 fn print_field(f: Field) {
     match f {
@@ -57,7 +43,7 @@ fn print_readers(s: &[u8], pos: u64, width: u64) {
     print_field(fields::bytes::read_length(s, pos, width));
     io::write_all(STDOUT_FILENO, b",");
     print_field(fields::bytes::read_variable_length(s, pos, width));
-    print_line_end();
+    end_line();
 }
 
 // Whether `needed` bytes from pos on lie in s.
@@ -73,7 +59,7 @@ fn print_ensured(s: &[u8], pos: u64, needed: u64) {
         }
         Checked::Refused(r) => print_refusal(r),
     }
-    print_line_end();
+    end_line();
 }
 
 // Widths 0 to 9 at a position.
@@ -125,7 +111,7 @@ fn print_undefined(value: u64) {
         }
         width += 1;
     }
-    print_line_end();
+    end_line();
 }
 
 // A buffer with a number stored in it at widths 0 to 9, and the number that is read back.
@@ -141,7 +127,7 @@ fn print_stored(value: u64) {
         fields::bytes::put_le(&mut s, 2, width, value);
         print_bytes(&s);
         print_field(fields::bytes::read_variable_length(&s, 2, width as u64));
-        print_line_end();
+        end_line();
         width += 1;
     }
 }
@@ -174,7 +160,7 @@ fn print_sums(a: u64, b: u64) {
     print_number(fields::convert::saturating_add(a, b));
     print_exact(fields::convert::checked_mul(a, b));
     print_number(fields::convert::saturating_mul(a, b));
-    print_line_end();
+    end_line();
 }
 
 fn print_narrowed(value: u64) {
@@ -185,7 +171,7 @@ fn print_narrowed(value: u64) {
         Narrowed::Value(n) => print_number(n as u64),
         Narrowed::Refused(r) => print_refusal(r),
     }
-    print_line_end();
+    end_line();
 }
 
 fn print_reads() {

@@ -1,7 +1,6 @@
 -- `chunk_grid::multipliers_of` meets its contract: the loop has what `Behind` says. Assumes nothing.
 use mathlib.Core.Path.{_≡_, sym, ap, _∙_}
 use native.Mathlib.Omega.{arith}
-use borrow.Author.Needs.{needs}
 use Prim.Native.Nat.{ℕ, _-_, _<_, _≤_, max}
 use lib.ListN.{length, getD, length-set}
 use Rattle.fields.proofs.Numbers.{fits-is, overflows-is}

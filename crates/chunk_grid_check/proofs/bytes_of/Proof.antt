@@ -3,6 +3,7 @@ use Prim.Native.Nat.{_-_, _≤_}
 use mathlib.Core.Path.{_≡_}
 use lib.ListN.{length}
 use borrow.Author.Needs.{needs}
+use native.Mathlib.Omega.{arith}
 use Rattle.chunk_grid_check.proofs.bytes_of.Statement.{statement}
 use Rattle.chunk_grid_check.proofs.bytes_of.Tie as tie
 
@@ -10,6 +11,6 @@ pub bytes-of-spec : {M : Type 1} → statement M
 bytes-of-spec =
     tie.close
     (tie.spec (λ out₀ numbers i₀ out i. (i ≤ length out₀) × (length out ≡ length out₀))
-    (λ out₀ numbers i₀ out i. length out₀ - i) (search needs) (search needs) (search needs) (search needs)
-    (search needs) (search needs) (search needs) (search needs) (search needs) (λ c. search needs)
-    (search needs) (search needs))
+    (λ out₀ numbers i₀ out i. length out₀ - i) (λ c. omega arith) (λ c. omega arith) (λ c. omega arith) (λ c. omega arith)
+    (λ c. omega arith) (λ c. omega arith) (λ c. omega arith) (λ c. omega arith) (λ c. omega arith) (λ c. search needs)
+    (λ c. omega arith) (λ c. omega arith))

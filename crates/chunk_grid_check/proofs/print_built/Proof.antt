@@ -22,5 +22,4 @@ print-built-spec =
     tie.close
     (tie.spec (search needs) (search needs) (search needs) (search needs) (search needs) (search needs)
     (search needs) (search needs) (search needs) (search needs) (search needs) (search needs) (search needs)
-    (search needs) (search needs) print-slots-requires print-corner-requires (search needs) (search needs)
-    (search needs))
+    (search needs) print-slots-requires print-corner-requires (search needs) (search needs))

@@ -1,9 +1,9 @@
--- `chunk_grid_check::print_first` is safe and ends. Assumes nothing.
+-- `check_lines::print_first` is safe and ends. Assumes nothing.
 use mathlib.Core.Path.{sym}
 use lib.Seq.{length-take-le}
 use borrow.Author.Needs.{needs}
-use Rattle.chunk_grid_check.proofs.print_first.Statement.{statement}
-use Rattle.chunk_grid_check.proofs.print_first.Tie as tie
+use Rattle.check_lines.proofs.print_first.Statement.{statement}
+use Rattle.check_lines.proofs.print_first.Tie as tie
 
 pub print-first-spec : {M : Type 1} → statement M
 print-first-spec =
