@@ -62,7 +62,8 @@ fn print_slot(
     bound: &[u64; 32],
     down: &[u64; 32],
 )
-    requires { ⌜ ((g : Grid) × (GridNumbers rank (numbering .rotated) (now chunk) (now down) g) × (Extents rank (numbering .numbers) (now bound) g)) ⌝ }
+    requires { ⌜ ((g : Grid) × (GridNumbers rank (numbering .rotated) (now chunk) (now down) g)
+        × (Extents rank (numbering .numbers) (now bound) g)) ⌝ }
 {
     print_word(b"  slot ", slot);
     print_text(b":");
@@ -98,7 +99,8 @@ fn print_slots(
     bound: &[u64; 32],
     down: &[u64; 32],
 )
-    requires { ⌜ ((g : Grid) × (GridNumbers rank (numbering .rotated) (now chunk) (now down) g) × (Extents rank (numbering .numbers) (now bound) g)) ⌝ }
+    requires { ⌜ ((g : Grid) × (GridNumbers rank (numbering .rotated) (now chunk) (now down) g)
+        × (Extents rank (numbering .numbers) (now bound) g)) ⌝ }
 {
     let mut s = from;
     // The slots before s are printed.
@@ -116,7 +118,9 @@ fn print_corner(
     counts: &[u64; 32],
     down: &[u64; 32],
 )
-    requires { ⌜ (gridTest (gridOf grid) ≡ Passed) × (GridNumbers (grid .rank) (numbering .rotated) (grid .chunk) (now down) (gridOf grid)) × (GridCounts (grid .rank) (now counts) (gridOf grid)) ⌝ }
+    requires { ⌜ (gridTest (gridOf grid) ≡ Passed)
+        × (GridNumbers (grid .rank) (numbering .rotated) (grid .chunk) (now down) (gridOf grid))
+        × (GridCounts (grid .rank) (now counts) (gridOf grid)) ⌝ }
 {
     print_text(b"  corner");
     print_numbers(corner);

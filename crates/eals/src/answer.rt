@@ -21,8 +21,11 @@ use refusal::Counted;
 // Lists the chunks that a question asks for.
 fn list_chunks(list: &mut [u8], numbers: &[u8], file: &[u8], question: Question) -> Counted
     requires { ⌜ 48 + 24 * question .rank ≤ length (now numbers) ⌝ }
-    ensures { λ r. ⌜ r ≡ countedOf (listingOf question (now (numbers .entry)) (now (file .entry)) (length (now (list .entry)))) ⌝ }
-    ensures { λ _. ⌜ now (list .exit) ≡ listContent (listingOf question (now (numbers .entry)) (now (file .entry)) (length (now (list .entry)))) (now (list .entry)) ⌝ }
+    ensures { λ r. ⌜ r ≡ countedOf (listingOf question (now (numbers .entry)) (now (file .entry))
+        (length (now (list .entry)))) ⌝ }
+    ensures { λ _. ⌜ now (list .exit)
+        ≡ listContent (listingOf question (now (numbers .entry)) (now (file .entry)) (length (now (list .entry))))
+        (now (list .entry)) ⌝ }
 {
     let chunk_end = 48 + 8 * question.rank as usize;
     let present_end = 48 + 16 * question.rank as usize;
@@ -45,7 +48,8 @@ fn list_chunks(list: &mut [u8], numbers: &[u8], file: &[u8], question: Question)
 
 // Puts the text of an answer into out, and answers where it ends.
 fn put_counted(out: &mut [u8], list: &[u8], counted: Counted, rank: usize) -> usize
-    requires { ⌜ (countOf counted * recordLength rank ≤ length (now list)) × (length (now list) ≡ 65536) × (300000 ≤ length (now out)) ⌝ }
+    requires { ⌜ (countOf counted * recordLength rank ≤ length (now list)) × (length (now list) ≡ 65536)
+        × (300000 ≤ length (now out)) ⌝ }
     ensures { λ r. ⌜ Put (now (out .entry)) 0 (countedText rank counted (now (list .entry))) (now (out .exit)) r ⌝ }
     ensures { λ r. ⌜ r ≤ 300000 ⌝ }
 {
@@ -58,7 +62,8 @@ fn put_counted(out: &mut [u8], list: &[u8], counted: Counted, rank: usize) -> us
 // Puts what the program prints of an input into out, and answers where it ends.
 pub fn answer(out: &mut [u8], list: &mut [u8], numbers: &mut [u8], input: &[u8]) -> usize
     requires { ⌜ (length (now list) ≡ 65536) × (32768 ≤ length (now numbers)) × (300000 ≤ length (now out)) ⌝ }
-    ensures { λ r. ⌜ Put (now (out .entry)) 0 (programText (now (input .entry)) (now (numbers .entry)) (now (list .entry))) (now (out .exit)) r ⌝ }
+    ensures { λ r. ⌜ Put (now (out .entry)) 0
+        (programText (now (input .entry)) (now (numbers .entry)) (now (list .entry))) (now (out .exit)) r ⌝ }
     ensures { λ r. ⌜ Counts r (now (out .exit)) ⌝ }
 {
     match parse(numbers, input) {

@@ -42,7 +42,8 @@ fn put_spaced(out: &mut [u8], at: usize, n: u64) -> usize
 // The same of n numbers of 8 bytes each, which a list holds from `from` on, each behind a space.
 fn put_offsets(out: &mut [u8], at: usize, list: &[u8], from: usize, n: usize) -> usize
     requires { ⌜ (from + 8 * n ≤ length (now list)) × (at + 21 * n ≤ length (now out)) ⌝ }
-    ensures { λ r. ⌜ Put (now (out .entry)) at (spaced (numbersIn n (drop from (now (list .entry))))) (now (out .exit)) r ⌝ }
+    ensures { λ r. ⌜ Put (now (out .entry)) at (spaced (numbersIn n (drop from (now (list .entry)))))
+        (now (out .exit)) r ⌝ }
     ensures { λ r. ⌜ r ≤ at + 21 * n ⌝ }
 {
     let mut to = at;
@@ -58,7 +59,8 @@ fn put_offsets(out: &mut [u8], at: usize, list: &[u8], from: usize, n: usize) ->
 // The same of the line of the record that a list holds from `from` on.
 fn put_record(out: &mut [u8], at: usize, list: &[u8], from: usize, rank: usize) -> usize
     requires { ⌜ (from + recordLength rank ≤ length (now list)) × (at + 4 * recordLength rank ≤ length (now out)) ⌝ }
-    ensures { λ r. ⌜ Put (now (out .entry)) at (recordLine (recordIn rank (drop from (now (list .entry))))) (now (out .exit)) r ⌝ }
+    ensures { λ r. ⌜ Put (now (out .entry)) at (recordLine (recordIn rank (drop from (now (list .entry)))))
+        (now (out .exit)) r ⌝ }
     ensures { λ r. ⌜ r ≤ at + 4 * recordLength rank ⌝ }
 {
     let address = put_number(out, at, read_u64_le(list, from));
@@ -71,7 +73,8 @@ fn put_record(out: &mut [u8], at: usize, list: &[u8], from: usize, rank: usize) 
 // The lines of the first `count` records of a list.
 fn put_records(out: &mut [u8], list: &[u8], count: usize, rank: usize) -> usize
     requires { ⌜ (count * recordLength rank ≤ length (now list)) × (4 * length (now list) ≤ length (now out)) ⌝ }
-    ensures { λ r. ⌜ Put (now (out .entry)) 0 (recordLines (recordsIn rank count (now (list .entry)))) (now (out .exit)) r ⌝ }
+    ensures { λ r. ⌜ Put (now (out .entry)) 0 (recordLines (recordsIn rank count (now (list .entry))))
+        (now (out .exit)) r ⌝ }
     ensures { λ r. ⌜ r ≤ 4 * length (now (list .entry)) ⌝ }
 {
     let mut to = 0;
@@ -89,7 +92,8 @@ fn put_records(out: &mut [u8], list: &[u8], count: usize, rank: usize) -> usize
 // The text of a list of `count` records, from the start of out on; answers where it ends.
 pub fn put_list(out: &mut [u8], list: &[u8], count: usize, rank: usize) -> usize
     requires { ⌜ (count * recordLength rank ≤ length (now list)) × (4 * length (now list) + 29 ≤ length (now out)) ⌝ }
-    ensures { λ r. ⌜ Put (now (out .entry)) 0 (listText (recordsIn rank count (now (list .entry)))) (now (out .exit)) r ⌝ }
+    ensures { λ r. ⌜ Put (now (out .entry)) 0 (listText (recordsIn rank count (now (list .entry))))
+        (now (out .exit)) r ⌝ }
     ensures { λ r. ⌜ r ≤ 4 * length (now (list .entry)) + 29 ⌝ }
 {
     let lines = put_records(out, list, count, rank);
