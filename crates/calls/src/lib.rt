@@ -14,6 +14,18 @@ use shapes::grid_from_bytes;
 // The numbers that the calls name which list and look up chunks: count, address, size, mask.
 pub const CHUNK_NAMES: u64 = 4;
 
+// The numbers that a call is given beside its bytes: the sizes of offsets and lengths, the address of the index's header,
+// the bytes of one element, the grid's order and rank, and whether there are maximum extents (0: none).
+pub struct CallNumbers {
+    pub offset_size: u64,
+    pub length_size: u64,
+    pub address: u64,
+    pub element_bytes: u64,
+    pub order: u64,
+    pub rank: u64,
+    pub has_maximum: u64,
+}
+
 // The order that a number stands for.
 pub fn grid_order(order: u64) -> GridOrder
     ensures { λ r. ⌜ r ≡ orderOf order ⌝ }

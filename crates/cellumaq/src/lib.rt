@@ -17,6 +17,7 @@ ghost use Rattle.calls.specs.Answer.{answered, picked, listNumbers, chunkNames,
 ghost use Rattle.ea_calls.specs.Call.{callIndex, listAt};
 ghost use Rattle.ea_lookup.specs.Call.{lookupAt, foundNumbers};
 use calls::CHUNK_NAMES;
+use calls::CallNumbers;
 use calls::counted_number;
 use ea_list::call::list_at;
 use ea_lookup::call::found_number;
@@ -57,20 +58,16 @@ pub extern "C" fn cellumaq_list(
         × ((l : List Rec) → answer ≡ accepted l → 0 < rank
         → ExactList (callIndex call) (recordsIn rank (length l) (now (list .exit))) (length l))) ⌝ }
 {
-    let counted = list_at(
-        file,
+    let numbers = CallNumbers {
         offset_size,
         length_size,
         address,
         element_bytes,
         order,
         rank,
-        chunk,
-        present,
         has_maximum,
-        maximum,
-        list,
-    );
+    };
+    let counted = list_at(file, numbers, chunk, present, maximum, list);
     counted_number(which, counted, CHUNK_NAMES)
 }
 
@@ -102,19 +99,15 @@ pub extern "C" fn cellumaq_lookup(
         × ((room : ℕ) (l : List Rec) → 0 < rank → listAt call room ≡ accepted l → isChunk (call .grid) at ≡ true
         → (x : Option Rec) × (r ≡ picked which (answered chunkNames foundNumbers (accepted x))) × Agrees l at x)) ⌝ }
 {
-    let found = lookup_at(
-        file,
+    let numbers = CallNumbers {
         offset_size,
         length_size,
         address,
         element_bytes,
         order,
         rank,
-        chunk,
-        present,
         has_maximum,
-        maximum,
-        corner,
-    );
+    };
+    let found = lookup_at(file, numbers, chunk, present, maximum, corner);
     found_number(found, which)
 }

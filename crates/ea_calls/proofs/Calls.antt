@@ -10,7 +10,7 @@ use Rattle.refusal.proofs.Tests.{then-inv}
 use Rattle.refusal.proofs.Outcomes.{yields-passed, yields-stopped}
 use Rattle.refusal.proofs.Numbered.{Told, told-yields, told-room}
 use Rattle.checksum.specs.Lookup3.{lookup3}
-use Rattle.shapes.specs.declared.Built.{Built}
+use Rattle.chunk_grid.specs.declared.Built.{Built}
 use Rattle.chunk_grid.specs.declared.ChunkGrid.{ChunkGrid}
 use Rattle.chunk_grid.specs.Grid.{gridTest}
 use Rattle.chunk_grid.specs.Values.{gridOf, whereTested}

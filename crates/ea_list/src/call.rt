@@ -6,9 +6,10 @@ ghost use Rattle.refusal.specs.declared.Counted.the-variants.{Count};
 ghost use Rattle.refusal.specs.Outcome.{countedOf};
 ghost use Rattle.index.specs.ExactList.{ExactList};
 ghost use Rattle.records.specs.Records.{recordLength, listContent, recordsIn};
-ghost use Rattle.calls.specs.Call.{gridGiven, callOf};
+ghost use Rattle.calls.specs.Values.{callFrom};
 ghost use Rattle.ea_calls.specs.Call.{callIndex, listAt};
 use crate::read_extensible_array_chunks;
+use calls::CallNumbers;
 use calls::read_grid;
 use ea_calls::read_call;
 use refusal::Checked;
@@ -17,28 +18,34 @@ use refusal::Counted;
 // Reads the header at an address and the shapes of a dataset, and lists its chunks.
 pub fn list_at(
     file: &[u8],
-    offset_size: u64,
-    length_size: u64,
-    address: u64,
-    element_bytes: u64,
-    order: u64,
-    rank: u64,
+    numbers: CallNumbers,
     chunk: &[u8],
     present: &[u8],
-    has_maximum: u64,
     maximum: &[u8],
     list: &mut [u8],
 ) -> Counted
-    ensures { λ r. ⌜ (let grid = gridGiven order rank (now (chunk .entry)) (now (present .entry)) «has_maximum» (now (maximum .entry)) in
-        let call = callOf (now (file .entry)) «offset_size» «length_size» address «element_bytes» grid in
-        let answer = listAt call (length (now (list .entry)) / recordLength rank) in
+    ensures { λ r. ⌜ (let call = callFrom (now (file .entry)) numbers (now (chunk .entry)) (now (present .entry)) (now (maximum .entry)) in
+        let answer = listAt call (length (now (list .entry)) / recordLength (numbers .rank)) in
         (r ≡ countedOf answer)
         × (now (list .exit) ≡ listContent answer (now (list .entry)))
-        × ((n : ℕ) → r ≡ Count n → 0 < rank → ExactList (callIndex call) (recordsIn rank n (now (list .exit))) n)) ⌝ }
+        × ((n : ℕ) → r ≡ Count n → 0 < numbers .rank → ExactList (callIndex call) (recordsIn (numbers .rank) n (now (list .exit))) n)) ⌝ }
 {
-    let built = read_grid(order, rank, chunk, present, has_maximum, maximum);
+    let built = read_grid(
+        numbers.order,
+        numbers.rank,
+        chunk,
+        present,
+        numbers.has_maximum,
+        maximum,
+    );
     let tested = built.checked;
-    let read = read_call(file, offset_size, length_size, address, tested);
+    let read = read_call(
+        file,
+        numbers.offset_size,
+        numbers.length_size,
+        numbers.address,
+        tested,
+    );
     let checked = read.checked;
     if let Checked::Refused(r) = checked {
         return Counted::Refused(r);
@@ -47,8 +54,8 @@ pub fn list_at(
         file,
         read.header,
         built.grid,
-        element_bytes,
-        offset_size,
+        numbers.element_bytes,
+        numbers.offset_size,
         list,
     )
 }

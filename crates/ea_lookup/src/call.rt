@@ -3,7 +3,7 @@
 ghost use mathlib.Core.Path.{_≡_};
 ghost use Prim.Native.Nat.{ℕ};
 ghost use Rattle.shapes.specs.Shapes.{shapeOf};
-ghost use Rattle.calls.specs.Call.{gridGiven, callOf};
+ghost use Rattle.calls.specs.Values.{callFrom};
 ghost use Rattle.calls.specs.Answer.{picked};
 ghost use Rattle.ea_calls.specs.Call.{callIndex, listAt};
 ghost use Rattle.elements.specs.Values.{foundOf};
@@ -12,6 +12,7 @@ ghost use Rattle.ea_lookup.specs.Values.{foundAnswer};
 ghost use Rattle.ea_lookup.specs.Found.{Answered, Agreed};
 use crate::lookup_chunk;
 use calls::CHUNK_NAMES;
+use calls::CallNumbers;
 use calls::pick;
 use calls::read_grid;
 use calls::refused_number;
@@ -23,40 +24,46 @@ use shapes::read_shape;
 // Reads the header at an address, the shapes of a dataset and a corner, and looks up the chunk at the corner.
 pub fn lookup_at(
     file: &[u8],
-    offset_size: u64,
-    length_size: u64,
-    address: u64,
-    element_bytes: u64,
-    order: u64,
-    rank: u64,
+    numbers: CallNumbers,
     chunk: &[u8],
     present: &[u8],
-    has_maximum: u64,
     maximum: &[u8],
     corner: &[u8],
 ) -> Found
-    ensures { λ r. ⌜ (let grid = gridGiven order rank (now (chunk .entry)) (now (present .entry)) «has_maximum» (now (maximum .entry)) in
-        let call = callOf (now (file .entry)) «offset_size» «length_size» address «element_bytes» grid in
-        let at = shapeOf rank (now (corner .entry)) in
+    ensures { λ r. ⌜ (let call = callFrom (now (file .entry)) numbers (now (chunk .entry)) (now (present .entry)) (now (maximum .entry)) in
+        let at = shapeOf (numbers .rank) (now (corner .entry)) in
         (r ≡ foundOf (lookupAt call at))
         × Answered (lookupAt call at) (callIndex call) at r
         × ((room : ℕ) → Agreed (listAt call room) (call .grid) at r)) ⌝ }
 {
-    let built = read_grid(order, rank, chunk, present, has_maximum, maximum);
+    let built = read_grid(
+        numbers.order,
+        numbers.rank,
+        chunk,
+        present,
+        numbers.has_maximum,
+        maximum,
+    );
     let tested = built.checked;
-    let read = read_call(file, offset_size, length_size, address, tested);
+    let read = read_call(
+        file,
+        numbers.offset_size,
+        numbers.length_size,
+        numbers.address,
+        tested,
+    );
     let checked = read.checked;
     if let Checked::Refused(r) = checked {
         return Found::Refused(r);
     }
     let mut offsets = [0u64; 32];
-    let n = read_shape(&mut offsets, rank, corner) as usize;
+    let n = read_shape(&mut offsets, numbers.rank, corner) as usize;
     lookup_chunk(
         file,
         read.header,
         built.grid,
-        element_bytes,
-        offset_size,
+        numbers.element_bytes,
+        numbers.offset_size,
         &offsets[..n],
     )
 }

@@ -8,6 +8,7 @@ ghost use Rattle.records.specs.Records.{recordLength};
 ghost use Rattle.records.specs.Records.{listContent};
 ghost use Rattle.list_text.specs.Printed.{Put};
 ghost use Rattle.eals.specs.Program.{listingOf, countedText, countOf, programText};
+use calls::CallNumbers;
 use ea_list::call::list_at;
 use list_text::put_list;
 use list_text::put_refusal;
@@ -30,17 +31,20 @@ fn list_chunks(list: &mut [u8], numbers: &[u8], file: &[u8], question: Question)
     let chunk_end = 48 + 8 * question.rank as usize;
     let present_end = 48 + 16 * question.rank as usize;
     let maximum_end = 48 + 24 * question.rank as usize;
+    let asked = CallNumbers {
+        offset_size: question.offset_size,
+        length_size: question.length_size,
+        address: question.address,
+        element_bytes: question.element_bytes,
+        order: question.order,
+        rank: question.rank,
+        has_maximum: 1,
+    };
     list_at(
         file,
-        question.offset_size,
-        question.length_size,
-        question.address,
-        question.element_bytes,
-        question.order,
-        question.rank,
+        asked,
         &numbers[48..chunk_end],
         &numbers[chunk_end..present_end],
-        1,
         &numbers[present_end..maximum_end],
         list,
     )

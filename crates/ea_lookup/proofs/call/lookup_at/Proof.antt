@@ -23,7 +23,7 @@ returns c =
     let g = r .before .read-grid .ensures in
     called-refused _ _ _ _ (read-as _ _ _ (g .0) (g .1) (r .read-call .ensures .0) (r .read-call .ensures .1)) _ (c .before .checked .given .1)
 
-small : (c : tie.After-enum-told) → start (c .before .before) .args .rank ≤ 32
+small : (c : tie.After-enum-told) → start (c .before .before) .args .numbers .rank ≤ 32
 unfolding gridGiven given
 small c =
     let r = c .before .before in
@@ -36,7 +36,7 @@ read-shape-requires c κs = (small (c .before), lit≤ tt)
 -- the corner, as it is read again
 shape : (c : tie.After-read-shape)
     → let a = start (c .before .before .before .before) .args in
-    BeginsWith (a .rank) (a .corner .now) (c .read-shape .last .0) (c .read-shape .result)
+    BeginsWith (a .numbers .rank) (a .corner .now) (c .read-shape .last .0) (c .read-shape .result)
 shape c = stored-shape _ _ _ _ _ (small (c .before .before)) (lit≤ tt) (c .read-shape .ensures .0) (c .read-shape .ensures .1)
 
 returns-2 : tie.Need-returns-2
