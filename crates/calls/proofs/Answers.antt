@@ -7,7 +7,8 @@ use native.Mathlib.Omega.{arith}
 use lib.ListN.{length, getD, replicate, getD-replicate, length-replicate, List·getD-eq-default}
 use Rattle.refusal.specs.declared.Refusal.{Refusal}
 use Rattle.refusal.specs.declared.Counted.{Counted}
-use Rattle.refusal.specs.Outcome.{Outcome, refused, accepted, countedOf}
+use Rattle.refusal.specs.Outcome.{Outcome, refused, accepted}
+use Rattle.refusal.specs.Values.{countedOf}
 use Rattle.refusal.proofs.Numbered.{Told}
 use Rattle.calls.specs.Answer.{answered, picked, listNumbers, ZeroAccepts}
 use Rattle.calls.specs.Values.{refusedAnswer, countedAnswer}

@@ -5,8 +5,7 @@ use mathlib.Core.List.{List}
 use lib.Dec.{eqb}
 use Rattle.chunk_grid.specs.declared.GridOrder.{GridOrder}
 use Rattle.chunk_grid.specs.declared.GridOrder.the-variants.{RowMajor, UnlimitedFirst}
-use Rattle.chunk_grid.specs.Grid.{Grid}
-use Rattle.chunk_grid.specs.Shapes.{given}
+use Rattle.chunk_grid.specs.Grid.{Grid, given}
 use Rattle.shapes.specs.Shapes.{shapeOf}
 
 -- The file, the sizes of its offsets and lengths, the address of the index's header, the bytes of one element of the

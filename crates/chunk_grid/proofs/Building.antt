@@ -15,8 +15,7 @@ use lib.Seq.{drop-cons, drop-drop, take-all, getD-set-same, getD-set-other, ext-
 use Rattle.refusal.specs.declared.Refusal.{Refusal}
 use Rattle.refusal.specs.declared.Checked.the-variants.{Passed, Refused}
 use Rattle.refusal.specs.Refusals.{largest64, refuse, _then_}
-use Rattle.chunk_grid.specs.Grid.{pairwise, any, ceilDiv, firstUnlimited, leadingIn, toFront, multiplier, multipliers, hasZero, shapesTest, multiplierTest, productTest}
-use Rattle.chunk_grid.specs.Shapes.{given}
+use Rattle.chunk_grid.specs.Grid.{pairwise, any, ceilDiv, firstUnlimited, leadingIn, toFront, multiplier, multipliers, hasZero, shapesTest, multiplierTest, productTest, given}
 use Rattle.chunk_grid.specs.Values.{placeOf}
 use Rattle.chunk_grid.specs.declared.GridOrder.{GridOrder}
 use Rattle.chunk_grid.proofs.Order.{front-nil, length-pairwise}

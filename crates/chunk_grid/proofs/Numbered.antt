@@ -14,8 +14,7 @@ use Rattle.refusal.specs.declared.Checked.the-variants.{Passed, Refused}
 use Rattle.refusal.specs.Refusals.{largest64, refuse, _then_}
 use Rattle.chunk_grid.specs.declared.ChunkGrid.{ChunkGrid}
 use Rattle.chunk_grid.specs.declared.GridOrder.{GridOrder}
-use Rattle.chunk_grid.specs.Grid.{Grid, pairwise, any, ceilDiv, countOf, counts, leadingIn, leading, toFront, ordered, multipliers, hasZero, numbersNothing, overflows, shapesTest, multiplierTest, productTest, gridTest}
-use Rattle.chunk_grid.specs.Shapes.{isUnlimitedFirst, given}
+use Rattle.chunk_grid.specs.Grid.{Grid, pairwise, any, ceilDiv, countOf, counts, leadingIn, leading, toFront, ordered, multipliers, hasZero, numbersNothing, overflows, shapesTest, multiplierTest, productTest, gridTest, isUnlimitedFirst, given}
 use Rattle.chunk_grid.specs.Values.{gridOf, numberingTest, Made, GridNumbers, GridCounts, Extents}
 use Rattle.chunk_grid.proofs.Grids.{shaped}
 use Rattle.chunk_grid.proofs.Building.{rank-over, shapes-agree}

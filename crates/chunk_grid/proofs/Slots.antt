@@ -10,7 +10,8 @@ use Rattle.refusal.specs.declared.Checked.the-variants.{Passed}
 use Rattle.refusal.specs.Refusals.{largest64, refuse, _then_}
 use Rattle.chunk_grid.specs.declared.Offsets.the-variants.{Inside}
 use Rattle.chunk_grid.specs.declared.Slot.the-variants.{At}
-use Rattle.chunk_grid.specs.Grid.{Grid, every, any, numbersNothing, offsets, overflows, below, offsetsTest, insideOr, inExtent, isChunk, slotOf, gridTest}
+use Rattle.chunk_grid.specs.Grid.{Grid, every, any, numbersNothing, offsets, overflows, below, offsetsTest, isChunk, slotOf, gridTest}
+use Rattle.chunk_grid.specs.Values.{insideOr, inExtent}
 use Rattle.refusal.proofs.Tests.{false-true, both, neither}
 use Rattle.chunk_grid.proofs.Grids.{accepted, chunk-inv, slot-offsets, offsets-chunk, offsets-slot}
 

@@ -5,10 +5,10 @@ use mathlib.Core.List.{List, [], _∷_, _++_}
 use lib.Dec.{eqb, leb, ltb}
 use lib.ListN.{length, take, drop}
 use Rattle.refusal.specs.declared.Checked.{Checked}
-use Rattle.refusal.specs.declared.Checked.the-variants.{Passed, Refused}
+use Rattle.refusal.specs.declared.Checked.the-variants.{Passed}
 use Rattle.refusal.specs.Refusals.{largest64, refuse, _then_}
-use Rattle.chunk_grid.specs.declared.Offsets.{Offsets}
-use Rattle.chunk_grid.specs.declared.Offsets.the-variants.{Inside, Dropped, Refused as OffsetsRefused}
+use Rattle.chunk_grid.specs.declared.GridOrder.{GridOrder}
+use Rattle.chunk_grid.specs.declared.GridOrder.the-variants.{RowMajor, UnlimitedFirst}
 use Rattle.chunk_grid.specs.declared.Slot.{Slot}
 use Rattle.chunk_grid.specs.declared.Slot.the-variants.{At, NoSlot}
 
@@ -21,6 +21,16 @@ pub record Grid : Type 0 where
   pub hasMaximum : Bool
   pub maximum : List ℕ
   pub unlimitedFirst : Bool
+
+-- Order U is UnlimitedFirst, order R RowMajor.
+unfoldable pub isUnlimitedFirst : GridOrder → Bool
+isUnlimitedFirst RowMajor = false
+isUnlimitedFirst UnlimitedFirst = true
+
+-- the grid of these shapes, the chunk's, the present and the maximum one; a maximum that isn't given is no part of it
+unfoldable pub given : ℕ → List ℕ → List ℕ → Bool → List ℕ → GridOrder → Grid
+given rank c p has m o =
+    record { rank = rank; chunk = c; present = p; hasMaximum = has; maximum = cond has m []; unlimitedFirst = isUnlimitedFirst o }
 
 -- two lists, member by member
 unfoldable pub pairwise : (ℕ → ℕ → ℕ) → List ℕ → List ℕ → List ℕ
@@ -114,14 +124,6 @@ below l m = every ltb l m
 -- 32 grid numbers nothing; 33 offset past 2^64 − 1, of any dimension.
 unfoldable pub offsetsTest : Grid → ℕ → Checked
 offsetsTest g s = refuse 32 0 0 (numbersNothing g) then refuse 33 0 0 (overflows (offsets g s))
-
--- A slot whose offsets don't all lie below the present extents is dropped, without refusal.
-unfoldable pub insideOr : Checked → Bool → Offsets
-insideOr (Refused r) b = OffsetsRefused r
-insideOr Passed b = cond b Inside Dropped
-
-unfoldable pub inExtent : Grid → ℕ → Offsets
-inExtent g s = insideOr (offsetsTest g s) (below (offsets g s) (g .present))
 
 -- A chunk is an aligned corner below the present extents.
 unfoldable pub aligned : List ℕ → List ℕ → Bool

@@ -1,4 +1,3 @@
 pub mod Grid
-pub mod Shapes
 pub mod Chunks
 pub mod Values

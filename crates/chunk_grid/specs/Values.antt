@@ -10,8 +10,9 @@ use Rattle.refusal.specs.declared.Checked.the-variants.{Passed, Refused}
 use Rattle.refusal.specs.Refusals.{refuse, _then_}
 use Rattle.chunk_grid.specs.declared.ChunkGrid.{ChunkGrid}
 use Rattle.chunk_grid.specs.declared.GridOrder.the-variants.{RowMajor}
-use Rattle.chunk_grid.specs.Grid.{Grid, pairwise, ceilDiv, countOf, counts, leadingIn, leading, toFront, ordered, multipliers, hasZero, numbersNothing, overflows, multiplierTest, productTest, gridTest}
-use Rattle.chunk_grid.specs.Shapes.{given}
+use Rattle.chunk_grid.specs.declared.Offsets.{Offsets}
+use Rattle.chunk_grid.specs.declared.Offsets.the-variants.{Inside, Dropped, Refused as OffsetsRefused}
+use Rattle.chunk_grid.specs.Grid.{Grid, pairwise, ceilDiv, countOf, counts, leadingIn, leading, toFront, ordered, multipliers, hasZero, numbersNothing, offsets, overflows, below, offsetsTest, multiplierTest, productTest, gridTest, given}
 
 -- the grid that a value of the code describes: the first `rank` members of its arrays
 unfoldable pub gridOf : ChunkGrid → Grid
@@ -64,3 +65,11 @@ pub record Extents (rank : ℕ) (numbers : Bool) (bound : List ℕ) (g : Grid) :
   pub numbering : numbers ≡ not (numbersNothing g)
   pub bounds : take rank bound ≡ pairwise ceilDiv (g .present) (g .chunk)
   pub fits : overflows (g .present) ≡ false
+
+-- A slot whose offsets don't all lie below the present extents is dropped, without refusal.
+unfoldable pub insideOr : Checked → Bool → Offsets
+insideOr (Refused r) b = OffsetsRefused r
+insideOr Passed b = cond b Inside Dropped
+
+unfoldable pub inExtent : Grid → ℕ → Offsets
+inExtent g s = insideOr (offsetsTest g s) (below (offsets g s) (g .present))

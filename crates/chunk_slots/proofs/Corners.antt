@@ -16,8 +16,7 @@ use Rattle.refusal.specs.Refusals.{largest64, refuse}
 use Rattle.chunk_grid.specs.declared.ChunkGrid.{ChunkGrid}
 use Rattle.chunk_grid.specs.declared.Slot.{Slot}
 use Rattle.chunk_grid.specs.declared.Slot.the-variants.{At, NoSlot}
-use Rattle.chunk_grid.specs.Grid.{Grid, pairwise, every, toFront, ordered, multipliers, hasZero, below, aligned, isChunk, cornerTest, total, slotFrom, slotOf, gridTest}
-use Rattle.chunk_grid.specs.Shapes.{given}
+use Rattle.chunk_grid.specs.Grid.{Grid, pairwise, every, toFront, ordered, multipliers, hasZero, below, aligned, isChunk, cornerTest, total, slotFrom, slotOf, gridTest, given}
 use Rattle.chunk_grid.specs.Values.{gridOf, dimAt, GridNumbers, GridCounts}
 use Rattle.refusal.proofs.Tests.{lt-or-ge}
 use Rattle.chunk_grid.proofs.Grids.{Chunk, is-chunk, accepted}

@@ -14,8 +14,8 @@ use lib.Seq.{drop-cons, getD-take}
 use Rattle.refusal.specs.Refusals.{largest64, refuse, _then_}
 use Rattle.chunk_grid.specs.declared.Offsets.{Offsets}
 use Rattle.chunk_grid.specs.declared.Offsets.the-variants.{Inside, Dropped, Refused as OffsetsRefused}
-use Rattle.chunk_grid.specs.Grid.{Grid, pairwise, every, any, ceilDiv, leading, toFront, ordered, multipliers, hasZero, numbersNothing, quotients, offsets, overflows, below, offsetsTest, insideOr, inExtent}
-use Rattle.chunk_grid.specs.Values.{dimAt, GridNumbers, Extents}
+use Rattle.chunk_grid.specs.Grid.{Grid, pairwise, every, any, ceilDiv, leading, toFront, ordered, multipliers, hasZero, numbersNothing, quotients, offsets, overflows, below, offsetsTest}
+use Rattle.chunk_grid.specs.Values.{dimAt, GridNumbers, Extents, insideOr, inExtent}
 use Rattle.chunk_slots.specs.Values.{shown, handed}
 use Rattle.refusal.proofs.Tests.{lt-or-ge, neither}
 use Rattle.chunk_grid.proofs.Order.{front-back, length-front, length-pairwise, pairwise-front, every-front, any-front}

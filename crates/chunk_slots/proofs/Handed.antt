@@ -10,7 +10,8 @@ use lib.Seq.{sets, sets-eq, length-sets, take-at}
 use Rattle.refusal.specs.declared.Checked.the-variants.{Passed}
 use Rattle.refusal.proofs.Tests.{by-cond, false-true, both}
 use Rattle.chunk_grid.specs.declared.Offsets.the-variants.{Inside}
-use Rattle.chunk_grid.specs.Grid.{Grid, pairwise, every, numbersNothing, offsets, below, inExtent, gridTest}
+use Rattle.chunk_grid.specs.Grid.{Grid, pairwise, every, numbersNothing, offsets, below, gridTest}
+use Rattle.chunk_grid.specs.Values.{inExtent}
 use Rattle.chunk_grid.proofs.Grids.{accepted, length-offsets}
 use Rattle.chunk_grid.proofs.Slots.{inside-inv}
 use Rattle.chunk_slots.specs.Values.{shown, handed}

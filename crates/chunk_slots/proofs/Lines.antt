@@ -16,8 +16,8 @@ use lib.Seq.{take-suc, set-split, getD-take, getD-set-same, getD-set-other, ext-
 use Rattle.refusal.specs.Refusals.{largest64}
 use Rattle.refusal.proofs.Tests.{false-true, both, lt-or-ge}
 use Rattle.chunk_grid.specs.declared.Offsets.the-variants.{Inside}
-use Rattle.chunk_grid.specs.Grid.{Grid, pairwise, every, leading, toFront, fromFront, ordered, multiplier, multipliers, quotients, offsets, below, inExtent}
-use Rattle.chunk_grid.specs.Values.{dimAt, GridNumbers, Extents}
+use Rattle.chunk_grid.specs.Grid.{Grid, pairwise, every, leading, toFront, fromFront, ordered, multiplier, multipliers, quotients, offsets, below}
+use Rattle.chunk_grid.specs.Values.{dimAt, GridNumbers, Extents, inExtent}
 use Rattle.chunk_slots.specs.Lines.{InLine}
 use Rattle.chunk_grid.proofs.Order.{length-back}
 use Rattle.chunk_grid.proofs.Grids.{Accepted, accepted, lead, length-ordered, quotients-chunk, length-products, length-offsets}

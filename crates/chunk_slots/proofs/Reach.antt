@@ -13,8 +13,8 @@ use lib.ListN.{length, getD, take, drop, length-take, drop-of-length-le}
 use lib.Seq.{drop-cons, getD-take}
 use Rattle.refusal.proofs.Tests.{both, false-true}
 use Rattle.chunk_grid.specs.declared.Offsets.the-variants.{Inside}
-use Rattle.chunk_grid.specs.Grid.{Grid, every, ceilDiv, ordered, multiplier, multipliers, quotients, offsets, below, numbersNothing, inExtent}
-use Rattle.chunk_grid.specs.Values.{dimAt, GridNumbers, Extents}
+use Rattle.chunk_grid.specs.Grid.{Grid, every, ceilDiv, ordered, multiplier, multipliers, quotients, offsets, below, numbersNothing}
+use Rattle.chunk_grid.specs.Values.{dimAt, GridNumbers, Extents, inExtent}
 use Rattle.chunk_slots.specs.Reach.{allBelow, allInside}
 use Rattle.chunk_grid.proofs.Grids.{multiplier-pos}
 use Rattle.chunk_grid.proofs.Places.{inOrder, length-order, order-at}

@@ -6,7 +6,8 @@ use lib.ListN.{getD, set}
 use Rattle.refusal.specs.Refusals.{largest64}
 use Rattle.chunk_slots.specs.declared.Line.{Line}
 use Rattle.chunk_grid.specs.declared.Offsets.the-variants.{Inside}
-use Rattle.chunk_grid.specs.Grid.{Grid, offsets, inExtent}
+use Rattle.chunk_grid.specs.Grid.{Grid, offsets}
+use Rattle.chunk_grid.specs.Values.{inExtent}
 
 -- The slots of line r, from slot s on, lie in the present extents. Their offsets are those of s but for one dimension's, where slot s + j has first + j times
 -- the chunk's length; `chunk` is an array that begins with the chunk's lengths.

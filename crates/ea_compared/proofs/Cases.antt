@@ -4,7 +4,7 @@ use mathlib.Core.Bool.{true, false}
 use mathlib.Core.List.{[], _∷_}
 use Rattle.refusal.specs.Outcome.{accepted}
 use Rattle.fields.specs.LittleEndian.{leBytes}
-use Rattle.chunk_grid.specs.Shapes.{given}
+use Rattle.chunk_grid.specs.Grid.{given}
 use Rattle.chunk_grid.specs.declared.GridOrder.the-variants.{RowMajor, UnlimitedFirst}
 use Rattle.ea_compared.specs.Compared.{answer, chunk, refusal}
 use Rattle.ea_compared.proofs.Compared.{compared}

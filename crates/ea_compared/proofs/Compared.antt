@@ -1,5 +1,5 @@
 -- Opens every definition that an answer is computed by.
-use Rattle.chunk_grid.specs.Shapes.{isUnlimitedFirst, given}
+use Rattle.chunk_grid.specs.Grid.{isUnlimitedFirst, given}
 use Rattle.ea_worked.proofs.Opened.{opened}
 use Rattle.ea_compared.specs.Compared.{answer}
 

@@ -13,9 +13,9 @@ use Rattle.refusal.specs.declared.Checked.{Checked}
 use Rattle.refusal.specs.declared.Checked.the-variants.{Passed, Refused}
 use Rattle.refusal.specs.declared.Counted.{Counted}
 use Rattle.refusal.specs.declared.Counted.the-variants.{Count, Refused as CountedRefused}
-use Rattle.refusal.specs.Refusals.{refuse, refusalOf, _then_}
-use Rattle.refusal.specs.Outcome.{refused, accepted, _yields_, countedOf}
-use Rattle.refusal.specs.Values.{plus}
+use Rattle.refusal.specs.Refusals.{refuse, _then_}
+use Rattle.refusal.specs.Outcome.{refused, accepted, _yields_}
+use Rattle.refusal.specs.Values.{plus, countedOf, refusalOf}
 use Rattle.refusal.proofs.Tests.{lt-or-ge}
 use Rattle.refusal.proofs.Counts.{plus-zero, plus-none}
 use Rattle.fields.specs.Fields.{isWidth, widthTest}

@@ -14,8 +14,8 @@ use Rattle.refusal.specs.declared.Checked.{Checked}
 use Rattle.refusal.specs.declared.Checked.the-variants.{Passed, Refused}
 use Rattle.refusal.specs.declared.Counted.{Counted}
 use Rattle.refusal.specs.declared.Counted.the-variants.{Count, Refused as CountedRefused}
-use Rattle.refusal.specs.Outcome.{accepted, countedOf}
-use Rattle.refusal.specs.Values.{plus}
+use Rattle.refusal.specs.Outcome.{accepted}
+use Rattle.refusal.specs.Values.{plus, countedOf}
 use Rattle.refusal.proofs.Tests.{lt-or-ge, false-true, both}
 use Rattle.refusal.proofs.Counts.{plus-none, answered, counted-inv}
 use Rattle.chunk_grid.specs.Grid.{Grid}

@@ -3,7 +3,7 @@ ghost use mathlib.Core.Path.{_≡_};
 ghost use mathlib.Core.Bool.{false};
 ghost use mathlib.Core.List.{List};
 ghost use Prim.Native.Nat.{ℕ};
-ghost use Rattle.refusal.specs.Outcome.{countedOf};
+ghost use Rattle.refusal.specs.Values.{countedOf};
 ghost use Rattle.fields.specs.Fields.{isWidth};
 ghost use Rattle.chunk_grid.specs.Grid.{Grid};
 ghost use Rattle.elements.specs.Values.{elementsOf, Reads};

@@ -13,7 +13,7 @@ use Rattle.refusal.specs.declared.Checked.the-variants.{Passed}
 use Rattle.fields.specs.Fields.{widthTest}
 use Rattle.fields.proofs.Fields.{width-passed}
 use Rattle.chunk_grid.specs.declared.GridOrder.the-variants.{RowMajor}
-use Rattle.chunk_grid.specs.Shapes.{given}
+use Rattle.chunk_grid.specs.Grid.{given}
 use Rattle.element_form.specs.Form.{stride}
 use Rattle.elements.specs.Elements.{Elements}
 use Rattle.elements.proofs.Induction.{PagesAt}

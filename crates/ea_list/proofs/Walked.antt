@@ -9,7 +9,8 @@ use native.Mathlib.Omega.{arith}
 use Rattle.refusal.specs.declared.Refusal.{Refusal}
 use Rattle.refusal.specs.declared.Checked.the-variants.{Passed}
 use Rattle.refusal.specs.declared.Counted.the-variants.{Refused as CountedRefused}
-use Rattle.refusal.specs.Outcome.{accepted, countedOf}
+use Rattle.refusal.specs.Outcome.{accepted}
+use Rattle.refusal.specs.Values.{countedOf}
 use Rattle.refusal.proofs.Tests.{lt-or-ge}
 use Rattle.refusal.proofs.Outcomes.{never, yields-inv}
 use Rattle.refusal.proofs.Counts.{refused-inv}

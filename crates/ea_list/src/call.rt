@@ -3,7 +3,7 @@ ghost use mathlib.Core.Path.{_≡_};
 ghost use Prim.Native.Nat.{ℕ, _/_, _<_};
 ghost use lib.ListN.{length};
 ghost use Rattle.refusal.specs.declared.Counted.the-variants.{Count};
-ghost use Rattle.refusal.specs.Outcome.{countedOf};
+ghost use Rattle.refusal.specs.Values.{countedOf};
 ghost use Rattle.index.specs.ExactList.{ExactList};
 ghost use Rattle.records.specs.Records.{recordLength, listContent, recordsIn};
 ghost use Rattle.calls.specs.Values.{callFrom};

@@ -20,7 +20,7 @@ use Rattle.elements.specs.declared.Found.{Found}
 use Rattle.elements.specs.declared.Found.the-variants.{Refused as FoundRefused}
 use Rattle.ea_lookup.specs.Lookup.{lookup}
 use Rattle.elements.specs.Values.{foundOf}
-use Rattle.ea_lookup.specs.Found.{Answered, Agreed}
+use Rattle.ea_lookup.specs.Answered.{Answered, Agreed}
 use Rattle.ea_lookup.specs.Call.{lookupAt}
 use Rattle.ea_lookup.proofs.Lookups.{lookup-answers}
 

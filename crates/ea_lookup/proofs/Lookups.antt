@@ -35,7 +35,7 @@ use Rattle.elements.specs.declared.Found.{Found}
 use Rattle.elements.specs.declared.Found.the-variants.{Absent as FoundAbsent, Refused as FoundRefused}
 use Rattle.ea_lookup.specs.Lookup.{lookup}
 use Rattle.elements.specs.Values.{foundOf}
-use Rattle.ea_lookup.specs.Found.{Answered, Agreed}
+use Rattle.ea_lookup.specs.Answered.{Answered, Agreed}
 
 -- a slot's path, by the count
 module _ (x : Located) where

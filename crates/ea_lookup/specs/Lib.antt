@@ -1,5 +1,5 @@
 pub mod Lookup
-pub mod Found
+pub mod Answered
 pub mod PathEnds
 pub mod Call
 pub mod Values

@@ -9,7 +9,7 @@ ghost use Rattle.ea_calls.specs.Call.{callIndex, listAt};
 ghost use Rattle.elements.specs.Values.{foundOf};
 ghost use Rattle.ea_lookup.specs.Call.{lookupAt};
 ghost use Rattle.ea_lookup.specs.Values.{foundAnswer};
-ghost use Rattle.ea_lookup.specs.Found.{Answered, Agreed};
+ghost use Rattle.ea_lookup.specs.Answered.{Answered, Agreed};
 use crate::lookup_chunk;
 use calls::CHUNK_NAMES;
 use calls::CallNumbers;

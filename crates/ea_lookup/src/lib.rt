@@ -13,7 +13,7 @@ ghost use Rattle.ea_blocks.specs.Array.{arrayFrom};
 ghost use Rattle.ea_walk.specs.Walk.{located, list, elementsIn};
 ghost use Rattle.ea_walk.specs.Values.{ReadBy};
 ghost use Rattle.ea_lookup.specs.Lookup.{lookup};
-ghost use Rattle.ea_lookup.specs.Found.{Answered, Agreed};
+ghost use Rattle.ea_lookup.specs.Answered.{Answered, Agreed};
 use crate::paths::path_of;
 use chunk_grid::ChunkGrid;
 use chunk_grid::Slot;

@@ -9,8 +9,8 @@ use native.Mathlib.Numerals.{add-one}
 use lib.ListN.{length, length-append}
 use Rattle.refusal.specs.declared.Refusal.{Refusal}
 use Rattle.refusal.specs.declared.Counted.the-variants.{Count, Refused as CountedRefused}
-use Rattle.refusal.specs.Outcome.{accepted, also, countedOf}
-use Rattle.refusal.specs.Values.{plus}
+use Rattle.refusal.specs.Outcome.{accepted, also}
+use Rattle.refusal.specs.Values.{plus, countedOf}
 use Rattle.refusal.proofs.Tests.{by-cond}
 use Rattle.refusal.proofs.Outcomes.{yields-inv, also-inv}
 use Rattle.refusal.proofs.Counts.{counted-inv, refused-inv, plus-zero, plus-none}

@@ -9,7 +9,8 @@ use Rattle.refusal.specs.declared.Checked.the-variants.{Passed, Refused}
 use Rattle.refusal.specs.declared.Counted.{Counted}
 use Rattle.refusal.specs.declared.Counted.the-variants.{Refused as CountedRefused}
 use Rattle.refusal.specs.Refusals.{figure}
-use Rattle.refusal.specs.Outcome.{refused, _yields_, also, countedOf}
+use Rattle.refusal.specs.Outcome.{refused, _yields_, also}
+use Rattle.refusal.specs.Values.{countedOf}
 use Rattle.ea_header.specs.Header.{headerBytes, headerAt}
 use Rattle.ea_blocks.specs.declared.ExtensibleArray.{ExtensibleArray}
 use Rattle.ea_blocks.specs.Values.{arrayOf}

@@ -3,7 +3,7 @@ ghost use mathlib.Core.Path.{_≡_};
 ghost use mathlib.Core.Bool.{true};
 ghost use Prim.Native.Nat.{_<_};
 ghost use lib.ListN.{length};
-ghost use Rattle.refusal.specs.Outcome.{countedOf};
+ghost use Rattle.refusal.specs.Values.{countedOf};
 ghost use Rattle.fields.specs.Fields.{isWidth, undefined};
 ghost use Rattle.ea_geometry.specs.Bounded.{Bounded};
 ghost use Rattle.ea_geometry.specs.Sizes.{superBlocks, blocks};

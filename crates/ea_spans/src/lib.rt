@@ -3,7 +3,8 @@
 ghost use mathlib.Core.Path.{_≡_};
 ghost use mathlib.Core.Bool.{true};
 ghost use Rattle.refusal.specs.declared.Counted.the-variants.{Refused};
-ghost use Rattle.refusal.specs.Outcome.{also, inRoom, countedOf};
+ghost use Rattle.refusal.specs.Outcome.{also, inRoom};
+ghost use Rattle.refusal.specs.Values.{countedOf};
 ghost use Rattle.fields.specs.Fields.{isWidth};
 ghost use Rattle.ea_geometry.specs.Bounded.{Bounded};
 ghost use Rattle.ea_blocks.specs.Values.{arrayOf};

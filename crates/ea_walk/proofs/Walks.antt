@@ -8,7 +8,8 @@ use Rattle.refusal.specs.Refusals.{largest64}
 use Rattle.refusal.specs.Outcome.{accepted}
 use Rattle.refusal.proofs.Outcomes.{yields-inv}
 use Rattle.chunk_grid.proofs.Grids.{accepted as grid-accepted}
-use Rattle.index.specs.Index.{Rec, records}
+use Rattle.index.specs.Index.{Rec}
+use Rattle.index.specs.Records.{records}
 use Rattle.index.specs.ExactList.{ExactList}
 use Rattle.elements.specs.Elements.{Elements}
 use Rattle.located.specs.Located.{indexOf}

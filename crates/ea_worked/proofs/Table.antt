@@ -8,7 +8,8 @@ use lib.ListN.{length, replicate}
 use borrow.Author.Tests.{eq-eqb}
 use Rattle.refusal.specs.declared.Refusal.{Refusal}
 use Rattle.refusal.specs.declared.Checked.{Checked}
-use Rattle.refusal.specs.Refusals.{refusalOf, largest64}
+use Rattle.refusal.specs.Refusals.{largest64}
+use Rattle.refusal.specs.Values.{refusalOf}
 use Rattle.fields.specs.LittleEndian.{leBytes}
 use Rattle.fields.specs.Fields.{undefinedAt, inFile}
 use Rattle.chunk_grid.specs.Grid.{Grid, offsets, gridTest}

@@ -7,7 +7,7 @@ use lib.Seq.{length-sets}
 use Rattle.io.specs.Counts.{Counts}
 use Rattle.io.proofs.Counting.{counts}
 use Rattle.refusal.specs.declared.Counted.{Counted}
-use Rattle.refusal.specs.Outcome.{countedOf}
+use Rattle.refusal.specs.Values.{countedOf}
 use Rattle.records.specs.Records.{listContent}
 use Rattle.questions.specs.Line.{fileOf, questionOf, storedOf}
 use Rattle.list_text.specs.Printed.{Put}

@@ -11,7 +11,8 @@ use borrow.Author.Tests.{ltb-false}
 use Rattle.refusal.specs.declared.Checked.{Checked}
 use Rattle.refusal.specs.declared.Checked.the-variants.{Passed, Refused as CheckedRefused}
 use Rattle.refusal.specs.Refusals.{refuse}
-use Rattle.refusal.specs.Outcome.{refused, accepted, _yields_, inRoom, countedOf}
+use Rattle.refusal.specs.Outcome.{refused, accepted, _yields_, inRoom}
+use Rattle.refusal.specs.Values.{countedOf}
 use Rattle.refusal.specs.declared.Counted.{Counted}
 use Rattle.records.specs.Records.{recordLength}
 use Rattle.index.specs.Index.{Listing}

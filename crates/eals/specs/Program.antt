@@ -5,7 +5,7 @@ use lib.ListN.{length, take, drop}
 use Rattle.refusal.specs.declared.Counted.{Counted}
 use Rattle.refusal.specs.declared.Counted.the-variants.{Count, Refused}
 use Rattle.index.specs.Index.{Listing}
-use Rattle.refusal.specs.Outcome.{countedOf}
+use Rattle.refusal.specs.Values.{countedOf}
 use Rattle.calls.specs.Call.{gridGiven, callOf}
 use Rattle.ea_calls.specs.Call.{listAt}
 use Rattle.questions.specs.Line.{fileOf, questionOf, storedOf}

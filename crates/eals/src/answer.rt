@@ -3,7 +3,7 @@ ghost use mathlib.Core.Path.{_≡_};
 ghost use Prim.Native.Nat.{_+_, _*_, _≤_};
 ghost use lib.ListN.{length};
 ghost use Rattle.io.specs.Counts.{Counts};
-ghost use Rattle.refusal.specs.Outcome.{countedOf};
+ghost use Rattle.refusal.specs.Values.{countedOf};
 ghost use Rattle.records.specs.Records.{recordLength};
 ghost use Rattle.records.specs.Records.{listContent};
 ghost use Rattle.list_text.specs.Printed.{Put};

@@ -13,15 +13,16 @@ use lib.Pow.{pow-mono}
 use Rattle.refusal.specs.declared.Checked.the-variants.{Passed}
 use Rattle.refusal.specs.declared.Counted.the-variants.{Count}
 use Rattle.refusal.specs.Refusals.{figure, refuse, _then_}
-use Rattle.refusal.specs.Outcome.{accepted, countedOf}
-use Rattle.refusal.specs.Values.{plus}
+use Rattle.refusal.specs.Outcome.{accepted}
+use Rattle.refusal.specs.Values.{plus, countedOf}
 use Rattle.refusal.proofs.Tests.{by-cond, both, lt-or-ge}
 use Rattle.refusal.proofs.Counts.{plus-zero, plus-none, plus-also}
 use Rattle.fields.specs.LittleEndian.{leAt}
 use Rattle.fields.specs.Fields.{sizeTest}
 use Rattle.fields.proofs.LittleEndian.{le-small}
 use Rattle.chunk_grid.specs.declared.Offsets.the-variants.{Inside}
-use Rattle.chunk_grid.specs.Grid.{Grid, inExtent}
+use Rattle.chunk_grid.specs.Grid.{Grid}
+use Rattle.chunk_grid.specs.Values.{inExtent}
 use Rattle.chunk_slots.specs.Reach.{allInside}
 use Rattle.chunk_slots.proofs.Reach.{all-inside}
 use Rattle.element_form.specs.declared.Form.{Form}

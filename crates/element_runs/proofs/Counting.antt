@@ -9,10 +9,11 @@ use lib.ListN.{getD}
 use Rattle.refusal.specs.declared.Refusal.{Refusal}
 use Rattle.refusal.specs.declared.Checked.the-variants.{Passed}
 use Rattle.refusal.specs.declared.Counted.the-variants.{Count, Refused as CountedRefused}
-use Rattle.refusal.specs.Outcome.{accepted, countedOf}
-use Rattle.refusal.specs.Values.{plus}
+use Rattle.refusal.specs.Outcome.{accepted}
+use Rattle.refusal.specs.Values.{plus, countedOf}
 use Rattle.refusal.proofs.Counts.{plus-zero, plus-none, plus-also}
-use Rattle.chunk_grid.specs.Grid.{offsets, inExtent}
+use Rattle.chunk_grid.specs.Grid.{offsets}
+use Rattle.chunk_grid.specs.Values.{inExtent}
 use Rattle.chunk_grid.specs.declared.Offsets.the-variants.{Inside}
 use Rattle.element_form.specs.Form.{stride, elementSizeTest}
 use Rattle.index.specs.declared.Entry.{Entry}

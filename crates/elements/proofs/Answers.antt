@@ -8,7 +8,8 @@ use Rattle.refusal.specs.declared.Refusal.{Refusal}
 use Rattle.refusal.specs.Outcome.{Outcome, refused, accepted, also}
 use Rattle.refusal.proofs.Outcomes.{never, also-inv}
 use Rattle.index.specs.declared.Entry.{Entry}
-use Rattle.index.specs.Index.{Rec, Listing, with}
+use Rattle.index.specs.Index.{Rec, Listing}
+use Rattle.index.specs.Records.{with}
 use Rattle.elements.specs.declared.Found.the-variants.{Absent, Chunk, Refused as FoundRefused}
 use Rattle.elements.specs.Runs.{alsoElement}
 use Rattle.elements.specs.Values.{foundOf}

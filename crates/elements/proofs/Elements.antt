@@ -11,13 +11,15 @@ use Rattle.refusal.specs.declared.Checked.the-variants.{Passed, Refused}
 use Rattle.refusal.specs.Outcome.{Outcome, accepted, _yields_}
 use Rattle.refusal.proofs.Tests.{by-cond, then-inv, refuse-inv}
 use Rattle.refusal.proofs.Outcomes.{never, yields-inv, yields-passed}
-use Rattle.chunk_grid.specs.Grid.{Grid, offsets, offsetsTest, below, insideOr, inExtent, numbersNothing}
+use Rattle.chunk_grid.specs.Grid.{Grid, offsets, offsetsTest, below, numbersNothing}
+use Rattle.chunk_grid.specs.Values.{insideOr, inExtent}
 use Rattle.chunk_grid.specs.Chunks.{chunkAt}
 use Rattle.chunk_grid.specs.declared.Offsets.{Offsets}
 use Rattle.chunk_grid.specs.declared.Offsets.the-variants.{Inside, Dropped, Refused as OffsetsRefused}
 use Rattle.element_form.specs.Form.{elementSizeTest}
 use Rattle.index.specs.declared.Entry.{Entry}
-use Rattle.index.specs.Index.{Rec, Listing, recordOf}
+use Rattle.index.specs.Index.{Rec, Listing}
+use Rattle.index.specs.Records.{recordOf}
 use Rattle.elements.specs.Elements.{Elements, undefinedElement, entryAt, entryTest, element}
 use Rattle.elements.specs.declared.Found.the-variants.{Chunk}
 use Rattle.elements.specs.Runs.{alsoElement}

@@ -4,7 +4,8 @@ use mathlib.Core.Path.{_≡_, sym, _∙_}
 use mathlib.Core.List.{List}
 use native.Mathlib.Omega.{arith}
 use lib.ListN.{length, take}
-use Rattle.chunk_grid.specs.Grid.{Grid, offsets, inExtent}
+use Rattle.chunk_grid.specs.Grid.{Grid, offsets}
+use Rattle.chunk_grid.specs.Values.{inExtent}
 use Rattle.chunk_grid.specs.declared.Offsets.the-variants.{Inside}
 use Rattle.chunk_grid.proofs.Grids.{accepted as grid-accepted, length-offsets}
 use Rattle.chunk_slots.specs.Values.{handed}

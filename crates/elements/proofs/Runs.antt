@@ -12,8 +12,8 @@ use lib.ListN.{length}
 use Rattle.refusal.specs.declared.Refusal.{Refusal}
 use Rattle.refusal.specs.declared.Checked.{Checked}
 use Rattle.refusal.specs.declared.Checked.the-variants.{Passed, Refused}
-use Rattle.refusal.specs.Outcome.{Outcome, refused, accepted, _yields_, also, countedOf}
-use Rattle.refusal.specs.Values.{plus}
+use Rattle.refusal.specs.Outcome.{Outcome, refused, accepted, _yields_, also}
+use Rattle.refusal.specs.Values.{plus, countedOf}
 use Rattle.refusal.proofs.Tests.{by-cond, lt-or-ge}
 use Rattle.refusal.proofs.Outcomes.{never, also-inv}
 use Rattle.refusal.proofs.Counts.{plus-also}

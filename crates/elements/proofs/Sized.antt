@@ -19,7 +19,8 @@ use Rattle.fields.specs.Fields.{undefined, addressAt, undefinedAt, sizeTest}
 use Rattle.fields.specs.Values.{narrowed}
 use Rattle.fields.specs.declared.convert.Narrowed.the-variants.{Value, Refused as NarrowedRefused}
 use Rattle.fields.proofs.Numbers.{narrow-is, too-wide-is}
-use Rattle.chunk_grid.specs.Grid.{offsets, offsetsTest, below, insideOr, inExtent}
+use Rattle.chunk_grid.specs.Grid.{offsets, offsetsTest, below}
+use Rattle.chunk_grid.specs.Values.{insideOr, inExtent}
 use Rattle.chunk_grid.specs.declared.Offsets.{Offsets}
 use Rattle.element_form.specs.Form.{filtered, sizeBytes, elementSizeTest}
 use Rattle.index.specs.Index.{Rec}

@@ -3,7 +3,8 @@ use Prim.Native.Nat.{ℕ, _+_, _<_, _≤_}
 use mathlib.Core.Path.{_≡_, refl}
 use mathlib.Core.List.{List, [], _∷_, List·Memᴰ, List·Memᴰ·head, List·Memᴰ·tail}
 use mathlib.Core.Option.{some}
-use Rattle.index.specs.Index.{Index, Rec, recordAt, records}
+use Rattle.index.specs.Index.{Index, Rec}
+use Rattle.index.specs.Records.{recordAt, records}
 use Rattle.index.proofs.Records.{listed}
 
 unfoldable pub All : (Rec → Type 0) → List Rec → Type 0

@@ -1,10 +1,9 @@
--- An index: which entry each slot holds, and the records that follow from it.
-use Prim.Native.Nat.{ℕ, zero, suc, _+_}
-use mathlib.Core.List.{List, [], _∷_}
-use mathlib.Core.Option.{Option, none, some}
+-- An index: which entry each slot holds; records of it.
+use Prim.Native.Nat.{ℕ}
+use mathlib.Core.List.{List}
+use mathlib.Core.Option.{Option}
 use Rattle.refusal.specs.Outcome.{Outcome}
 use Rattle.chunk_grid.specs.Grid.{Grid}
-use Rattle.chunk_grid.specs.Chunks.{chunkAt}
 use Rattle.index.specs.declared.Entry.{Entry}
 
 -- The grid that numbers the chunks, the published count, from which on no slot is in use, and what the place of each
@@ -22,21 +21,3 @@ pub record Rec : Type 0 where
 -- a list of records, or the refusal
 abbrev pub Listing : Type 0
 Listing = Outcome (List Rec)
-
--- the record of a slot: what its place holds, and its chunk's corner
-unfoldable pub recordOf : Option Entry → Option (List ℕ) → Option Rec
-recordOf none k = none
-recordOf (some e) none = none
-recordOf (some e) (some corner) = some (record { entry = e; corner = corner })
-
-unfoldable pub recordAt : Index → ℕ → Option Rec
-recordAt i s = recordOf (i .held s) (chunkAt (i .grid) s)
-
-unfoldable pub with : Option Rec → List Rec → List Rec
-with none l = l
-with (some r) l = r ∷ l
-
--- the records of the m slots from s on
-unfoldable pub records : Index → ℕ → ℕ → List Rec
-records i s zero = []
-records i s (suc m) = with (recordAt i s) (records i (s + 1) m)

@@ -12,13 +12,15 @@ use Rattle.refusal.specs.declared.Checked.the-variants.{Passed}
 use Rattle.refusal.specs.declared.Counted.{Counted}
 use Rattle.refusal.specs.declared.Counted.the-variants.{Count}
 use Rattle.refusal.specs.Refusals.{largest64}
-use Rattle.refusal.specs.Outcome.{Outcome, accepted, inRoom, countedOf}
+use Rattle.refusal.specs.Outcome.{Outcome, accepted, inRoom}
+use Rattle.refusal.specs.Values.{countedOf}
 use Rattle.refusal.proofs.Tests.{by-cond}
 use Rattle.refusal.proofs.Outcomes.{yields-inv, room-had, room-inv}
 use Rattle.refusal.proofs.Counts.{counted-inv}
 use Rattle.chunk_grid.specs.Grid.{gridTest}
 use Rattle.chunk_grid.proofs.Grids.{accepted as grid-accepted}
-use Rattle.index.specs.Index.{Rec, Listing, recordAt, records}
+use Rattle.index.specs.Index.{Rec, Listing}
+use Rattle.index.specs.Records.{recordAt, records}
 use Rattle.index.specs.ExactList.{ExactList}
 use Rattle.index.proofs.Records.{none-some, record-rank}
 use Rattle.index.proofs.All.{All, records-all}

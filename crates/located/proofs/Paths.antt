@@ -14,7 +14,8 @@ use Rattle.chunk_grid.specs.Chunks.{chunkAt}
 use Rattle.chunk_grid.specs.declared.Slot.{Slot}
 use Rattle.chunk_grid.specs.declared.Slot.the-variants.{At, NoSlot}
 use Rattle.index.specs.declared.Entry.{Entry}
-use Rattle.index.specs.Index.{Rec, recordOf, recordAt}
+use Rattle.index.specs.Index.{Rec}
+use Rattle.index.specs.Records.{recordOf, recordAt}
 use Rattle.index.proofs.Answers.{slotRecord}
 use Rattle.elements.specs.Elements.{undefinedElement, element}
 use Rattle.elements.proofs.Elements.{some-is, element-record}

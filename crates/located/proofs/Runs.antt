@@ -11,7 +11,7 @@ use lib.ListN.{length}
 use Rattle.refusal.specs.Outcome.{accepted}
 use Rattle.refusal.proofs.Tests.{lt-or-ge}
 use Rattle.element_form.specs.Form.{stride}
-use Rattle.index.specs.Index.{recordAt, records}
+use Rattle.index.specs.Records.{recordAt, records}
 use Rattle.index.proofs.Steps.{first, others}
 use Rattle.index.proofs.Records.{records-none}
 use Rattle.elements.specs.Runs.{elementsFrom}

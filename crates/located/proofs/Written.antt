@@ -8,7 +8,8 @@ use native.Mathlib.Omega.{arith}
 use lib.ListN.{length, length-append}
 use lib.Seq.{sets}
 use Rattle.refusal.specs.Outcome.{accepted}
-use Rattle.index.specs.Index.{Rec, records}
+use Rattle.index.specs.Index.{Rec}
+use Rattle.index.specs.Records.{records}
 use Rattle.index.proofs.Records.{from, from-end, from-split}
 use Rattle.elements.specs.Runs.{elementsFrom}
 use Rattle.records.specs.Records.{listBytes}

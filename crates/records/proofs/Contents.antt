@@ -6,7 +6,8 @@ use lib.ListN.{length}
 use lib.Seq.{sets}
 use Rattle.refusal.specs.declared.Refusal.{Refusal}
 use Rattle.refusal.specs.declared.Counted.the-variants.{Count, Refused as CountedRefused}
-use Rattle.refusal.specs.Outcome.{refused, accepted, countedOf}
+use Rattle.refusal.specs.Outcome.{refused, accepted}
+use Rattle.refusal.specs.Values.{countedOf}
 use Rattle.index.specs.Index.{Rec, Listing}
 use Rattle.records.specs.Records.{listBytes, listContent}
 

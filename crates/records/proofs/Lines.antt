@@ -6,7 +6,8 @@ use native.Mathlib.Omega.{arith}
 use lib.ListN.{length, getD, take, set, length-take}
 use Rattle.refusal.specs.Refusals.{figure}
 use Rattle.refusal.specs.Outcome.{accepted}
-use Rattle.chunk_grid.specs.Grid.{Grid, offsets, inExtent}
+use Rattle.chunk_grid.specs.Grid.{Grid, offsets}
+use Rattle.chunk_grid.specs.Values.{inExtent}
 use Rattle.chunk_grid.specs.declared.Offsets.{Offsets}
 use Rattle.chunk_grid.specs.declared.Offsets.the-variants.{Inside}
 use Rattle.chunk_slots.specs.Values.{handed}

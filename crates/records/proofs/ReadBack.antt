@@ -22,7 +22,8 @@ use Rattle.fields.specs.Fields.{addressAt, sizeTest}
 use Rattle.fields.proofs.Stored.{length-bytes, value-bytes}
 use Rattle.fields.proofs.LittleEndian.{le-small}
 use Rattle.fields.proofs.Widths.{width-le}
-use Rattle.chunk_grid.specs.Grid.{any, offsets, overflows, offsetsTest, insideOr, inExtent}
+use Rattle.chunk_grid.specs.Grid.{any, offsets, overflows, offsetsTest}
+use Rattle.chunk_grid.specs.Values.{insideOr, inExtent}
 use Rattle.shapes.specs.Shapes.{numbersIn}
 use Rattle.chunk_grid.specs.declared.Offsets.the-variants.{Inside}
 use Rattle.element_form.specs.Form.{filtered, elementSizeTest}

@@ -10,7 +10,8 @@ use lib.Seq.{sets, length-sets}
 use Rattle.refusal.specs.declared.Checked.the-variants.{Passed}
 use Rattle.refusal.specs.Outcome.{Outcome, refused, accepted}
 use Rattle.refusal.proofs.Outcomes.{never, also-inv}
-use Rattle.chunk_grid.specs.Grid.{offsets, inExtent}
+use Rattle.chunk_grid.specs.Grid.{offsets}
+use Rattle.chunk_grid.specs.Values.{inExtent}
 use Rattle.chunk_grid.specs.declared.Offsets.the-variants.{Inside}
 use Rattle.element_form.specs.Form.{stride, elementSizeTest}
 use Rattle.index.specs.declared.Entry.{Entry}

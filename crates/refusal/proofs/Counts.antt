@@ -9,8 +9,8 @@ use Rattle.refusal.specs.declared.Checked.{Checked}
 use Rattle.refusal.specs.declared.Checked.the-variants.{Passed, Refused}
 use Rattle.refusal.specs.declared.Counted.{Counted}
 use Rattle.refusal.specs.declared.Counted.the-variants.{Count, Refused as CountedRefused}
-use Rattle.refusal.specs.Outcome.{Outcome, refused, accepted, also, countedOf}
-use Rattle.refusal.specs.Values.{plus}
+use Rattle.refusal.specs.Outcome.{Outcome, refused, accepted, also}
+use Rattle.refusal.specs.Values.{plus, countedOf}
 
 -- a count, or a refusal, is that of an outcome
 module _ {A : Type 0} where

@@ -6,8 +6,6 @@ use lib.ListN.{length}
 use Rattle.refusal.specs.declared.Refusal.{Refusal}
 use Rattle.refusal.specs.declared.Checked.{Checked}
 use Rattle.refusal.specs.declared.Checked.the-variants.{Passed, Refused}
-use Rattle.refusal.specs.declared.Counted.{Counted}
-use Rattle.refusal.specs.declared.Counted.the-variants.{Count, Refused as CountedRefused}
 use Rattle.refusal.specs.Refusals.{refuse}
 
 -- one refusal, or an answer
@@ -30,8 +28,3 @@ also x (accepted l) = accepted (x ∷ l)
 unfoldable pub inRoom : {A : Type 0} → Outcome (List A) → ℕ → Outcome (List A)
 inRoom (refused r) room = refused r
 inRoom (accepted l) room = refuse 9 (length l) 0 (ltb room (length l)) yields accepted l
-
--- the number of members, or the refusal
-unfoldable pub countedOf : {A : Type 0} → Outcome (List A) → Counted
-countedOf (refused r) = CountedRefused r
-countedOf (accepted l) = Count (length l)

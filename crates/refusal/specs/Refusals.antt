@@ -5,11 +5,6 @@ use Rattle.refusal.specs.declared.Refusal.{Refusal}
 use Rattle.refusal.specs.declared.Checked.{Checked}
 use Rattle.refusal.specs.declared.Checked.the-variants.{Passed, Refused}
 
--- The number and the figures of each answer; 0 where nothing is refused.
-unfoldable pub refusalOf : Checked → Refusal
-refusalOf Passed = record { number = 0; first = 0; second = 0 }
-refusalOf (Refused r) = r
-
 -- Beyond 2^64 − 1 a figure in a refusal is given as 2^64 − 1.
 abbrev pub largest64 : ℕ
 largest64 = 2 ^ 64 - 1

@@ -1,6 +1,6 @@
 // Refusals: why a call gives no result, as one number and two figures.
 ghost use mathlib.Core.Path.{_≡_};
-ghost use Rattle.refusal.specs.Refusals.{refusalOf};
+ghost use Rattle.refusal.specs.Values.{refusalOf};
 
 // A refusal's number, and the figures that its number names (0 where it names none).
 pub struct Refusal {

@@ -6,8 +6,8 @@ use native.Mathlib.Omega.{arith}
 use lib.ListN.{length-append}
 use Rattle.refusal.specs.declared.Refusal.{Refusal}
 use Rattle.refusal.specs.declared.Counted.the-variants.{Count, Refused as CountedRefused}
-use Rattle.refusal.specs.Outcome.{refused, accepted, also, countedOf}
-use Rattle.refusal.specs.Values.{plus}
+use Rattle.refusal.specs.Outcome.{refused, accepted, also}
+use Rattle.refusal.specs.Values.{plus, countedOf}
 use Rattle.refusal.proofs.Outcomes.{never}
 use Rattle.refusal.proofs.Counts.{counted-inv, refused-inv}
 use Rattle.span_walk.specs.declared.Span.{Span}

@@ -1,7 +1,7 @@
 -- `cellumaq::cellumaq_list` meets its contract. Assumes nothing.
 use borrow.Author.Needs.{needs}
 use mathlib.Core.Path.{ap, _∙_}
-use Rattle.refusal.specs.Outcome.{countedOf}
+use Rattle.refusal.specs.Values.{countedOf}
 use Rattle.calls.proofs.Answers.{counted-picked}
 use Rattle.ea_calls.proofs.Calls.{list-zero}
 use Rattle.cellumaq.proofs.cellumaq_list.Statement.{statement}

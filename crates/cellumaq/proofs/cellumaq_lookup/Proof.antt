@@ -1,6 +1,6 @@
 -- `cellumaq::cellumaq_lookup` meets its contract. Assumes nothing.
 use borrow.Author.Needs.{needs}
-use Rattle.chunk_grid.specs.Shapes.{given}
+use Rattle.chunk_grid.specs.Grid.{given}
 use Rattle.calls.specs.Call.{gridGiven}
 use Rattle.ea_lookup.proofs.Numbered.{lookup-zero}
 use Rattle.ea_lookup.proofs.Answers.{found-picked}

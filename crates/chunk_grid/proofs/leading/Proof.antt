@@ -1,8 +1,7 @@
 -- `chunk_grid::leading` meets its contract. Assumes nothing.
 use mathlib.Core.Path.{_≡_, _∙_}
 use Rattle.chunk_grid.proofs.Building.{place-unlimited, leads-first, leads-none}
-use Rattle.chunk_grid.specs.Grid.{firstUnlimited, leadingIn}
-use Rattle.chunk_grid.specs.Shapes.{isUnlimitedFirst}
+use Rattle.chunk_grid.specs.Grid.{firstUnlimited, leadingIn, isUnlimitedFirst}
 use borrow.Author.Needs.{needs}
 use Rattle.chunk_grid.proofs.leading.Statement.{statement}
 use Rattle.chunk_grid.proofs.leading.Tie as tie

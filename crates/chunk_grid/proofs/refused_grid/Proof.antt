@@ -1,6 +1,6 @@
 -- `chunk_grid::refused_grid` meets its contract. Assumes nothing.
 use Rattle.chunk_grid.specs.Values.{gridOf, whereTested}
-use Rattle.chunk_grid.specs.Shapes.{given}
+use Rattle.chunk_grid.specs.Grid.{given}
 use mathlib.Core.Path.{refl}
 use Rattle.chunk_grid.proofs.refused_grid.Statement.{statement}
 use Rattle.chunk_grid.proofs.refused_grid.Tie as tie

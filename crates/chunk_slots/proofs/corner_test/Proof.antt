@@ -1,14 +1,13 @@
 -- `chunk_slots::corner_test` meets its contract: what is left from place i on gives the answer. Assumes nothing.
 use borrow.Author.Tests.{lt-ltb, eq-eqb}
 use Rattle.chunk_grid.specs.Values.{gridOf}
-use Rattle.chunk_grid.specs.Shapes.{given}
 use Rattle.chunk_slots.proofs.Corners.{other-rank, corner-small, corner-pos, aligned-step, below-step, unaligned-here, outside-here, passes}
 use borrow.Author.Needs.{needs}
 use Prim.Native.Nat.{_-_, _≤_}
 use mathlib.Core.Path.{_≡_, refl, sym, _∙_}
 use native.Mathlib.Omega.{arith}
 use lib.ListN.{length, take, drop}
-use Rattle.chunk_grid.specs.Grid.{below, aligned}
+use Rattle.chunk_grid.specs.Grid.{below, aligned, given}
 use Rattle.chunk_slots.proofs.corner_test.Statement.{statement}
 use Rattle.chunk_slots.proofs.corner_test.Tie as tie
 

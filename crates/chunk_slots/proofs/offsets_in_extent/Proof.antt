@@ -2,8 +2,8 @@
 use Prim.Native.Nat.{_-_, _<_, _≤_}
 use native.Mathlib.Omega.{arith}
 use mathlib.Core.Path.{_≡_}
-use Rattle.chunk_grid.specs.Grid.{Grid, inExtent}
-use Rattle.chunk_grid.specs.Values.{GridNumbers, Extents}
+use Rattle.chunk_grid.specs.Grid.{Grid}
+use Rattle.chunk_grid.specs.Values.{GridNumbers, Extents, inExtent}
 use Rattle.chunk_slots.specs.Values.{handed}
 use borrow.Author.Needs.{needs}
 use borrow.Author.Tests.{not-true, not-false}

@@ -6,9 +6,8 @@ use native.Mathlib.Omega.{arith}
 use lib.ListN.{length, getD}
 use Rattle.refusal.specs.declared.Checked.the-variants.{Passed}
 use Rattle.refusal.specs.Refusals.{largest64}
-use Rattle.refusal.specs.Outcome.{countedOf}
-use Rattle.chunk_grid.specs.Grid.{gridTest}
-use Rattle.chunk_grid.specs.Shapes.{given}
+use Rattle.refusal.specs.Values.{countedOf}
+use Rattle.chunk_grid.specs.Grid.{gridTest, given}
 use Rattle.chunk_grid.specs.Values.{gridOf, GridNumbers, Extents}
 use Rattle.index.specs.Index.{Listing}
 use Rattle.elements.specs.Elements.{Elements}

@@ -6,7 +6,8 @@ use native.Mathlib.Omega.{arith}
 use borrow.Author.Needs.{needs}
 use lib.ListN.{length}
 use Rattle.refusal.specs.declared.Counted.the-variants.{Count, Refused}
-use Rattle.refusal.specs.Outcome.{accepted, also, inRoom, countedOf}
+use Rattle.refusal.specs.Outcome.{accepted, also, inRoom}
+use Rattle.refusal.specs.Values.{countedOf}
 use Rattle.refusal.proofs.Outcomes.{room-refused, room-small, room-fits}
 use Rattle.refusal.proofs.Counts.{counted-inv, refused-inv}
 use Rattle.ea_blocks.specs.Values.{arrayOf}

@@ -6,8 +6,7 @@ use Prim.Native.Nat.{_≤_}
 use lib.ListN.{length}
 use Rattle.refusal.specs.declared.Checked.{Checked}
 use Rattle.refusal.specs.declared.Checked.the-variants.{Passed}
-use Rattle.chunk_grid.specs.Grid.{Grid, shapesTest, gridTest}
-use Rattle.chunk_grid.specs.Shapes.{isUnlimitedFirst, given}
+use Rattle.chunk_grid.specs.Grid.{Grid, shapesTest, gridTest, isUnlimitedFirst, given}
 use Rattle.chunk_grid.specs.Values.{whereTested, numberingTest}
 use Rattle.chunk_grid.proofs.Numbered.{refused-by, given-lengths, tests-given, same-grid}
 use borrow.Author.Needs.{needs}

@@ -2,7 +2,7 @@
 use mathlib.Core.Path.{sym, ap, _∙_}
 use mathlib.Core.Logic.{⊎-elim}
 use native.Mathlib.Omega.{arith}
-use Rattle.refusal.specs.Refusals.{refusalOf}
+use Rattle.refusal.specs.Values.{refusalOf}
 use Rattle.refusal.specs.declared.Checked.{Checked}
 use Rattle.fields.specs.Fields.{isWidth}
 use Rattle.element_form.specs.declared.Form.{Form}

@@ -7,7 +7,8 @@ use native.Mathlib.Omega.{arith}
 use borrow.Author.Tests.{not-true, not-false}
 use lib.ListN.{length}
 use Rattle.refusal.specs.declared.Checked.the-variants.{Passed}
-use Rattle.refusal.specs.Outcome.{accepted, countedOf}
+use Rattle.refusal.specs.Outcome.{accepted}
+use Rattle.refusal.specs.Values.{countedOf}
 use Rattle.refusal.proofs.Tests.{then-inv}
 use Rattle.chunk_grid.specs.Grid.{Grid}
 use Rattle.fields.specs.Fields.{isWidth}

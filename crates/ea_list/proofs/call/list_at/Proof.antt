@@ -1,6 +1,6 @@
 -- `ea_list::call::list_at` meets its contract. Assumes nothing.
 use borrow.Author.Needs.{needs}
-use Rattle.chunk_grid.specs.Shapes.{given}
+use Rattle.chunk_grid.specs.Grid.{given}
 use Rattle.chunk_grid.specs.Values.{gridOf}
 use Rattle.calls.specs.Call.{gridGiven}
 use Rattle.ea_calls.proofs.Calls.{read-as}

@@ -3,7 +3,7 @@ use Prim.Native.Nat.{_≤_}
 use mathlib.Core.Path.{sym, _∙_}
 use lib.Dec.{lit≤}
 use Rattle.refusal.proofs.Tests.{then-inv}
-use Rattle.chunk_grid.specs.Shapes.{given}
+use Rattle.chunk_grid.specs.Grid.{given}
 use Rattle.chunk_grid.proofs.Grids.{accepted as grid-accepted}
 use Rattle.shapes.proofs.Shapes.{BeginsWith, stored-shape}
 use Rattle.calls.specs.Call.{gridGiven}

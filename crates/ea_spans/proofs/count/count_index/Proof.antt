@@ -4,7 +4,8 @@ use mathlib.Core.Bool.{false}
 use native.Mathlib.Omega.{arith}
 use borrow.Author.Needs.{needs}
 use Rattle.refusal.specs.declared.Checked.the-variants.{Passed}
-use Rattle.refusal.specs.Outcome.{also, countedOf}
+use Rattle.refusal.specs.Outcome.{also}
+use Rattle.refusal.specs.Values.{countedOf}
 use Rattle.refusal.proofs.Tests.{then-inv}
 use Rattle.refusal.proofs.Outcomes.{yields-passed, yields-refused}
 use Rattle.fields.specs.Fields.{undefined}

@@ -6,7 +6,7 @@ use native.Mathlib.Omega.{arith}
 use borrow.Author.Needs.{needs}
 use Rattle.refusal.specs.declared.Checked.the-variants.{Passed}
 use Rattle.refusal.specs.declared.Counted.the-variants.{Count}
-use Rattle.refusal.specs.Outcome.{countedOf}
+use Rattle.refusal.specs.Values.{countedOf}
 use Rattle.refusal.proofs.Outcomes.{yields-passed, yields-refused}
 use Rattle.ea_geometry.specs.Sizes.{blocks}
 use Rattle.ea_geometry.proofs.Counts.{blocks-few}

@@ -7,7 +7,7 @@ use borrow.Author.Needs.{needs}
 use lib.ListN.{length}
 use Rattle.refusal.specs.declared.Checked.the-variants.{Passed}
 use Rattle.refusal.specs.declared.Counted.the-variants.{Count}
-use Rattle.refusal.specs.Outcome.{countedOf}
+use Rattle.refusal.specs.Values.{countedOf}
 use Rattle.element_form.specs.Form.{stride, elementSizeTest}
 use Rattle.element_form.proofs.Forms.{sized-width, sized-stride}
 use Rattle.elements.proofs.Turns.{fewer-lie, left-run, left-none, left-refused}

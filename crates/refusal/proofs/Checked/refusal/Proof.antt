@@ -1,6 +1,6 @@
 -- `refusal::Checked::refusal` meets its contract. Assumes nothing.
 use mathlib.Core.Path.{ap, sym, _∙_}
-use Rattle.refusal.specs.Refusals.{refusalOf}
+use Rattle.refusal.specs.Values.{refusalOf}
 use borrow.Author.Needs.{needs}
 use Rattle.refusal.proofs.Checked.refusal.Statement.{statement}
 use Rattle.refusal.proofs.Checked.refusal.Tie as tie
