@@ -37,19 +37,14 @@ pub fn grid_order(order: u64) -> GridOrder
 }
 
 // The grid of a dataset's shapes, each in 8 bytes a dimension; a maximum is given unless its flag is 0.
-pub fn read_grid(
-    order: u64,
-    rank: u64,
-    chunk: &[u8],
-    present: &[u8],
-    has_maximum: u64,
-    maximum: &[u8],
-) -> Built
-    ensures { λ r. ⌜ (let grid = gridGiven order rank (now (chunk .entry)) (now (present .entry)) «has_maximum» (now (maximum .entry)) in
+pub fn read_grid(numbers: CallNumbers, chunk: &[u8], present: &[u8], maximum: &[u8]) -> Built
+    ensures { λ r. ⌜ (let grid = gridGiven (numbers .order) (numbers .rank) (now (chunk .entry)) (now (present .entry))
+        (numbers .«has_maximum») (now (maximum .entry)) in
         (r .checked ≡ gridTest grid) × (gridOf (r .grid) ≡ whereTested (r .checked) grid)) ⌝ }
 {
-    let order = grid_order(order);
-    grid_from_bytes(rank, chunk, present, has_maximum != 0, maximum, order)
+    let order = grid_order(numbers.order);
+    let has_maximum = numbers.has_maximum != 0;
+    grid_from_bytes(numbers.rank, chunk, present, has_maximum, maximum, order)
 }
 
 // The number of an answer that is asked for by its place; where there is none, the first.

@@ -4,6 +4,7 @@ ghost use Rattle.refusal.specs.declared.Checked.the-variants.{Passed};
 ghost use Rattle.refusal.specs.Refusals.{_then_};
 ghost use Rattle.checksum.specs.Lookup3.{lookup3};
 ghost use Rattle.ea_header.specs.Header.{headerAt, headerTest};
+use calls::CallNumbers;
 use ea_header::ExtensibleArrayHeader;
 use ea_header::Parameters;
 use ea_header::Parsed;
@@ -16,18 +17,17 @@ pub struct CallRead {
     pub header: ExtensibleArrayHeader,
 }
 
-// Reads the header at an address. All of its refusals come first, then that of the call's grid, which is tested before.
-pub fn read_call(
-    file: &[u8],
-    offset_size: u64,
-    length_size: u64,
-    address: u64,
-    checked: Checked,
-) -> CallRead
-    ensures { λ r. ⌜ (r .checked ≡ (headerTest lookup3 (now (file .entry)) address «offset_size» «length_size» then checked))
-        × (r .checked ≡ Passed → r .header ≡ headerAt (now (file .entry)) address «offset_size» «length_size») ⌝ }
+// Reads the header at a call's address. All of its refusals come first, then that of the call's grid, which is tested
+// before.
+pub fn read_call(file: &[u8], numbers: CallNumbers, checked: Checked) -> CallRead
+    ensures { λ r. ⌜ (r .checked
+        ≡ (headerTest lookup3 (now (file .entry)) (numbers .address) (numbers .«offset_size») (numbers .«length_size») then checked))
+        × (r .checked ≡ Passed
+        → r .header ≡ headerAt (now (file .entry)) (numbers .address) (numbers .«offset_size») (numbers .«length_size»)) ⌝ }
 {
-    match ExtensibleArrayHeader::parse(file, address, offset_size, length_size) {
+    let offset_size = numbers.offset_size;
+    let length_size = numbers.length_size;
+    match ExtensibleArrayHeader::parse(file, numbers.address, offset_size, length_size) {
         Parsed::Header(header) => CallRead { checked, header },
         Parsed::Refused(r) => CallRead {
             checked: Checked::Refused(r),

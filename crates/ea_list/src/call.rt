@@ -30,22 +30,9 @@ pub fn list_at(
         × (now (list .exit) ≡ listContent answer (now (list .entry)))
         × ((n : ℕ) → r ≡ Count n → 0 < numbers .rank → ExactList (callIndex call) (recordsIn (numbers .rank) n (now (list .exit))) n)) ⌝ }
 {
-    let built = read_grid(
-        numbers.order,
-        numbers.rank,
-        chunk,
-        present,
-        numbers.has_maximum,
-        maximum,
-    );
+    let built = read_grid(numbers, chunk, present, maximum);
     let tested = built.checked;
-    let read = read_call(
-        file,
-        numbers.offset_size,
-        numbers.length_size,
-        numbers.address,
-        tested,
-    );
+    let read = read_call(file, numbers, tested);
     let checked = read.checked;
     if let Checked::Refused(r) = checked {
         return Counted::Refused(r);

@@ -36,22 +36,9 @@ pub fn lookup_at(
         × Answered (lookupAt call at) (callIndex call) at r
         × ((room : ℕ) → Agreed (listAt call room) (call .grid) at r)) ⌝ }
 {
-    let built = read_grid(
-        numbers.order,
-        numbers.rank,
-        chunk,
-        present,
-        numbers.has_maximum,
-        maximum,
-    );
+    let built = read_grid(numbers, chunk, present, maximum);
     let tested = built.checked;
-    let read = read_call(
-        file,
-        numbers.offset_size,
-        numbers.length_size,
-        numbers.address,
-        tested,
-    );
+    let read = read_call(file, numbers, tested);
     let checked = read.checked;
     if let Checked::Refused(r) = checked {
         return Found::Refused(r);
