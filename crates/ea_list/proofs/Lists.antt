@@ -30,7 +30,7 @@ use Rattle.ea_blocks.specs.Values.{arrayOf, headed}
 use Rattle.ea_walk.specs.Walk.{located, walk, list, elementsIn}
 use Rattle.ea_walk.proofs.Given.{elements-read}
 use Rattle.ea_walk.proofs.Walks.{walk-right}
-use Rattle.ea_list.specs.Runs.{Walked}
+use Rattle.ea_list.specs.Values.{Walked}
 use Rattle.ea_list.proofs.Walked.{walkedIn, walked-right}
 
 -- records that have room for their number have room for their bytes

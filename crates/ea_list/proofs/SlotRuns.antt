@@ -18,7 +18,7 @@ use Rattle.element_form.specs.Form.{stride}
 use Rattle.elements.specs.Elements.{Elements}
 use Rattle.elements.proofs.Induction.{PagesAt}
 use Rattle.located.specs.declared.Run.the-variants.{Gap, Elements as Present}
-use Rattle.located.specs.Runs.{RunOf}
+use Rattle.located.specs.Values.{RunOf}
 use Rattle.located.proofs.Paths.{LeadsTo, LeadsNowhere}
 use Rattle.located.proofs.Runs.{gap-run, elements-run}
 use Rattle.ea_header.specs.declared.Parameters.{Parameters}
@@ -42,7 +42,7 @@ use Rattle.ea_walk.specs.Walk.{located}
 use Rattle.ea_walk.proofs.Paths.{Ready}
 use Rattle.ea_walk.proofs.Slots.{inline-at, block-at, page-at, inline-slots, past-slots, super-slots, undefined-slots, block-slots, page-slots}
 use Rattle.ea_walk.proofs.Passed.{super-passed, block-passed, page-passed}
-use Rattle.ea_list.specs.Runs.{TestedTo, RunIn}
+use Rattle.ea_list.specs.Values.{TestedTo, RunIn}
 
 -- n slots from s on: those from slot i on, without elements or with
 module _ (a : Array) (e : Elements) (file : e .file ≡ a .file) (s n i slot : ℕ) (lt : i < n) (q : slot ≡ s + i) where

@@ -22,7 +22,7 @@ use Rattle.elements.specs.Elements.{Elements}
 use Rattle.elements.specs.Values.{elementsOf}
 use Rattle.located.specs.declared.Run.{Run}
 use Rattle.located.specs.Located.{Located}
-use Rattle.located.specs.Runs.{RunOf}
+use Rattle.located.specs.Values.{RunOf}
 use Rattle.located.proofs.Paths.{path-tested}
 use Rattle.located.proofs.Walks.{Right}
 use Rattle.ea_blocks.specs.declared.ExtensibleArray.{ExtensibleArray}
@@ -33,7 +33,7 @@ use Rattle.ea_blocks.proofs.StructureTests.{array-passed, index-in-file}
 use Rattle.ea_walk.specs.Walk.{located, fromInline, walk}
 use Rattle.ea_walk.proofs.Walks.{walk-right}
 use Rattle.ea_count.proofs.Heads.{unreadable-pointer, unreadable-element}
-use Rattle.ea_list.specs.Runs.{Walked, TestedTo, RunIn}
+use Rattle.ea_list.specs.Values.{Walked, TestedTo, RunIn}
 
 module _ {f : List ℕ} {array : ExtensibleArray} {r : ElementReader} {chunk bound down : List ℕ} {l : List Rec}
     (w : Walked f array r chunk bound down l) where

@@ -3,7 +3,7 @@ ghost use Rattle.ea_geometry.specs.Slots.{InBlock};
 ghost use Rattle.ea_blocks.specs.declared.enter.Entered.the-variants.{At};
 ghost use Rattle.ea_blocks.specs.Values.{arrayOf};
 ghost use Rattle.ea_blocks.specs.Entered.{EnteredSuper, EnteredBlock};
-ghost use Rattle.ea_list.specs.Runs.{TestedTo, RunIn};
+ghost use Rattle.ea_list.specs.Values.{TestedTo, RunIn};
 use ea_blocks::ExtensibleArray;
 use ea_blocks::pointers::Pointer;
 use ea_blocks::pointers::block_pointer;

@@ -6,7 +6,7 @@ ghost use lib.ListN.{length};
 ghost use lib.Seq.{sets};
 ghost use Rattle.index.specs.Index.{Rec};
 ghost use Rattle.records.specs.Records.{listBytes};
-ghost use Rattle.ea_list.specs.Runs.{Walked};
+ghost use Rattle.ea_list.specs.Values.{Walked};
 use crate::runs::run_of;
 use ea_blocks::ExtensibleArray;
 use element_runs::count::below_count;

@@ -9,7 +9,7 @@ use Rattle.refusal.specs.Outcome.{accepted}
 use Rattle.refusal.proofs.Outcomes.{yields-inv}
 use Rattle.chunk_grid.proofs.Grids.{accepted as grid-accepted}
 use Rattle.index.specs.Index.{Rec}
-use Rattle.index.specs.Records.{records}
+use Rattle.index.specs.SlotRecords.{records}
 use Rattle.index.specs.ExactList.{ExactList}
 use Rattle.elements.specs.Elements.{Elements}
 use Rattle.located.specs.Located.{indexOf}

@@ -9,7 +9,7 @@ use Rattle.io.proofs.Counting.{counts}
 use Rattle.refusal.specs.declared.Counted.{Counted}
 use Rattle.refusal.specs.Values.{countedOf}
 use Rattle.records.specs.Records.{listContent}
-use Rattle.questions.specs.Line.{fileOf, questionOf, storedOf}
+use Rattle.questions.specs.Line.{fileOf, questionOf, numbersStored}
 use Rattle.list_text.specs.Printed.{Put}
 use Rattle.eals.specs.Program.{listingOf, countedText, unreadableText, parsedText, programText}
 use Rattle.questions.specs.declared.Question.{Question}
@@ -18,7 +18,7 @@ use Rattle.questions.specs.declared.Parsed.the-variants.{Asked, Unreadable}
 module _ (input numbers list : List ℕ) where
   -- a question is answered
   pub asked : (q : Question) → questionOf input ≡ Asked q → (stored file content : List ℕ) (counted : Counted)
-      → stored ≡ storedOf input numbers → file ≡ fileOf input
+      → stored ≡ numbersStored input numbers → file ≡ fileOf input
       → counted ≡ countedOf (listingOf q stored file (length list)) → content ≡ listContent (listingOf q stored file (length list)) list
       → countedText (q .rank) counted content ≡ programText input numbers list
   unfolding programText parsedText

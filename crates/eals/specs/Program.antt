@@ -8,7 +8,7 @@ use Rattle.index.specs.Index.{Listing}
 use Rattle.refusal.specs.Values.{countedOf}
 use Rattle.calls.specs.Call.{gridGiven, callOf}
 use Rattle.ea_calls.specs.Call.{listAt}
-use Rattle.questions.specs.Line.{fileOf, questionOf, storedOf}
+use Rattle.questions.specs.Line.{fileOf, questionOf, numbersStored}
 use Rattle.records.specs.Records.{recordLength, listContent, recordsIn}
 use Rattle.list_text.specs.Printed.{listText, refusalText}
 use Rattle.questions.specs.declared.Question.{Question}
@@ -32,9 +32,9 @@ countedText rank (Count n) list = listText (recordsIn rank n list)
 countedText rank (Refused r) list = refusalText r
 
 -- how many records there are
-unfoldable pub countOf : Counted → ℕ
-countOf (Count n) = n
-countOf (Refused r) = 0
+unfoldable pub recordsCounted : Counted → ℕ
+recordsCounted (Count n) = n
+recordsCounted (Refused r) = 0
 
 -- For a line of another form, or too long a file, `unreadable` is printed.
 abbrev pub unreadableText : List ℕ
@@ -49,4 +49,4 @@ parsedText (Asked q) numbers file list =
 
 -- The program reads the line and the file behind it, lists the chunks, and prints.
 unfoldable pub programText : List ℕ → List ℕ → List ℕ → List ℕ
-programText input numbers list = parsedText (questionOf input) (storedOf input numbers) (fileOf input) list
+programText input numbers list = parsedText (questionOf input) (numbersStored input numbers) (fileOf input) list

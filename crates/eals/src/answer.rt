@@ -7,7 +7,7 @@ ghost use Rattle.refusal.specs.Values.{countedOf};
 ghost use Rattle.records.specs.Records.{recordLength};
 ghost use Rattle.records.specs.Records.{listContent};
 ghost use Rattle.list_text.specs.Printed.{Put};
-ghost use Rattle.eals.specs.Program.{listingOf, countedText, countOf, programText};
+ghost use Rattle.eals.specs.Program.{listingOf, countedText, recordsCounted, programText};
 use calls::CallNumbers;
 use ea_list::call::list_at;
 use list_text::put_list;
@@ -52,7 +52,7 @@ fn list_chunks(list: &mut [u8], numbers: &[u8], file: &[u8], question: Question)
 
 // Puts the text of an answer into out, and answers where it ends.
 fn put_counted(out: &mut [u8], list: &[u8], counted: Counted, rank: usize) -> usize
-    requires { ⌜ (countOf counted * recordLength rank ≤ length (now list)) × (length (now list) ≡ 65536)
+    requires { ⌜ (recordsCounted counted * recordLength rank ≤ length (now list)) × (length (now list) ≡ 65536)
         × (300000 ≤ length (now out)) ⌝ }
     ensures { λ r. ⌜ Put (now (out .entry)) 0 (countedText rank counted (now (list .entry))) (now (out .exit)) r ⌝ }
     ensures { λ r. ⌜ r ≤ 300000 ⌝ }

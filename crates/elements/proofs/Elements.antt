@@ -19,7 +19,7 @@ use Rattle.chunk_grid.specs.declared.Offsets.the-variants.{Inside, Dropped, Ref
 use Rattle.element_form.specs.Form.{elementSizeTest}
 use Rattle.index.specs.declared.Entry.{Entry}
 use Rattle.index.specs.Index.{Rec, Listing}
-use Rattle.index.specs.Records.{recordOf}
+use Rattle.index.specs.SlotRecords.{recordOf}
 use Rattle.elements.specs.Elements.{Elements, undefinedElement, entryAt, entryTest, element}
 use Rattle.elements.specs.declared.Found.the-variants.{Chunk}
 use Rattle.elements.specs.Runs.{alsoElement}

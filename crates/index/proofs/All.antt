@@ -4,7 +4,7 @@ use mathlib.Core.Path.{_≡_, refl}
 use mathlib.Core.List.{List, [], _∷_, List·Memᴰ, List·Memᴰ·head, List·Memᴰ·tail}
 use mathlib.Core.Option.{some}
 use Rattle.index.specs.Index.{Index, Rec}
-use Rattle.index.specs.Records.{recordAt, records}
+use Rattle.index.specs.SlotRecords.{recordAt, records}
 use Rattle.index.proofs.Records.{listed}
 
 unfoldable pub All : (Rec → Type 0) → List Rec → Type 0

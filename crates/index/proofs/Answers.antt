@@ -14,7 +14,7 @@ use Rattle.chunk_grid.proofs.Grids.{Accepted}
 use Rattle.chunk_grid.proofs.Chunks.{slot-chunk-at}
 use Rattle.index.specs.declared.Entry.{Entry}
 use Rattle.index.specs.Index.{Index, Rec}
-use Rattle.index.specs.Records.{recordAt}
+use Rattle.index.specs.SlotRecords.{recordAt}
 use Rattle.index.specs.ExactList.{Stored, ExactList, Answers, Agrees}
 use Rattle.index.proofs.Records.{none-some, record-at}
 use Rattle.index.proofs.Exact.{stored-record}

@@ -13,7 +13,7 @@ use Rattle.chunk_grid.proofs.Grids.{Accepted}
 use Rattle.chunk_grid.proofs.Chunks.{chunk-at-slot, slot-chunk-at}
 use Rattle.index.specs.declared.Entry.{Entry}
 use Rattle.index.specs.Index.{Index, Rec}
-use Rattle.index.specs.Records.{recordOf, recordAt, with, records}
+use Rattle.index.specs.SlotRecords.{recordOf, recordAt, with, records}
 use Rattle.index.specs.ExactList.{Stored, Used, Tally, hit, miss, end, Rising, ExactList}
 use Rattle.index.proofs.Records.{none-some, record-at, listed, whole}
 

@@ -12,7 +12,7 @@ use Rattle.chunk_grid.proofs.Grids.{Accepted, length-offsets}
 use Rattle.chunk_grid.proofs.Chunks.{chunk-at-inv}
 use Rattle.index.specs.declared.Entry.{Entry}
 use Rattle.index.specs.Index.{Index, Rec}
-use Rattle.index.specs.Records.{recordOf, recordAt, with, records}
+use Rattle.index.specs.SlotRecords.{recordOf, recordAt, with, records}
 use Rattle.index.proofs.Steps.{first-slot, other-slots}
 
 pub none-some : {A : Type 0} (a : A) → none ≡ some a → ⊥

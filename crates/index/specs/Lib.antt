@@ -1,3 +1,3 @@
 pub mod Index
 pub mod ExactList
-pub mod Records
+pub mod SlotRecords

@@ -20,7 +20,7 @@ use Rattle.refusal.proofs.Counts.{counted-inv}
 use Rattle.chunk_grid.specs.Grid.{gridTest}
 use Rattle.chunk_grid.proofs.Grids.{accepted as grid-accepted}
 use Rattle.index.specs.Index.{Rec, Listing}
-use Rattle.index.specs.Records.{recordAt, records}
+use Rattle.index.specs.SlotRecords.{recordAt, records}
 use Rattle.index.specs.ExactList.{ExactList}
 use Rattle.index.proofs.Records.{none-some, record-rank}
 use Rattle.index.proofs.All.{All, records-all}

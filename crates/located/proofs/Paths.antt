@@ -15,12 +15,12 @@ use Rattle.chunk_grid.specs.declared.Slot.{Slot}
 use Rattle.chunk_grid.specs.declared.Slot.the-variants.{At, NoSlot}
 use Rattle.index.specs.declared.Entry.{Entry}
 use Rattle.index.specs.Index.{Rec}
-use Rattle.index.specs.Records.{recordOf, recordAt}
+use Rattle.index.specs.SlotRecords.{recordOf, recordAt}
 use Rattle.index.proofs.Answers.{slotRecord}
 use Rattle.elements.specs.Elements.{undefinedElement, element}
 use Rattle.elements.proofs.Elements.{some-is, element-record}
 use Rattle.located.specs.Located.{Located, heldIn, indexOf, path, slotPath}
-use Rattle.located.specs.Runs.{HasAt}
+use Rattle.located.specs.Values.{HasAt}
 
 -- slot s has its element at pos, and what leads to it has passed its tests
 pub record LeadsTo (x : Located) (s pos : ℕ) : Type 0 where

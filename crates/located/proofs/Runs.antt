@@ -11,14 +11,14 @@ use lib.ListN.{length}
 use Rattle.refusal.specs.Outcome.{accepted}
 use Rattle.refusal.proofs.Tests.{lt-or-ge}
 use Rattle.element_form.specs.Form.{stride}
-use Rattle.index.specs.Records.{recordAt, records}
+use Rattle.index.specs.SlotRecords.{recordAt, records}
 use Rattle.index.proofs.Steps.{first, others}
 use Rattle.index.proofs.Records.{records-none}
 use Rattle.elements.specs.Runs.{elementsFrom}
 use Rattle.elements.proofs.Answers.{also-element}
 use Rattle.located.specs.declared.Run.the-variants.{Gap, Elements}
 use Rattle.located.specs.Located.{Located, indexOf, path}
-use Rattle.located.specs.Runs.{HasAt, RunOf}
+use Rattle.located.specs.Values.{HasAt, RunOf}
 use Rattle.located.proofs.Paths.{unreached, path-element}
 
 module _ (x : Located) where

@@ -13,7 +13,7 @@ use Rattle.refusal.specs.Outcome.{accepted}
 use Rattle.refusal.proofs.Outcomes.{yields-inv}
 use Rattle.chunk_grid.proofs.Grids.{Accepted}
 use Rattle.index.specs.Index.{Rec, Listing}
-use Rattle.index.specs.Records.{recordAt, with, records}
+use Rattle.index.specs.SlotRecords.{recordAt, with, records}
 use Rattle.index.specs.ExactList.{ExactList}
 use Rattle.index.proofs.Records.{from, from-end, from-more, from-first}
 use Rattle.index.proofs.Exact.{records-exact}

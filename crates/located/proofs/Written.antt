@@ -9,14 +9,14 @@ use lib.ListN.{length, length-append}
 use lib.Seq.{sets}
 use Rattle.refusal.specs.Outcome.{accepted}
 use Rattle.index.specs.Index.{Rec}
-use Rattle.index.specs.Records.{records}
+use Rattle.index.specs.SlotRecords.{records}
 use Rattle.index.proofs.Records.{from, from-end, from-split}
 use Rattle.elements.specs.Runs.{elementsFrom}
 use Rattle.records.specs.Records.{listBytes}
 use Rattle.records.proofs.Records.{sets-append, list-append}
 use Rattle.located.specs.declared.Run.the-variants.{Gap, Elements}
 use Rattle.located.specs.Located.{Located, indexOf}
-use Rattle.located.specs.Runs.{RunOf}
+use Rattle.located.specs.Values.{RunOf}
 use Rattle.located.proofs.Walks.{Right}
 use Rattle.located.proofs.Runs.{gap-records, run-records}
 

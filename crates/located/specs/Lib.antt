@@ -1,2 +1,2 @@
 pub mod Located
-pub mod Runs
+pub mod Values

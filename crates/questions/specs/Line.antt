@@ -78,5 +78,5 @@ questionOf input = cond (fits input) (lineQuestion (words (lineOf input))) Unrea
 unfoldable pub lineStored : List (List ℕ) → List ℕ → List ℕ
 lineStored ws out = sets out 0 (offsetBytes (numbersFrom noQuestion 0 ws))
 
-unfoldable pub storedOf : List ℕ → List ℕ → List ℕ
-storedOf input out = cond (fits input) (lineStored (words (lineOf input)) out) out
+unfoldable pub numbersStored : List ℕ → List ℕ → List ℕ
+numbersStored input out = cond (fits input) (lineStored (words (lineOf input)) out) out

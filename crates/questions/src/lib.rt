@@ -5,7 +5,7 @@ ghost use Prim.Native.Nat.{_≤_};
 ghost use lib.ListN.{length};
 ghost use Rattle.questions.specs.Text.{words};
 ghost use Rattle.questions.specs.Line.{orderNumber, wordNumber, noQuestion, withNumber, lineQuestion, lineStored};
-ghost use Rattle.questions.specs.Line.{fileOf, questionOf, storedOf};
+ghost use Rattle.questions.specs.Line.{fileOf, questionOf, numbersStored};
 use fields::bytes::put_le;
 use text::Number;
 use text::is_only;
@@ -143,7 +143,7 @@ pub fn file_of(input: &[u8]) -> &[u8]
 pub fn parse(numbers: &mut [u8], input: &[u8]) -> Parsed
     requires { ⌜ 32768 ≤ length (now numbers) ⌝ }
     ensures { λ r. ⌜ r ≡ questionOf (now (input .entry)) ⌝ }
-    ensures { λ _. ⌜ now (numbers .exit) ≡ storedOf (now (input .entry)) (now (numbers .entry)) ⌝ }
+    ensures { λ _. ⌜ now (numbers .exit) ≡ numbersStored (now (input .entry)) (now (numbers .entry)) ⌝ }
 {
     let line = until(input, 0, b'\n');
     let file = file_of(input);

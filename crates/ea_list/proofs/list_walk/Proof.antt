@@ -16,7 +16,7 @@ use Rattle.records.specs.Records.{recordLength}
 use Rattle.records.proofs.Contents.{answer-refused, answer-accepted}
 use Rattle.ea_blocks.specs.Values.{arrayOf}
 use Rattle.ea_walk.specs.Walk.{walk}
-use Rattle.ea_list.specs.Runs.{Walked}
+use Rattle.ea_list.specs.Values.{Walked}
 use Rattle.ea_list.proofs.Lists.{walked-fits}
 use Rattle.ea_list.proofs.list_walk.Statement.{statement}
 use Rattle.ea_list.proofs.list_walk.Tie as tie

@@ -4,7 +4,7 @@ use mathlib.Core.Path.{_≡_, refl, ap}
 use Prim.Native.Nat.{ℕ}
 use native.Mathlib.Omega.{arith}
 use lib.ListN.{length}
-use Rattle.questions.specs.Line.{lineOf, questionOf, storedOf}
+use Rattle.questions.specs.Line.{lineOf, questionOf, numbersStored}
 use Rattle.questions.proofs.Inputs.{line-within, line-unended, line-long, file-long, input-fits}
 use borrow.Author.Needs.{needs}
 use Rattle.questions.proofs.parse.Statement.{statement}
@@ -16,26 +16,26 @@ unfolding lineOf
 line c = ap (λ (l : List ℕ). length l) (c .until .ensures .0)
 
 returns : tie.Need-returns
-unfolding questionOf storedOf
+unfolding questionOf numbersStored
 returns c =
     let input = c .before .before .before .before .before .args .input .now in
     rw (line-unended input (omega (arith, line (c .before .before), c .if1 .taken))) (refl, refl)
 
 returns-2 : tie.Need-returns-2
-unfolding questionOf storedOf
+unfolding questionOf numbersStored
 returns-2 c =
     let input = c .before .before .before .before .before .before .args .input .now in
     rw (line-long input (omega (arith, line (c .before .before .before), c .if2 .taken))) (refl, refl)
 
 returns-3 : tie.Need-returns-3
-unfolding questionOf storedOf
+unfolding questionOf numbersStored
 returns-3 c =
     let input = c .before .before .before .before .before .before .before .args .input .now in
     let told = ap (λ (l : List ℕ). length l) (c .before .before .before .file-of .ensures) in
     rw (file-long input (omega (arith, told, c .if3 .taken))) (refl, refl)
 
 returns-4 : tie.Need-returns-4
-unfolding questionOf storedOf lineOf
+unfolding questionOf numbersStored lineOf
 returns-4 c =
     let input = c .before .before .before .before .before .before .before .before .before .before .before .args .input .now in
     let found = c .before .before .before .before .before .before .before .before in

@@ -17,7 +17,7 @@ use Rattle.ea_blocks.specs.Values.{arrayOf}
 use Rattle.ea_blocks.specs.Structures.{pageSet}
 use Rattle.ea_blocks.proofs.StructureTests.{not-direct}
 use Rattle.ea_blocks.proofs.Entering.{entered-at, entered-super-room}
-use Rattle.ea_list.specs.Runs.{RunIn}
+use Rattle.ea_list.specs.Values.{RunIn}
 use Rattle.ea_list.proofs.SlotRuns.{run-room, block-run, page-gap, page-run}
 use borrow.Author.Needs.{needs}
 use Rattle.ea_list.proofs.runs.run_in_block.Statement.{statement}

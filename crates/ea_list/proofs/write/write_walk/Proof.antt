@@ -8,9 +8,9 @@ use lib.Seq.{length-sets}
 use Rattle.index.specs.Index.{Rec}
 use Rattle.records.specs.Records.{listBytes}
 use Rattle.located.specs.declared.Run.{Run}
-use Rattle.located.specs.Runs.{RunOf}
+use Rattle.located.specs.Values.{RunOf}
 use Rattle.located.proofs.Written.{Written, written-first, written-done, written-gap, written-fits, run-accepted, written-run}
-use Rattle.ea_list.specs.Runs.{Walked}
+use Rattle.ea_list.specs.Values.{Walked}
 use Rattle.ea_list.proofs.Walked.{walkedIn, walked-right, walked-to}
 use borrow.Author.Needs.{needs}
 use Rattle.ea_list.proofs.write.write_walk.Statement.{statement}

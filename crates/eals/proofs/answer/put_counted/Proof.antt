@@ -2,13 +2,13 @@
 use mathlib.Core.Path.{_≡_}
 use native.Mathlib.Omega.{arith}
 use Rattle.refusal.specs.declared.Counted.the-variants.{Count}
-use Rattle.eals.specs.Program.{countOf, countedText}
+use Rattle.eals.specs.Program.{recordsCounted, countedText}
 use borrow.Author.Needs.{needs}
 use Rattle.eals.proofs.answer.put_counted.Statement.{statement}
 use Rattle.eals.proofs.answer.put_counted.Tie as tie
 
 put-list-requires : tie.Need-put-list-requires
-unfolding countOf
+unfolding recordsCounted
 put-list-requires c κs =
     let s = c .before .before .before .before .before .before in
     let counted : s .args .counted ≡ Count (c .before .before .counted .given .0 .0) = c .before .before .counted .given .1 in

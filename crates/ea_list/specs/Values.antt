@@ -9,7 +9,7 @@ use Rattle.elements.specs.declared.ElementReader.{ElementReader}
 use Rattle.elements.specs.Elements.{Elements}
 use Rattle.elements.specs.Values.{elementsOf}
 use Rattle.located.specs.declared.Run.{Run}
-use Rattle.located.specs.Runs.{RunOf}
+use Rattle.located.specs.Values.{RunOf}
 use Rattle.ea_geometry.specs.Extents.{formOf}
 use Rattle.ea_geometry.specs.Place.{place}
 use Rattle.ea_blocks.specs.declared.ExtensibleArray.{ExtensibleArray}
