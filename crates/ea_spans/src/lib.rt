@@ -10,8 +10,6 @@ ghost use Rattle.ea_geometry.specs.Bounded.{Bounded};
 ghost use Rattle.ea_blocks.specs.Values.{arrayOf};
 ghost use Rattle.span_walk.specs.Walk.{indexSpans};
 ghost use Rattle.ea_spans.specs.SpanList.{roomOf, spansInto, filled, addressOf, lengthOf};
-use crate::count::count_index;
-use crate::tests::parse_served;
 use crate::write::put_span;
 use crate::write::write_index;
 use ea_blocks::ExtensibleArray;
@@ -20,11 +18,10 @@ use ea_header::ExtensibleArrayHeader;
 use ea_header::Parsed;
 use refusal::Counted;
 use refusal::Refusal;
+use span_count::count::count_index;
+use span_count::tests::parse_served;
 use span_walk::Span;
 
-mod count;
-mod spans;
-mod tests;
 mod write;
 
 // Lists the spans of the index whose header lies at an address: their addresses and their lengths, from number 0 on. The

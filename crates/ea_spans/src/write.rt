@@ -13,14 +13,14 @@ ghost use Rattle.ea_blocks.specs.declared.enter.Entered.the-variants.{At};
 ghost use Rattle.span_walk.specs.Walk.{blockSpans, superSpans, supersFrom, indexSpans};
 ghost use Rattle.ea_spans.specs.SpanList.{filled, addressOf, lengthOf};
 ghost use Rattle.ea_spans.specs.Values.{Room, endOf};
-use crate::count::index_undefined;
-use crate::spans::block_length;
-use crate::spans::index_span;
-use crate::spans::super_span;
 use ea_blocks::ExtensibleArray;
 use ea_blocks::pointers::Pointer;
 use ea_blocks::pointers::block_pointer;
 use ea_blocks::pointers::super_pointer;
+use span_count::count::index_undefined;
+use span_count::spans::block_length;
+use span_count::spans::index_span;
+use span_count::spans::super_span;
 use span_walk::Span;
 
 // Stores a span as number i of the two lists.

@@ -54,6 +54,6 @@ returns-3 c = λ g chunk n x.
 pub all-inside-spec : {M : Type 1} → statement M
 all-inside-spec =
     tie.close
-    (tie.spec Inv-loop μ-loop returns loop-holds (search needs) (search needs) (search needs)
+    (tie.spec Inv-loop μ-loop returns loop-holds (λ c. omega arith) (λ c. omega arith) (λ c. omega arith)
     (λ c. omega (arith, dim (c .before))) (λ c. omega (arith, dim (c .before))) ceil-div-requires returns-2
-    (search needs) (search needs) loop-again returns-3)
+    (λ c. omega arith) (λ c. omega arith) loop-again returns-3)

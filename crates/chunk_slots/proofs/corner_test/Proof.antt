@@ -54,6 +54,6 @@ returns-4 c = passes _ _ (c .before .before .before .before .before .before .bef
 pub corner-test-spec : {M : Type 1} → statement M
 corner-test-spec =
     tie.close
-    (tie.spec Inv-loop μ-loop (search needs) returns loop-holds (search needs) (search needs) (search needs)
-    (search needs) rem-if2 (search needs) returns-2 (search needs) (search needs) (search needs) (search needs)
-    (search needs) returns-3 (search needs) (search needs) loop-again returns-4)
+    (tie.spec Inv-loop μ-loop (λ c. omega arith) returns loop-holds (λ c. omega arith) (λ c. omega arith) (λ c. omega arith)
+    (λ c. omega arith) rem-if2 (λ c. omega arith) returns-2 (λ c. omega arith) (λ c. omega arith) (λ c. omega arith) (λ c. omega arith)
+    (λ c. omega arith) returns-3 (λ c. omega arith) (λ c. omega arith) loop-again returns-4)

@@ -56,6 +56,6 @@ returns-2 c = λ g chunk numbers n x h. line-none g _ _ chunk _ n numbers _ x _ 
 pub line-from-spec : {M : Type 1} → statement M
 line-from-spec =
     tie.close
-    (tie.spec Inv-loop μ-loop loop-holds (search needs) (search needs) (search needs)
-    (λ c. omega (arith, dim c)) (λ c. omega (arith, dim c)) sub-left (search needs) returns rem-rest sub-lesser
-    (search needs) (search needs) (search needs) loop-again returns-2)
+    (tie.spec Inv-loop μ-loop loop-holds (λ c. omega arith) (λ c. omega arith) (λ c. omega arith)
+    (λ c. omega (arith, dim c)) (λ c. omega (arith, dim c)) sub-left (λ c. omega arith) returns rem-rest sub-lesser
+    (λ c. omega arith) (λ c. omega arith) (λ c. omega arith) loop-again returns-2)

@@ -72,10 +72,10 @@ returns-4 c = λ g n x. rw (c .before .if2 .left, c .if3 .left) at (ended (c .be
 pub offsets-in-extent-spec : {M : Type 1} → statement M
 offsets-in-extent-spec =
     tie.close
-    (tie.spec Inv-loop μ-loop (search needs) returns loop-holds (search needs) (search needs) (search needs)
+    (tie.spec Inv-loop μ-loop (λ c. omega arith) returns loop-holds (λ c. omega arith) (λ c. omega arith) (λ c. omega arith)
     (λ c. omega (arith, dim (c .before))) (λ c. omega (arith, dim (c .before)))
     (λ c. omega (arith, dim (c .before .before))) (λ c. omega (arith, dim (c .before .before)))
     quotient-requires (λ c κs. quotient-requires (c .before) κs) offset-below-requires
     (λ c. omega (arith, dim (c .before .before .before .before .before .before)))
     (λ c. omega (arith, dim (c .before .before .before .before .before .before))) offset-overflows-requires
-    (search needs) (search needs) loop-again (search needs) returns-2 returns-3 returns-4)
+    (λ c. omega arith) (λ c. omega arith) loop-again (λ c. omega arith) returns-2 returns-3 returns-4)

@@ -75,8 +75,8 @@ returns-4 c =
 pub slot-of-spec : {M : Type 1} → statement M
 slot-of-spec =
     tie.close
-    (tie.spec Inv-loop μ-loop loop-holds (search needs) (λ c. omega (arith, dim c)) (λ c. dim (c .before))
+    (tie.spec Inv-loop μ-loop loop-holds (λ c. omega arith) (λ c. omega (arith, dim c)) (λ c. dim (c .before))
     (λ c. omega (arith, dim (c .before))) (λ c. omega (arith, dim (c .before))) div-q
     (λ c. omega (arith, dim (c .before .before))) (λ c. omega (arith, dim (c .before .before))) returns
-    (search needs) (search needs) (search needs) (search needs) (search needs) returns-2 (search needs)
-    (search needs) (search needs) returns-3 (search needs) (search needs) loop-again returns-4)
+    (λ c. omega arith) (λ c. omega arith) (λ c. omega arith) (λ c. omega arith) (λ c. omega arith) returns-2 (λ c. omega arith)
+    (λ c. omega arith) (λ c. omega arith) returns-3 (λ c. omega arith) (λ c. omega arith) loop-again returns-4)

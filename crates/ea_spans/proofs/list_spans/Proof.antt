@@ -14,7 +14,7 @@ use Rattle.ea_blocks.specs.Values.{arrayOf}
 use Rattle.span_walk.specs.declared.Span.{Span}
 use Rattle.span_walk.specs.Walk.{Spanning, indexSpans}
 use Rattle.ea_spans.specs.SpanList.{roomOf}
-use Rattle.ea_spans.proofs.Counting.{counted-more, refused-more, index-bounded}
+use Rattle.span_count.proofs.Counting.{counted-more, refused-more, index-bounded}
 use Rattle.ea_spans.proofs.Writing.{Going, going-whole, going-put}
 use Rattle.ea_spans.proofs.SpanList.{ListedAs, listed-refused}
 use Rattle.ea_spans.proofs.list_spans.Statement.{statement}

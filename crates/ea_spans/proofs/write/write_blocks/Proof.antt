@@ -13,8 +13,8 @@ use Rattle.ea_blocks.proofs.Entering.{entered-super-room}
 use Rattle.span_walk.specs.Spans.{bytesOf}
 use Rattle.span_walk.specs.Walk.{Spanning, blockSpans}
 use Rattle.span_walk.proofs.Turns.{blocks-none}
-use Rattle.ea_spans.proofs.SpanTests.{span-is}
-use Rattle.ea_spans.proofs.SuperBlocks.{block-undefined, block-defined}
+use Rattle.span_count.proofs.SpanTests.{span-is}
+use Rattle.span_count.proofs.SuperBlocks.{block-undefined, block-defined}
 use Rattle.ea_spans.proofs.Writing.{Going, going-whole, going-as, going-lengths, going-none, going-fits, going-put, going-skip, going-block}
 use Rattle.ea_spans.proofs.write.write_blocks.Statement.{statement}
 use Rattle.ea_spans.proofs.write.write_blocks.Tie as tie

@@ -17,7 +17,7 @@ use Rattle.ea_blocks.proofs.StructureTests.{is-direct, not-direct}
 use Rattle.span_walk.specs.Spans.{spannedTest}
 use Rattle.span_walk.specs.Walk.{Spanning, blockSpans, superSpans}
 use Rattle.span_walk.proofs.Turns.{super-direct, super-none, super-defined}
-use Rattle.ea_spans.proofs.SuperBlocks.{entered-tested}
+use Rattle.span_count.proofs.SuperBlocks.{entered-tested}
 use Rattle.ea_spans.proofs.Writing.{Going, going-whole, going-as, going-none, going-fits, going-put}
 use Rattle.ea_spans.proofs.write.write_super.Statement.{statement}
 use Rattle.ea_spans.proofs.write.write_super.Tie as tie

@@ -1,12 +1,12 @@
--- `ea_spans::tests::test_span` meets its contract. Assumes nothing.
+-- `span_count::tests::test_span` meets its contract. Assumes nothing.
 use mathlib.Core.Path.{_∙_}
 use native.Mathlib.Omega.{arith}
 use borrow.Author.Needs.{needs}
 use Rattle.refusal.specs.Refusals.{figure}
 use Rattle.refusal.proofs.Tests.{then-first, then-second}
-use Rattle.ea_spans.proofs.SpanTests.{span-fits, span-past}
-use Rattle.ea_spans.proofs.tests.test_span.Statement.{statement}
-use Rattle.ea_spans.proofs.tests.test_span.Tie as tie
+use Rattle.span_count.proofs.SpanTests.{span-fits, span-past}
+use Rattle.span_count.proofs.tests.test_span.Statement.{statement}
+use Rattle.span_count.proofs.tests.test_span.Tie as tie
 
 returns : tie.Need-returns
 returns c = then-second _ _ (span-fits _ (omega arith))

@@ -1,4 +1,4 @@
--- `ea_spans::count::count_index` meets its contract. Assumes nothing.
+-- `span_count::count::count_index` meets its contract. Assumes nothing.
 use mathlib.Core.Path.{_≡_, sym, ap, _∙_}
 use mathlib.Core.Bool.{false}
 use native.Mathlib.Omega.{arith}
@@ -17,9 +17,9 @@ use Rattle.ea_blocks.proofs.StructureTests.{index-in-file}
 use Rattle.span_walk.specs.Spans.{spanOf, spannedTest}
 use Rattle.span_walk.specs.Walk.{supersFrom, indexSpans}
 use Rattle.span_walk.proofs.Turns.{index-none, index-defined}
-use Rattle.ea_spans.proofs.Counting.{counted-more, refused-more, supers-bounded}
-use Rattle.ea_spans.proofs.count.count_index.Statement.{statement}
-use Rattle.ea_spans.proofs.count.count_index.Tie as tie
+use Rattle.span_count.proofs.Counting.{counted-more, refused-more, supers-bounded}
+use Rattle.span_count.proofs.count.count_index.Statement.{statement}
+use Rattle.span_count.proofs.count.count_index.Tie as tie
 
 abbrev array : tie.Start → Array
 array s = arrayOf (s .args .file .now) (s .args .array)

@@ -1,9 +1,9 @@
--- `ea_spans::spans::block_length` meets its contract. Assumes nothing.
+-- `span_count::spans::block_length` meets its contract. Assumes nothing.
 use mathlib.Core.Path.{sym, _∙_}
 use borrow.Author.Needs.{needs}
 use Rattle.span_walk.specs.Spans.{blockLength}
-use Rattle.ea_spans.proofs.spans.block_length.Statement.{statement}
-use Rattle.ea_spans.proofs.spans.block_length.Tie as tie
+use Rattle.span_count.proofs.spans.block_length.Statement.{statement}
+use Rattle.span_count.proofs.spans.block_length.Tie as tie
 
 returns : tie.Need-returns
 unfolding blockLength

@@ -1,4 +1,4 @@
--- `ea_spans::count::count_super` meets its contract. Assumes nothing.
+-- `span_count::count::count_super` meets its contract. Assumes nothing.
 use mathlib.Core.Path.{_≡_, sym, ap, _∙_}
 use mathlib.Core.Bool.{true, false}
 use mathlib.Core.Logic.{inl}
@@ -17,10 +17,10 @@ use Rattle.ea_blocks.proofs.PointerValues.{pointer-undefined, pointer-at}
 use Rattle.ea_blocks.proofs.StructureTests.{is-direct, not-direct}
 use Rattle.span_walk.specs.Spans.{spannedTest}
 use Rattle.span_walk.proofs.Turns.{super-direct, super-none, super-defined}
-use Rattle.ea_spans.proofs.SuperBlocks.{entered-tested}
-use Rattle.ea_spans.proofs.Counting.{counted-more, block-spans-few}
-use Rattle.ea_spans.proofs.count.count_super.Statement.{statement}
-use Rattle.ea_spans.proofs.count.count_super.Tie as tie
+use Rattle.span_count.proofs.SuperBlocks.{entered-tested}
+use Rattle.span_count.proofs.Counting.{counted-more, block-spans-few}
+use Rattle.span_count.proofs.count.count_super.Statement.{statement}
+use Rattle.span_count.proofs.count.count_super.Tie as tie
 
 abbrev array : tie.Start → Array
 array s = arrayOf (s .args .file .now) (s .args .array)

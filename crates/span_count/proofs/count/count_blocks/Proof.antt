@@ -1,14 +1,14 @@
--- `ea_spans::count::count_blocks` meets its contract. Assumes nothing.
+-- `span_count::count::count_blocks` meets its contract. Assumes nothing.
 use Prim.Native.Nat.{_-_, _≤_}
 use mathlib.Core.Logic.{⊎-elim}
 use native.Mathlib.Omega.{arith}
 use borrow.Author.Needs.{needs}
 use Rattle.ea_blocks.specs.Values.{arrayOf}
 use Rattle.ea_blocks.proofs.Entering.{entered-super-room}
-use Rattle.ea_spans.proofs.SuperBlocks.{block-undefined, block-defined}
-use Rattle.ea_spans.proofs.Counting.{AtBlock, block-first, blocks-done, block-skip, block-counted}
-use Rattle.ea_spans.proofs.count.count_blocks.Statement.{statement}
-use Rattle.ea_spans.proofs.count.count_blocks.Tie as tie
+use Rattle.span_count.proofs.SuperBlocks.{block-undefined, block-defined}
+use Rattle.span_count.proofs.Counting.{AtBlock, block-first, blocks-done, block-skip, block-counted}
+use Rattle.span_count.proofs.count.count_blocks.Statement.{statement}
+use Rattle.span_count.proofs.count.count_blocks.Tie as tie
 
 abbrev Inv-loop : tie.InvT-loop
 Inv-loop file array u super-at blocks total₀ k₀ total k = (k ≤ blocks) × AtBlock (arrayOf file array) u blocks total k

@@ -1,4 +1,4 @@
--- `ea_spans::tests::parse_served` meets its contract. Assumes nothing.
+-- `span_count::tests::parse_served` meets its contract. Assumes nothing.
 use mathlib.Core.Path.{_≡_, sym, ap, _∙_}
 use Rattle.refusal.specs.declared.Checked.the-variants.{Passed}
 use Rattle.refusal.proofs.Tests.{then-second, then-first}
@@ -12,8 +12,8 @@ use Rattle.ea_header.proofs.Header.{header-after, refused-after, header-is, ref
 use Rattle.span_walk.specs.Spans.{spanTest, headerSpan}
 use Rattle.span_walk.specs.Walk.{headTest}
 use borrow.Author.Needs.{needs}
-use Rattle.ea_spans.proofs.tests.parse_served.Statement.{statement}
-use Rattle.ea_spans.proofs.tests.parse_served.Tie as tie
+use Rattle.span_count.proofs.tests.parse_served.Statement.{statement}
+use Rattle.span_count.proofs.tests.parse_served.Tie as tie
 
 returns : tie.Need-returns
 unfolding headTest

@@ -1,10 +1,10 @@
--- `ea_spans::spans::super_span` meets its contract. Assumes nothing.
+-- `span_count::spans::super_span` meets its contract. Assumes nothing.
 use borrow.Author.Needs.{needs}
 use Rattle.ea_blocks.specs.Structures.{startOf, extentOf}
 use Rattle.span_walk.specs.Spans.{bytesOf}
-use Rattle.ea_spans.proofs.SpanTests.{span-is}
-use Rattle.ea_spans.proofs.spans.super_span.Statement.{statement}
-use Rattle.ea_spans.proofs.spans.super_span.Tie as tie
+use Rattle.span_count.proofs.SpanTests.{span-is}
+use Rattle.span_count.proofs.spans.super_span.Statement.{statement}
+use Rattle.span_count.proofs.spans.super_span.Tie as tie
 
 returns : tie.Need-returns
 unfolding startOf extentOf bytesOf

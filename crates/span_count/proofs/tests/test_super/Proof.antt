@@ -1,9 +1,9 @@
--- `ea_spans::tests::test_super` meets its contract. Assumes nothing.
+-- `span_count::tests::test_super` meets its contract. Assumes nothing.
 use mathlib.Core.Path.{_∙_}
 use borrow.Author.Needs.{needs}
-use Rattle.ea_spans.proofs.SpanTests.{spanned-is}
-use Rattle.ea_spans.proofs.tests.test_super.Statement.{statement}
-use Rattle.ea_spans.proofs.tests.test_super.Tie as tie
+use Rattle.span_count.proofs.SpanTests.{spanned-is}
+use Rattle.span_count.proofs.tests.test_super.Statement.{statement}
+use Rattle.span_count.proofs.tests.test_super.Tie as tie
 
 returns : tie.Need-returns
 returns c e = c .test-span .ensures ∙ spanned-is _ _ _ _ (c .before .before .super-span .ensures _ e) (c .before .test-super-block .ensures e)

@@ -1,9 +1,9 @@
--- `ea_spans::tests::test_header_span` meets its contract. Assumes nothing.
+-- `span_count::tests::test_header_span` meets its contract. Assumes nothing.
 use mathlib.Core.Path.{_∙_}
 use borrow.Author.Needs.{needs}
-use Rattle.ea_spans.proofs.SpanTests.{header-fits, header-past}
-use Rattle.ea_spans.proofs.tests.test_header_span.Statement.{statement}
-use Rattle.ea_spans.proofs.tests.test_header_span.Tie as tie
+use Rattle.span_count.proofs.SpanTests.{header-fits, header-past}
+use Rattle.span_count.proofs.tests.test_header_span.Statement.{statement}
+use Rattle.span_count.proofs.tests.test_header_span.Tie as tie
 
 returns : tie.Need-returns
 returns c =

@@ -1,9 +1,9 @@
--- `ea_spans::tests::test_index` meets its contract. Assumes nothing.
+-- `span_count::tests::test_index` meets its contract. Assumes nothing.
 use mathlib.Core.Path.{_∙_}
 use borrow.Author.Needs.{needs}
-use Rattle.ea_spans.proofs.SpanTests.{spanned-is}
-use Rattle.ea_spans.proofs.tests.test_index.Statement.{statement}
-use Rattle.ea_spans.proofs.tests.test_index.Tie as tie
+use Rattle.span_count.proofs.SpanTests.{spanned-is}
+use Rattle.span_count.proofs.tests.test_index.Statement.{statement}
+use Rattle.span_count.proofs.tests.test_index.Tie as tie
 
 returns : tie.Need-returns
 returns c = c .test-span .ensures ∙ spanned-is _ _ _ _ (c .before .before .index-span .ensures _) (c .before .test-index-block .ensures)

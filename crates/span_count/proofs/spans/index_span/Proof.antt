@@ -1,12 +1,12 @@
--- `ea_spans::spans::index_span` meets its contract. Assumes nothing.
+-- `span_count::spans::index_span` meets its contract. Assumes nothing.
 use mathlib.Core.Path.{refl, _∙_}
 use native.Mathlib.Omega.{arith}
 use borrow.Author.Needs.{needs}
 use Rattle.ea_blocks.specs.Structures.{startOf, extentOf}
 use Rattle.span_walk.specs.Spans.{bytesOf}
-use Rattle.ea_spans.proofs.SpanTests.{span-is, index-exact}
-use Rattle.ea_spans.proofs.spans.index_span.Statement.{statement}
-use Rattle.ea_spans.proofs.spans.index_span.Tie as tie
+use Rattle.span_count.proofs.SpanTests.{span-is, index-exact}
+use Rattle.span_count.proofs.spans.index_span.Statement.{statement}
+use Rattle.span_count.proofs.spans.index_span.Tie as tie
 
 returns : tie.Need-returns
 unfolding startOf extentOf bytesOf

@@ -1,12 +1,12 @@
--- `ea_spans::count::count_supers` meets its contract. Assumes nothing.
+-- `span_count::count::count_supers` meets its contract. Assumes nothing.
 use Prim.Native.Nat.{_+_, _-_, _≤_}
 use mathlib.Core.Path.{sym, _∙_}
 use native.Mathlib.Omega.{arith}
 use borrow.Author.Needs.{needs}
 use Rattle.ea_blocks.specs.Values.{arrayOf}
-use Rattle.ea_spans.proofs.Counting.{AtSuper, super-first, supers-done, super-refused, super-counted, few-counted}
-use Rattle.ea_spans.proofs.count.count_supers.Statement.{statement}
-use Rattle.ea_spans.proofs.count.count_supers.Tie as tie
+use Rattle.span_count.proofs.Counting.{AtSuper, super-first, supers-done, super-refused, super-counted, few-counted}
+use Rattle.span_count.proofs.count.count_supers.Statement.{statement}
+use Rattle.span_count.proofs.count.count_supers.Tie as tie
 
 abbrev Inv-loop : tie.InvT-loop
 Inv-loop file array supers total₀ u₀ total u = (u ≤ supers) × AtSuper (arrayOf file array) supers total u

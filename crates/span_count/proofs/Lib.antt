@@ -1,0 +1,3 @@
+pub mod SpanTests
+pub mod SuperBlocks
+pub mod Counting
