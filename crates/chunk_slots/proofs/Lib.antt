@@ -1,5 +1,5 @@
 pub mod Extents
 pub mod Corners
-pub mod Reach
+pub mod AllInside
 pub mod Lines
 pub mod Handed

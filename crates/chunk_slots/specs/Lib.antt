@@ -1,3 +1,3 @@
 pub mod Values
-pub mod Reach
+pub mod AllInside
 pub mod Lines

@@ -11,7 +11,7 @@ ghost use Rattle.chunk_grid.specs.declared.Offsets.the-variants.{Inside};
 ghost use Rattle.chunk_grid.specs.Grid.{Grid, cornerTest, slotOf, gridTest};
 ghost use Rattle.chunk_grid.specs.Values.{gridOf, GridNumbers, GridCounts, Extents, inExtent};
 ghost use Rattle.chunk_slots.specs.Values.{handed};
-ghost use Rattle.chunk_slots.specs.Reach.{allInside};
+ghost use Rattle.chunk_slots.specs.AllInside.{allInside};
 ghost use Rattle.chunk_slots.specs.Lines.{InLine};
 use chunk_grid::ChunkGrid;
 use chunk_grid::Offsets;

@@ -23,8 +23,8 @@ use Rattle.fields.proofs.LittleEndian.{le-small}
 use Rattle.chunk_grid.specs.declared.Offsets.the-variants.{Inside}
 use Rattle.chunk_grid.specs.Grid.{Grid}
 use Rattle.chunk_grid.specs.Values.{inExtent}
-use Rattle.chunk_slots.specs.Reach.{allInside}
-use Rattle.chunk_slots.proofs.Reach.{all-inside}
+use Rattle.chunk_slots.specs.AllInside.{allInside}
+use Rattle.chunk_slots.proofs.AllInside.{all-inside}
 use Rattle.element_form.specs.declared.Form.{Form}
 use Rattle.element_form.specs.Form.{filtered, stride, sizeBytes, elementSizeTest}
 use Rattle.index.specs.Index.{Listing}

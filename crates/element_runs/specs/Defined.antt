@@ -5,7 +5,7 @@ use mathlib.Core.List.{List}
 use lib.Dec.{leb}
 use Rattle.fields.specs.Fields.{undefinedAt}
 use Rattle.chunk_grid.specs.Grid.{Grid}
-use Rattle.chunk_slots.specs.Reach.{allInside}
+use Rattle.chunk_slots.specs.AllInside.{allInside}
 use Rattle.element_form.specs.declared.Form.{Form}
 use Rattle.element_form.specs.Form.{filtered, sizeBytes}
 use Rattle.elements.specs.Elements.{chunkBytes}

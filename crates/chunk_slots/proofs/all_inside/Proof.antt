@@ -6,7 +6,7 @@ use borrow.Author.Needs.{needs}
 use borrow.Author.Tests.{not-true, not-false}
 use Rattle.chunk_grid.proofs.Places.{dim-lt}
 use Rattle.chunk_slots.proofs.Extents.{small, leads, down-pos, rooms, bound-room}
-use Rattle.chunk_slots.proofs.Reach.{Asking, asking-first, asking-done, asking-stop, asking-more, asked, unasked}
+use Rattle.chunk_slots.proofs.AllInside.{Asking, asking-first, asking-done, asking-stop, asking-more, asked, unasked}
 use Rattle.chunk_slots.proofs.all_inside.Statement.{statement}
 use Rattle.chunk_slots.proofs.all_inside.Tie as tie
 

@@ -15,7 +15,7 @@ use Rattle.refusal.proofs.Tests.{both, false-true}
 use Rattle.chunk_grid.specs.declared.Offsets.the-variants.{Inside}
 use Rattle.chunk_grid.specs.Grid.{Grid, every, ceilDiv, ordered, multiplier, multipliers, quotients, offsets, below, numbersNothing}
 use Rattle.chunk_grid.specs.Values.{dimAt, GridNumbers, Extents, inExtent}
-use Rattle.chunk_slots.specs.Reach.{allBelow, allInside}
+use Rattle.chunk_slots.specs.AllInside.{allBelow, allInside}
 use Rattle.chunk_grid.proofs.Grids.{multiplier-pos}
 use Rattle.chunk_grid.proofs.Places.{inOrder, length-order, order-at}
 use Rattle.chunk_slots.proofs.Extents.{ceil-lt, bound-are, below-is}
