@@ -94,15 +94,22 @@ demo: build/demo_checksum build/demo_list build/demo_lookup
 	@build/demo_list $(DATASET)
 	@build/demo_lookup $(DATASET) 8,4
 
+# Beside the HDF5 library where it is installed.
 bench: $(BENCHES:%=build/%)
 	@bench/rust $(RUST_SOURCES)
 	@for b in $(BENCHES); do build/$$b || exit 1; done
+	@if pkg-config --exists hdf5 2>/dev/null; then \
+	  $(CC) $(CFLAGS) -Ibuild -Itests/c -Itests/real -Idemo -o build/bench_hdf5 bench/bench_hdf5.c build/libcellumaq.a \
+	    $$(pkg-config --cflags --libs hdf5) && build/bench_hdf5 build/bench/hdf5.h5; \
+	else echo $(NO_HDF5); fi
 
 # Files that the HDF5 library writes, where it is installed.
 test-real: lib
-	@if pkg-config --exists hdf5; then \
+	@if pkg-config --exists hdf5 2>/dev/null; then \
 	  $(CC) $(CFLAGS) -Ibuild -Itests/c -o build/real tests/real/real.c build/libcellumaq.a $$(pkg-config --cflags --libs hdf5) && build/real build; \
-	else echo "skipped: the HDF5 library (Debian: libhdf5-dev) isn't installed, or pkg-config doesn't know it."; fi
+	else echo $(NO_HDF5); fi
+
+NO_HDF5 = "skipped: the HDF5 library (Debian: libhdf5-dev) isn't installed, or pkg-config doesn't know it."
 
 fuzz: build/fuzz
 	@build/fuzz $(SEED) $(SECONDS)
