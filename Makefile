@@ -40,10 +40,10 @@ kit: tools
 
 lib: build/libcellumaq.a build/cellumaq.h
 
-# `rt staticlib` proves the crates before it builds them.
+# The crates are proved before they are built; tests/prove tells which.
 build/libcellumaq.a: crates.txt $(shell find crates -name '*.rt' -o -name '*.antt') | tools
 	@mkdir -p build
-	rt staticlib cellumaq >build/staticlib.log 2>&1 || { cat build/staticlib.log; exit 1; }
+	@tests/prove build/staticlib.log staticlib cellumaq
 	@cp target/staticlib/libcellumaq.a $@
 
 build/cellumaq.h: include/cellumaq.h
@@ -53,7 +53,7 @@ build/cellumaq.h: include/cellumaq.h
 # The program, proved before it is built.
 build/eals: crates.txt $(shell find crates -name '*.rt' -o -name '*.antt') | tools
 	@mkdir -p build
-	rt check eals >build/eals.log 2>&1 || { cat build/eals.log; exit 1; }
+	@tests/prove build/eals.log check eals
 	@cp target/bin/eals $@
 
 build/test_eals: build/eals
@@ -69,7 +69,7 @@ build/fuzz: $(wildcard tests/fuzz/*) $(wildcard tests/c/*.h) build/libcellumaq.a
 # The span listing is called from C in its test only.
 build/libspans_call.a: crates.txt $(shell find crates -name '*.rt' -o -name '*.antt') | tools
 	@mkdir -p build
-	rt staticlib spans_call >build/spans_call.log 2>&1 || { cat build/spans_call.log; exit 1; }
+	@tests/prove build/spans_call.log staticlib spans_call
 	@cp target/staticlib/libspans_call.a $@
 
 build/test_spans: tests/c/test_spans.c tests/c/test.h build/libspans_call.a
@@ -94,26 +94,35 @@ demo: build/demo_checksum build/demo_list build/demo_lookup
 	@build/demo_list $(DATASET)
 	@build/demo_lookup $(DATASET) 8,4
 
+# Beside the HDF5 library where it is installed.
 bench: $(BENCHES:%=build/%)
 	@bench/rust $(RUST_SOURCES)
 	@for b in $(BENCHES); do build/$$b || exit 1; done
+	@if pkg-config --exists hdf5 2>/dev/null; then \
+	  $(CC) $(CFLAGS) -Ibuild -Itests/c -Itests/real -Idemo -o build/bench_hdf5 bench/bench_hdf5.c build/libcellumaq.a \
+	    $$(pkg-config --cflags --libs hdf5) && build/bench_hdf5 build/bench/hdf5.h5; \
+	else echo $(NO_HDF5); fi
 
 # Files that the HDF5 library writes, where it is installed.
 test-real: lib
-	@if pkg-config --exists hdf5; then \
+	@if pkg-config --exists hdf5 2>/dev/null; then \
 	  $(CC) $(CFLAGS) -Ibuild -Itests/c -o build/real tests/real/real.c build/libcellumaq.a $$(pkg-config --cflags --libs hdf5) && build/real build; \
-	else echo "skipped: the HDF5 library (Debian: libhdf5-dev) isn't installed, or pkg-config doesn't know it."; fi
+	else echo $(NO_HDF5); fi
+
+NO_HDF5 = "skipped: the HDF5 library (Debian: libhdf5-dev) isn't installed, or pkg-config doesn't know it."
 
 fuzz: build/fuzz
 	@build/fuzz $(SEED) $(SECONDS)
 
 install: lib
-	mkdir -p $(DESTDIR)$(PREFIX)/lib/pkgconfig $(DESTDIR)$(PREFIX)/include
-	cp build/libcellumaq.a $(DESTDIR)$(PREFIX)/lib/libcellumaq.a
-	cp build/cellumaq.h $(DESTDIR)$(PREFIX)/include/cellumaq.h
-	printf '%s\n' 'prefix=$(PREFIX)' 'libdir=$${prefix}/lib' 'includedir=$${prefix}/include' '' 'Name: cellumaq' \
+	@mkdir -p $(DESTDIR)$(PREFIX)/lib/pkgconfig $(DESTDIR)$(PREFIX)/include
+	@cp build/libcellumaq.a $(DESTDIR)$(PREFIX)/lib/libcellumaq.a
+	@cp build/cellumaq.h $(DESTDIR)$(PREFIX)/include/cellumaq.h
+	@printf '%s\n' 'prefix=$(PREFIX)' 'libdir=$${prefix}/lib' 'includedir=$${prefix}/include' '' 'Name: cellumaq' \
 	  'Description: Proved reader of HDF5 extensible array chunk indexes' 'Version: $(VERSION)' 'Libs: -L$${libdir} -lcellumaq' \
 	  'Cflags: -I$${includedir}' >$(DESTDIR)$(PREFIX)/lib/pkgconfig/cellumaq.pc
+	@echo "libcellumaq.a, cellumaq.h and cellumaq.pc are in $(DESTDIR)$(PREFIX)."
 
 clean:
-	rm -rf build target
+	@rm -rf build target
+	@echo "build/ and target/ are removed."
