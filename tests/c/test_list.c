@@ -3,6 +3,7 @@
  * test_list QUESTIONS ANSWERS replays those two lists alone. */
 #define _DEFAULT_SOURCE
 #include "cellumaq.h"
+#include "described.h"
 #include "list_checks.h"
 #include "lookup3.h"
 #include "test.h"
@@ -91,6 +92,7 @@ static void check_list_line(const struct question *q, const char *answer, const 
     char *line = list_line(a, records, q->call.rank);
 
     CHECK(strcmp(line, answer) == 0, "%s: %.200s, not %.200s", what, line, answer);
+    check_described_list(&q->call, length, what);
     free(line);
     free(records);
 }

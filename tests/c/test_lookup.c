@@ -3,6 +3,7 @@
  * test_lookup QUESTIONS ANSWERS replays those two lists alone. */
 #define _DEFAULT_SOURCE
 #include "cellumaq.h"
+#include "described.h"
 #include "lookup3.h"
 #include "samples.h"
 #include "test.h"
@@ -31,6 +32,7 @@ static void check_line(const struct question *q, const char *answer, const char 
     else
         snprintf(line, sizeof line, "ok %" PRIu64 " %" PRIu64 " %" PRIu64 " %" PRIu64, a.count, a.address, a.size, a.mask);
     CHECK(strcmp(line, answer) == 0, "%s: %s, not %s", what, line, answer);
+    check_described_lookup(&q->call, q->corner, what);
 }
 
 static void replay_lookups(void)

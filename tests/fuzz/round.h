@@ -6,6 +6,7 @@
 
 #include "calls.h"
 #include "changes.h"
+#include "described.h"
 #include "lookup3.h"
 
 /* A list with more records is only counted. */
@@ -16,6 +17,7 @@ struct tally {
     uint64_t rounds, checksums, lists, lookups; /* rounds, and calls of each kind */
     uint64_t accepted, records, too_many;       /* inputs whose list was accepted, their records; and lists that were only counted */
     uint64_t found, absent;                     /* of lookups */
+    uint64_t described;                         /* inputs that were asked by way of a struct too */
     uint64_t refused[ROUND_REFUSALS];           /* inputs whose list was refused, by number */
     uint64_t lookup_refused[ROUND_REFUSALS];
     double slowest; /* the processor's seconds for the slowest list, and its round */
@@ -200,6 +202,12 @@ static inline void round_list(const struct input *in)
     }
     if (in->sound)
         check_sound(in, &a, list);
+    if (is_described(c) && needed <= ROUND_RECORDS && one_in(4)) {
+        check_described_list(c, length, "the list");
+        if (in->corner.length == 8 * c->rank || c->rank > CELLUMAQ_RANK_MOST)
+            check_described_lookup(c, in->corner, "a corner");
+        tally.described++;
+    }
     if (needed != 0 && one_in(4)) {
         struct answer refused = ask_list(c, less, list, "a list without enough room");
 
