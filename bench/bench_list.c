@@ -5,6 +5,7 @@
 
 #include "clock.h"
 #include "dense.h"
+#include "described.h"
 
 enum { TURNS = 5, ROUNDS = 10 };
 
@@ -65,16 +66,14 @@ static uint64_t digest(const uint8_t *list, size_t rank, uint64_t count)
 }
 
 /* The best of some rounds; the list is cleared before each. */
-static double seconds(const struct call *c, uint8_t *list, size_t length, uint64_t *count)
+static double seconds(const struct cellumaq_dataset *d, uint8_t *list, size_t length, uint64_t *count)
 {
     double best = 1e9;
 
     for (int round = 0; round < ROUNDS; round++) {
         memset(list, 0, length);
         double begin = now();
-        *count = cellumaq_list(c->file.bytes, c->file.length, c->offset_size, c->length_size, c->address, c->element_bytes, c->order, c->rank,
-                               c->chunk.bytes, c->chunk.length, c->present.bytes, c->present.length, c->has_maximum, c->maximum.bytes,
-                               c->maximum.length, list, length, CELLUMAQ_COUNT);
+        *count = cellumaq_list_dataset(d, list, length, CELLUMAQ_COUNT);
         double end = now();
 
         if (end - begin < best)
@@ -115,6 +114,7 @@ static double rust_seconds(const struct dataset *s, const char *path, uint64_t *
 static int measured(const char *name, struct dataset *s, int has_rust)
 {
     struct call c = dataset_call(s);
+    struct cellumaq_dataset d = described(&c);
     size_t length = s->array.entry_count * cellumaq_record_size(s->grid.rank);
     uint8_t *list = malloc(length);
     double ours = 1e9, theirs = 1e9;
@@ -128,7 +128,7 @@ static int measured(const char *name, struct dataset *s, int has_rust)
         return 1;
     }
     for (int turn = 0; turn < TURNS; turn++) {
-        double a = seconds(&c, list, length, &count);
+        double a = seconds(&d, list, length, &count);
 
         if (a < ours)
             ours = a;
