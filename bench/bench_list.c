@@ -1,5 +1,6 @@
-/* Nanoseconds per record of cellumaq_list beside the Rust source (build/bench/list, where bench/rust could build it): the same bytes on the same
- * machine in one run, taking turns, the best of all rounds. The bytes are written to build/bench once. */
+/* Nanoseconds per record of cellumaq_list beside the Rust source (build/bench/list, where bench/rust could build it):
+ * the same bytes on the same machine in one run, taking turns, the best of all rounds. The bytes are written to
+ * build/bench once. */
 #define _DEFAULT_SOURCE
 #include <inttypes.h>
 

@@ -1,5 +1,5 @@
-/* Lookups per second in a line of 1,000,000 chunks: of corners in order, in no order, and of one corner again and again, by cellumaq_lookup and by
- * cellumaq_lookup_dataset. */
+/* Lookups per second in a line of 1,000,000 chunks: of corners in order, in no order, and of one corner again and
+ * again, by cellumaq_lookup and by cellumaq_lookup_dataset. */
 #define _DEFAULT_SOURCE
 #include <inttypes.h>
 

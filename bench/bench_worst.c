@@ -1,6 +1,7 @@
-/* The time of hostile files (hostile.h). Their elements have addresses; either none has a corner of the present shape, so that each is read twice and the list
- * needs no room, or every second one has, so that no two slots lie in a line, and the list is refused for its room behind the first walk. Of a file of half a
- * MiB a part is measured, up to a pointer that leads elsewhere; a smaller file is measured whole, beside what its parts make. */
+/* The time of hostile files (hostile.h). Their elements have addresses; either none has a corner of the present shape,
+ * so that each is read twice and the list needs no room, or every second one has, so that no two slots lie in a line,
+ * and the list is refused for its room behind the first walk. Of a file of half a MiB a part is measured, up to a
+ * pointer that leads elsewhere; a smaller file is measured whole, beside what its parts make. */
 #define _DEFAULT_SOURCE
 #include <inttypes.h>
 

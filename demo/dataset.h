@@ -1,5 +1,5 @@
-/* A dataset as it is given on the command line: FILE OFFSETSIZE LENGTHSIZE ADDRESS ELEMENTBYTES CHUNK PRESENT MAXIMUM. A shape is lengths
- * with commas, `*` is unlimited. */
+/* A dataset as it is given on the command line: FILE OFFSETSIZE LENGTHSIZE ADDRESS ELEMENTBYTES CHUNK PRESENT MAXIMUM.
+ * A shape is lengths with commas, `*` is unlimited. */
 #ifndef DATASET_H
 #define DATASET_H
 

@@ -1,4 +1,5 @@
-/* Prints the chunks of a dataset: list FILE OFFSETSIZE LENGTHSIZE ADDRESS ELEMENTBYTES CHUNK PRESENT MAXIMUM (see dataset.h). */
+/* Prints the chunks of a dataset: list FILE OFFSETSIZE LENGTHSIZE ADDRESS ELEMENTBYTES CHUNK PRESENT MAXIMUM (see
+ * dataset.h). */
 #include "dataset.h"
 
 static void print_record(const uint8_t *list, size_t rank, size_t i)

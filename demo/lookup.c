@@ -1,4 +1,5 @@
-/* Prints one chunk of a dataset: lookup FILE OFFSETSIZE LENGTHSIZE ADDRESS ELEMENTBYTES CHUNK PRESENT MAXIMUM CORNER (see dataset.h). */
+/* Prints one chunk of a dataset: lookup FILE OFFSETSIZE LENGTHSIZE ADDRESS ELEMENTBYTES CHUNK PRESENT MAXIMUM CORNER
+ * (see dataset.h). */
 #include "dataset.h"
 
 int main(int argc, char **argv)

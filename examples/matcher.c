@@ -1,11 +1,12 @@
-/* How a program asks Cellumaq: for all chunks of a dataset, for one chunk by its corner, and for the reason where there is no answer.
+/* How a program asks Cellumaq: for all chunks of a dataset, for one chunk by its corner, and for the reason where there
+ * is no answer.
  *
  *     matcher FILE ADDRESS ROW COLUMN
  *
- * The dataset is described by the program here: numbers of 4 bytes, 11 rows of 13 at present, any number of rows of 15 at most, in chunks
- * of 4 by 4. ADDRESS is where its index begins, with the bytes "EAHD". In general all of this is in the dataset's object header: the
- * shapes in the dataspace message, the chunk's lengths and the index address in the data layout message (version 4, chunk index type 4),
- * the sizes of offsets and lengths in the file's superblock.
+ * The dataset is described by the program here: numbers of 4 bytes, 11 rows of 13 at present, any number of rows of 15
+ * at most, in chunks of 4 by 4. ADDRESS is where its index begins, with the bytes "EAHD". In general all of this is in
+ * the dataset's object header: the shapes in the dataspace message, the chunk's lengths and the index address in the
+ * data layout message (version 4, chunk index type 4), the sizes of offsets and lengths in the file's superblock.
  *
  *     gcc matcher.c $(pkg-config --cflags --libs cellumaq)
  */

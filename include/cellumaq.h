@@ -301,8 +301,8 @@ static inline struct cellumaq_answer cellumaq_ask_lookup(const struct cellumaq_d
  * tested. An array whose super block minimum isn't 2 or 4, or whose index block names data blocks of more elements than
  * a page, may be read otherwise than the format has it; the HDF5 library writes neither.
  *
- * Time, on a machine that tests a byte in 0.4 ns and reads an element in 6 ns at rank 1, 12 at rank 3, 150 at rank 32: a
- * call of cellumaq_lookup() tests the header, the index block, and at most one super block and one data block (of a
+ * Time, on a machine that tests a byte in 0.4 ns and reads an element in 6 ns at rank 1, 12 at rank 3, 150 at rank 32:
+ * a call of cellumaq_lookup() tests the header, the index block, and at most one super block and one data block (of a
  * paged one its head and one page): under three times the file's bytes and the header, 2 ms for 1 MiB. A call of
  * cellumaq_list() for a file as HDF5 writes it takes a few ms per MiB. But a file can name its blocks again and again,
  * and each is tested and read each time: a hostile file's list takes a time that grows with the square of the file's

@@ -20,7 +20,8 @@ struct entry {
     uint32_t mask;
 };
 
-/* A part of the file with a checksum of its own, of the kind that its signature names; a page has none. Its elements begin with a slot. */
+/* A part of the file with a checksum of its own, of the kind that its signature names; a page has none. Its elements
+ * begin with a slot. */
 struct structure {
     const char *signature;
     size_t start, length;
@@ -235,7 +236,8 @@ static inline size_t array_data_block(struct array *a, size_t bits, uint64_t u, 
     return block;
 }
 
-/* The data blocks of super block u whose pointers begin at a position; those without a defined element are not there. */
+/* The data blocks of super block u whose pointers begin at a position; those without a defined element are not
+ * there. */
 static inline void array_data_blocks(struct array *a, size_t pointers, size_t bits, uint64_t u, uint64_t slot)
 {
     uint64_t elements = array_block_elements(&a->of, u);

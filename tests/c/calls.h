@@ -1,5 +1,5 @@
-/* Calls of the library for tests: each question is asked with every `which`, on slices that are lent at several places, and everything that can be
- * told of an answer without knowing it is checked. */
+/* Calls of the library for tests: each question is asked with every `which`, on slices that are lent at several places,
+ * and everything that can be told of an answer without knowing it is checked. */
 #ifndef CALLS_H
 #define CALLS_H
 
@@ -28,7 +28,8 @@ struct answer {
     uint64_t refusal, first, second, count, address, size, mask;
 };
 
-/* Every argument that picks a number, and some that give the refusal again. The count comes first: it says what may be written. */
+/* Every argument that picks a number, and some that give the refusal again. The count comes first: it says what may be
+ * written. */
 static const uint64_t call_picks[] = {3, 0, 1, 2, 4, 5, 6, 7, 9, 259, ((uint64_t)1 << 32) + 3, UINT64_MAX};
 enum { CALL_PICKS = sizeof call_picks / sizeof *call_picks };
 
@@ -81,7 +82,8 @@ static inline uint8_t call_fill(size_t i, int turn)
     return (uint8_t)(i * 31 + (size_t)turn * 101 + 7);
 }
 
-/* Asks for the list. Its records are left in `records`, which has room for the whole list; it may be NULL where the list has no bytes. */
+/* Asks for the list. Its records are left in `records`, which has room for the whole list; it may be NULL where the
+ * list has no bytes. */
 static inline struct answer ask_list(const struct call *c, size_t list_length, uint8_t *records, const char *what)
 {
     size_t record = cellumaq_record_size(c->rank), fit = c->rank <= 32 ? list_length / record : 0, written = 0;

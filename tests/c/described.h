@@ -1,10 +1,12 @@
-/* The functions on a struct cellumaq_dataset beside the calls: whatever a call with shapes of its rank answers, they do. */
+/* The functions on a struct cellumaq_dataset beside the calls: whatever a call with shapes of its rank answers, they
+ * do. */
 #ifndef DESCRIBED_H
 #define DESCRIBED_H
 
 #include "calls.h"
 
-/* Whether a struct can describe what a call is given: its shapes have the rank's lengths, unless the rank is too large for any. */
+/* Whether a struct can describe what a call is given: its shapes have the rank's lengths, unless the rank is too large
+ * for any. */
 static inline int is_described(const struct call *c)
 {
     size_t length = 8 * c->rank;
@@ -28,8 +30,8 @@ static inline struct cellumaq_dataset described(const struct call *c)
     return d;
 }
 
-/* The call that answers as the struct is to. Where row-major order is refused with 7 or 8, the other one is taken; elements without bytes are too
- * large, and a maximum below the present shape is of another rank. */
+/* The call that answers as the struct is to. Where row-major order is refused with 7 or 8, the other one is taken;
+ * elements without bytes are too large, and a maximum below the present shape is of another rank. */
 static inline struct call plain_call(const struct call *c)
 {
     struct call plain = *c;

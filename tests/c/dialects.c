@@ -1,5 +1,5 @@
-/* All of cellumaq.h, in words that C99, C11 and C++ share. test_header compiles it as each of them and runs it; it ends with 0 where the
- * answers are those of a file without bytes. */
+/* All of cellumaq.h, in words that C99, C11 and C++ share. test_header compiles it as each of them and runs it; it ends
+ * with 0 where the answers are those of a file without bytes. */
 #include <cellumaq.h>
 
 static struct cellumaq_dataset dataset;

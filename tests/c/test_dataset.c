@@ -1,4 +1,5 @@
-/* struct cellumaq_dataset and the functions on it. (Questions of all kinds are asked by way of it in test_list, test_lookup and the random inputs.) */
+/* struct cellumaq_dataset and the functions on it. (Questions of all kinds are asked by way of it in test_list,
+ * test_lookup and the random inputs.) */
 #define _DEFAULT_SOURCE
 #include "described.h"
 #include "samples.h"
@@ -109,7 +110,8 @@ static void null_slices(void)
 
 #define FIELD(name) #name, offsetof(struct cellumaq_dataset, name), sizeof(((struct cellumaq_dataset *)0)->name)
 
-/* Each field that is left 0 is refused, but for the present lengths: then there is no chunk. An array of its own, at position 100, has chunk number 5. */
+/* Each field that is left 0 is refused, but for the present lengths: then there is no chunk. An array of its own, at
+ * position 100, has chunk number 5. */
 static void forgotten_fields(void)
 {
     static const struct {

@@ -1,4 +1,5 @@
-/* Files that make much of few bytes: one block named again and again, the largest count over pointers that lead nowhere, millions of clear pages. */
+/* Files that make much of few bytes: one block named again and again, the largest count over pointers that lead
+ * nowhere, millions of clear pages. */
 #define _DEFAULT_SOURCE
 #include "calls.h"
 #include "dataset.h"

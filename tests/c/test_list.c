@@ -30,8 +30,8 @@ static int is_served(const struct array_parameters *p)
     return p->least != 0 && p->least <= 128 && (p->least & (p->least - 1)) == 0 && p->max_bits <= 62 && p->minimum <= 32 && p->page_exponent <= 32;
 }
 
-/* A header has no call of its own, but it is read first in a list, and where it is accepted its fields say whether it is served and where the
- * index block must end. */
+/* A header has no call of its own, but it is read first in a list, and where it is accepted its fields say whether it
+ * is served and where the index block must end. */
 static void check_header(const struct question *q, const char *answer, const char *what)
 {
     struct answer a = ask_list(&q->call, 0, NULL, what);
@@ -140,7 +140,8 @@ static void worked_example(void)
     array_free(&s.array);
 }
 
-/* Arrays of all widths and geometries, dense, sparse and empty, with every count near the begin and some others, under every grid. */
+/* Arrays of all widths and geometries, dense, sparse and empty, with every count near the begin and some others, under
+ * every grid. */
 static void built_arrays(void)
 {
     static const uint32_t chances[] = {16, 9, 1, 0};
@@ -166,7 +167,8 @@ static void built_arrays(void)
     }
 }
 
-/* Few elements, far from each other: super blocks and data blocks that aren't there, and clear pages, are stepped over. */
+/* Few elements, far from each other: super blocks and data blocks that aren't there, and clear pages, are stepped
+ * over. */
 static void far_elements(void)
 {
     static const struct entry entries[] = {
@@ -259,8 +261,9 @@ static void cut_files(void)
     array_free(&s.array);
 }
 
-/* Whether the list of an array without gaps comes to a structure: data blocks that the index block names, and super blocks, only up to the
- * count; all data blocks of a super block; a page unless one before it has run past the count. */
+/* Whether the list of an array without gaps comes to a structure: data blocks that the index block names, and super
+ * blocks, only up to the count; all data blocks of a super block; a page unless one before it has run past the
+ * count. */
 static int is_reached(const struct structure *t, const struct structure *super_block, uint64_t first_of_block, uint64_t count)
 {
     if (t->slot == 0)

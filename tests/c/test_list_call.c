@@ -322,7 +322,8 @@ static void served_headers(void)
     }
 }
 
-/* Filtered elements of every size: too few bytes for an address and a mask, a size field of 0 to 8 bytes, one of 9, and sizes over 32 bits. */
+/* Filtered elements of every size: too few bytes for an address and a mask, a size field of 0 to 8 bytes, one of 9, and
+ * sizes over 32 bits. */
 static void element_sizes(void)
 {
     static const struct entry small[] = {{0, 4096, 0xfe, 6}}, large[] = {{0, 4096, 0x123456789a, 6}};

@@ -1,4 +1,5 @@
-/* cellumaq_lookup: lists of questions and answers, every corner of real files and of arrays that are built here, damage on the way and elsewhere.
+/* cellumaq_lookup: lists of questions and answers, every corner of real files and of arrays that are built here, damage
+ * on the way and elsewhere.
  *
  * test_lookup QUESTIONS ANSWERS replays those two lists alone. */
 #define _DEFAULT_SOURCE
@@ -177,8 +178,8 @@ static void far_elements(void)
     }
 }
 
-/* Whether the way to a slot leads over a structure: the header and the index block always; for a slot below the count the super block, data block and
- * page that begin with the first slot of its super block, data block and page. */
+/* Whether the way to a slot leads over a structure: the header and the index block always; for a slot below the count
+ * the super block, data block and page that begin with the first slot of its super block, data block and page. */
 static int on_the_way(const struct array *a, const struct structure *t, uint64_t slot)
 {
     const struct array_parameters *p = &a->of;
@@ -200,7 +201,8 @@ static int on_the_way(const struct array *a, const struct structure *t, uint64_t
     return t->slot == slot - in_block % array_page_elements(p);
 }
 
-/* One bit of one structure is another: every lookup whose way leads over it is refused, every other one answers as before. */
+/* One bit of one structure is another: every lookup whose way leads over it is refused, every other one answers as
+ * before. */
 static void damage(void)
 {
     struct dataset s = small_array();
@@ -309,7 +311,7 @@ static void wrong_corners(void)
     array_free(&s.array);
 }
 
-/* Corners in the present shape that have no slot: behind the count of a dimension that doesn't lead, or past 2^64 - 1. */
+/* Corners in the present shape without a slot: behind the count of a dimension that doesn't lead, or past 2^64 - 1. */
 static void corners_without_slots(void)
 {
     struct dataset s = worked(filtered, (struct grid){.order = 0, .rank = 2, .chunk = {5, 2}, .present = {70, 20}, .has_maximum = 1, .maximum = {40, 4}});

@@ -1,5 +1,5 @@
-/* List and lookup in a thread with a small stack between pages that may not be touched, by the calls and by way of a struct:
- * the answers are those of the main thread, and they need no more stack than the header says. */
+/* List and lookup in a thread with a small stack between pages that may not be touched, by the calls and by way of a
+ * struct: the answers are those of the main thread, and they need no more stack than the header says. */
 #define _DEFAULT_SOURCE
 #include <pthread.h>
 

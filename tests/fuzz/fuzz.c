@@ -1,5 +1,5 @@
-/* Random inputs for the C functions, without end or for some time: fuzz SEED SECONDS, or fuzz SEED SECONDS ROUND for that round alone.
- * A failure is told with its seed and round. */
+/* Random inputs for the C functions, without end or for some time: fuzz SEED SECONDS, or fuzz SEED SECONDS ROUND for
+ * that round alone. A failure is told with its seed and round. */
 #define _DEFAULT_SOURCE
 #include <sanitizer/common_interface_defs.h>
 #include <signal.h>

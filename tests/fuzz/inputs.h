@@ -120,8 +120,8 @@ static inline void random_corner(struct input *in)
     in->corner = dataset_shape(offsets, g->rank, in->shapes[3]);
 }
 
-/* Whether what the file has is what the dataset says: elements are long enough and not too long, addresses fit the offset size, the chunks' sizes 32
- * bits, and their numbers 64. */
+/* Whether what the file has is what the dataset says: elements are long enough and not too long, addresses fit the
+ * offset size, the chunks' sizes 32 bits, and their numbers 64. */
 static inline int is_sound(const struct dataset *s)
 {
     const struct grid *g = &s->grid;

@@ -1,4 +1,5 @@
-/* One round: a random input, what can be told of its answers without knowing them, and where it is sound the list itself. */
+/* One round: a random input, what can be told of its answers without knowing them, and where it is sound the list
+ * itself. */
 #ifndef ROUND_H
 #define ROUND_H
 
@@ -15,7 +16,8 @@ enum { ROUND_RECORDS = 20000, ROUND_REFUSALS = 40 };
 /* What the rounds have met. */
 struct tally {
     uint64_t rounds, checksums, lists, lookups; /* rounds, and calls of each kind */
-    uint64_t accepted, records, too_many;       /* inputs whose list was accepted, their records; and lists that were only counted */
+    uint64_t accepted, records;                 /* inputs whose list was accepted, and their records */
+    uint64_t too_many;                          /* lists that were only counted */
     uint64_t found, absent;                     /* of lookups */
     uint64_t described;                         /* inputs that were asked by way of a struct too */
     uint64_t refused[ROUND_REFUSALS];           /* inputs whose list was refused, by number */
@@ -142,7 +144,8 @@ static inline void check_lookups(const struct call *c, const uint8_t *list, size
     }
 }
 
-/* What the header, the numbers and the shapes are refused for comes before the corner: list and lookup have the same. */
+/* What the header, the numbers and the shapes are refused for comes before the corner: list and lookup have the
+ * same. */
 static inline int is_shared(uint64_t refusal)
 {
     return (refusal >= CELLUMAQ_REFUSED_OFFSET_SIZE && refusal <= CELLUMAQ_REFUSED_TOO_MANY_CHUNKS) || refusal == CELLUMAQ_REFUSED_HEADER_SIGNATURE ||

@@ -183,7 +183,8 @@ static struct cellumaq_dataset described(const struct archive *a, hid_t dataset,
     return d;
 }
 
-/* The list is the library's, chunk by chunk. The library of version 1.10 has other corners where the unlimited dimension isn't the first. */
+/* The list is the library's, chunk by chunk. The library of version 1.10 has other corners where the unlimited
+ * dimension isn't the first. */
 static void compare_list(const struct archive *a, hid_t dataset, const struct cellumaq_dataset *d)
 {
     hid_t space = H5Dget_space(dataset);
