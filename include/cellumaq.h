@@ -50,24 +50,24 @@ enum cellumaq_refusal {
 
     /* What the file's writer wrote. */
     CELLUMAQ_REFUSED_PAST_END = 20,              /* a structure ends behind the file; figures: its end, the file's
-                                                  * length. An array that was never written to has no index block, but
-                                                  * the address with all bits set, and that is read like any other: this
-                                                  * is the refusal, unless the file goes on behind that address */
+                                                  * length. In an array that was never written to the index block's
+                                                  * address has all bits set; it is read like any other, and refused
+                                                  * with this where the file ends before an index block there would */
     CELLUMAQ_REFUSED_HEADER_SIGNATURE = 21,      /* no "EAHD" at the address */
     CELLUMAQ_REFUSED_HEADER_VERSION = 22,        /* the header's version isn't 0; first figure: it */
     CELLUMAQ_REFUSED_INDEX_BLOCK_SIGNATURE = 23, /* no "EAIB" where the header names the index block */
     CELLUMAQ_REFUSED_DATA_BLOCK_SIGNATURE = 24,  /* no "EADB" where a data block is named */
     CELLUMAQ_REFUSED_SUPER_BLOCK_SIGNATURE = 25, /* no "EASB" where a super block is named */
-    CELLUMAQ_REFUSED_CHECKSUM = 26,              /* a structure's checksum is wrong; figures: the stored
-                                                  * one, the computed one */
+    CELLUMAQ_REFUSED_CHECKSUM = 26,              /* a structure's checksum is wrong; figures: the stored one,
+                                                  * the computed one */
     CELLUMAQ_REFUSED_HEADER_NOT_SERVED = 27,     /* the header is sound, but beyond what is read here: least block
                                                   * elements no power of two from 1 to 128, max bits over 62, super
                                                   * block minimum over 32, or page exponent over 32 */
     CELLUMAQ_REFUSED_ELEMENT_SIZE = 28,          /* a filtered element has too few bytes for an address and a mask */
     CELLUMAQ_REFUSED_SIZE_FIELD = 29,            /* a filtered element has over 8 bytes for the chunk's size */
     CELLUMAQ_REFUSED_CHUNK_SIZE = 30,            /* a chunk's size is over 2^32 - 1; first figure: it */
-    CELLUMAQ_REFUSED_NUMBERS_NOTHING = 32,       /* a chunk is named though a dimension behind the
-                                                  * leading one has no chunks */
+    CELLUMAQ_REFUSED_NUMBERS_NOTHING = 32,       /* a chunk is named though a dimension behind the leading
+                                                  * one has no chunks */
     CELLUMAQ_REFUSED_OFFSET_OVERFLOW = 33        /* a chunk's offset is over 2^64 - 1 */
 };
 
@@ -78,7 +78,8 @@ enum cellumaq_which {
     CELLUMAQ_FIRST_FIGURE = 1,  /* the refusal's figures */
     CELLUMAQ_SECOND_FIGURE = 2,
     CELLUMAQ_COUNT = 3,         /* how many records there are, 0 after a refusal; of a lookup 1 or 0 */
-    CELLUMAQ_FOUND_ADDRESS = 4, /* of a lookup: the chunk's address, size and filter mask, 0 where it isn't there */
+    CELLUMAQ_FOUND_ADDRESS = 4, /* of a lookup: the chunk's address, size and filter mask, 0 where it isn't there; of a
+                                 * list 0 */
     CELLUMAQ_FOUND_SIZE = 5,
     CELLUMAQ_FOUND_MASK = 6
 };
@@ -96,7 +97,7 @@ enum cellumaq_order {
  * All of the struct has to be set. In C that is done by naming fields, `struct cellumaq_dataset d = {.file = ..}`, in
  * C++ by `d{}` and then field by field; what isn't named is 0. A field that is forgotten is refused, with the number
  * beside it if the file isn't refused before; but present lengths of 0 are those of a dataset that has no element: its
- * list is empty, and no corner is in it (10). There may come fields whose 0 changes nothing.
+ * list is empty, and no corner is in it (10). A field that is added later has a 0 that means what is read without it.
  */
 struct cellumaq_dataset {
     const uint8_t *file;    /* the file from its first byte on, or from its base address on where it has a user block:
@@ -109,8 +110,8 @@ struct cellumaq_dataset {
                              * since an HDF5 file begins otherwise */
     uint64_t element_bytes; /* of one element of the dataset. The size of a chunk that isn't filtered is the product of
                              * the chunk's lengths and this; forgotten: 30 at the first such chunk */
-    uint64_t rank;          /* how many dimensions the dataset has, 0 to 32; forgotten: 3, as wherever chunk[rank] isn't
-                             * 0 */
+    uint64_t rank;          /* how many dimensions the dataset has, 0 to 32; forgotten: 3, as wherever a shape has a
+                             * length behind the rank */
     uint64_t chunk[CELLUMAQ_RANK_MOST];   /* the lengths of a chunk (the data layout message has one number more, the
                                            * bytes of an element); forgotten: 6 */
     uint64_t present[CELLUMAQ_RANK_MOST]; /* the lengths of the dataset at present */
@@ -120,10 +121,10 @@ struct cellumaq_dataset {
 };
 
 /* Lists the chunks of a dataset. The arguments are the fields of struct cellumaq_dataset, each shape as 8 * rank bytes
- * (cellumaq_put_length()), an element_bytes of 0, lengths behind the rank and a maximum below the present length taken
- * as they are; `order` is an enum cellumaq_order, `which` an enum cellumaq_which. Where has_maximum is 0, the present
- * shape stands for the maximum, which isn't looked at. `list` is room for floor(list_length /
- * cellumaq_record_size(rank)) records, at any alignment, and overlaps no other slice; those are only read.
+ * (cellumaq_put_length()), but elements of 0 bytes and a maximum below the present length are taken as they are;
+ * `order` is an enum cellumaq_order, `which` an enum cellumaq_which. Where has_maximum is 0, the present shape stands
+ * for the maximum, which isn't looked at. `list` is room for list_length / cellumaq_record_size(rank) records, rounded
+ * down, at any alignment; it overlaps no other slice, and they are only read.
  *
  * If the call is accepted, each chunk that the array has an address for below its published count, and whose corner is
  * in the present shape, has one record, in the order of the chunks' numbers (at rank 0 each such address has one); the
@@ -211,17 +212,17 @@ static inline size_t cellumaq_put_shape(uint8_t *shape, const uint64_t *lengths,
     return 8 * dimensions;
 }
 
-/* A rank over 32 is refused, whatever the shapes are. Elements without bytes, a chunk length behind the rank and a
- * maximum below the present length, which no dataset has, are made arguments that are refused: elements too large, a
- * chunk shape too long, a maximum shape too short. */
+/* A rank over 32 is refused, whatever the shapes are. Elements without bytes, a length behind the rank and a maximum
+ * below the present length, which no dataset has, are made arguments that are refused: elements too large, a chunk
+ * shape too long, a maximum shape too short. */
 static inline void cellumaq_put_arguments(struct cellumaq_arguments *a, const struct cellumaq_dataset *d,
                                           const uint64_t *corner)
 {
     size_t rank = d->rank <= CELLUMAQ_RANK_MOST ? (size_t)d->rank : 0;
-    size_t behind = rank < CELLUMAQ_RANK_MOST && d->chunk[rank] != 0;
+    int behind = rank < CELLUMAQ_RANK_MOST && (d->chunk[rank] | d->present[rank] | d->maximum[rank]) != 0;
 
     a->element_bytes = d->element_bytes != 0 ? d->element_bytes : UINT64_MAX;
-    a->chunk_length = cellumaq_put_shape(a->chunk, d->chunk, rank + behind);
+    a->chunk_length = cellumaq_put_shape(a->chunk, d->chunk, rank + (behind ? 1 : 0));
     a->present_length = cellumaq_put_shape(a->present, d->present, rank);
     a->maximum_length = cellumaq_put_shape(a->maximum, d->maximum, rank);
     a->corner_length = cellumaq_put_shape(a->corner, corner, corner != NULL ? rank : 0);

@@ -154,7 +154,12 @@ static void lengths_that_do_not_fit(void)
         struct cellumaq_dataset d = whole;
 
         d.rank = i;
-        CHECK(cellumaq_ask_list(&d, NULL, 0).refusal == CELLUMAQ_REFUSED_RANK, "rank %" PRIu64 " of three chunk lengths", i);
+        CHECK(cellumaq_ask_list(&d, NULL, 0).refusal == CELLUMAQ_REFUSED_RANK, "rank %" PRIu64 " of three lengths", i);
+        for (int shape = 0; shape < 3; shape++) {
+            d = whole;
+            (shape == 0 ? d.chunk : shape == 1 ? d.present : d.maximum)[3] = i + 1;
+            CHECK(cellumaq_ask_list(&d, NULL, 0).refusal == CELLUMAQ_REFUSED_RANK, "a fourth length of shape %d", shape);
+        }
         d = whole;
         d.maximum[i] = d.present[i];
         CHECK(cellumaq_ask_list(&d, NULL, 0).refusal == CELLUMAQ_REFUSED_LIST_TOO_SMALL, "maximum %" PRIu64 " as at present", i);
