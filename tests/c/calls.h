@@ -132,4 +132,20 @@ static inline struct answer ask_lookup(const struct call *c, struct slice corner
     return a;
 }
 
+static inline void check_refused(struct answer a, uint64_t refusal, uint64_t first, uint64_t second, const char *what)
+{
+    CHECK(a.refusal == refusal && a.first == first && a.second == second,
+          "%s: refusal %" PRIu64 " with %" PRIu64 " and %" PRIu64 ", not %" PRIu64 " with %" PRIu64 " and %" PRIu64, what, a.refusal, a.first,
+          a.second, refusal, first, second);
+}
+
+/* The record of a corner in a list, or NULL. */
+static inline const uint8_t *record_of(const uint8_t *list, size_t count, size_t rank, const uint8_t *corner)
+{
+    for (size_t i = 0; i < count; i++)
+        if (memcmp(list + i * cellumaq_record_size(rank) + 16, corner, 8 * rank) == 0)
+            return list + i * cellumaq_record_size(rank);
+    return NULL;
+}
+
 #endif

@@ -37,11 +37,7 @@ enum { LAYOUTS = sizeof layouts / sizeof *layouts, GRIDS = sizeof grids / sizeof
 /* How many slots an array has, SLOTS at most. */
 static inline uint64_t slots_of(const struct array_parameters *p)
 {
-    uint64_t slots = p->inline_count;
-
-    for (uint64_t u = 0; u < array_super_blocks(p) && slots < SLOTS; u++)
-        slots += array_blocks(u) * array_block_elements(p, u);
-    return slots < SLOTS ? slots : SLOTS;
+    return array_slots(p, SLOTS);
 }
 
 /* So many slots, each defined with a chance of so many in 16. */

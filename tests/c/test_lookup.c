@@ -12,11 +12,7 @@
 
 static void check_refusal(const struct call *c, struct slice corner, uint64_t refusal, uint64_t first, uint64_t second, const char *what)
 {
-    struct answer a = ask_lookup(c, corner, what);
-
-    CHECK(a.refusal == refusal && a.first == first && a.second == second,
-          "%s: refusal %" PRIu64 " with %" PRIu64 " and %" PRIu64 ", not %" PRIu64 " with %" PRIu64 " and %" PRIu64, what, a.refusal, a.first, a.second,
-          refusal, first, second);
+    check_refused(ask_lookup(c, corner, what), refusal, first, second, what);
 }
 
 /* Questions and answers. */
@@ -55,15 +51,6 @@ static void check_found(const struct call *c, const uint8_t *corner, const uint8
     CHECK(call_lookup(c, corner, length, 3) == 1 && call_lookup(c, corner, length, 4) == cellumaq_get(record, 8) &&
           call_lookup(c, corner, length, 5) == cellumaq_get(record + 8, 4) && call_lookup(c, corner, length, 6) == cellumaq_get(record + 12, 4),
           "%s: another record than the list's", what);
-}
-
-/* The record of a corner in a list, or NULL. */
-static const uint8_t *record_of(const uint8_t *list, size_t count, size_t rank, const uint8_t *corner)
-{
-    for (size_t i = 0; i < count; i++)
-        if (memcmp(list + i * cellumaq_record_size(rank) + 16, corner, 8 * rank) == 0)
-            return list + i * cellumaq_record_size(rank);
-    return NULL;
 }
 
 /* Steps a corner on by some chunks, the last dimension fastest; 0 behind the present shape. */

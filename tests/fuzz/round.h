@@ -97,19 +97,10 @@ static inline void check_corners(const struct call *c, const uint8_t *list, size
     free(sorted);
 }
 
-/* The record of a corner in a list, or NULL. */
-static inline const uint8_t *record_at(const uint8_t *list, size_t count, size_t rank, const uint8_t *corner)
-{
-    for (size_t i = 0; i < count; i++)
-        if (memcmp(list + i * cellumaq_record_size(rank) + 16, corner, 8 * rank) == 0)
-            return list + i * cellumaq_record_size(rank);
-    return NULL;
-}
-
 /* The lookup of a corner of the present shape gives the list's record, or none where the list has none. */
 static inline void check_lookup(const struct call *c, const uint8_t *list, size_t count, const uint8_t *corner)
 {
-    const uint8_t *record = record_at(list, count, c->rank, corner);
+    const uint8_t *record = record_of(list, count, c->rank, corner);
     struct answer a = counted_lookup(c, (struct slice){corner, 8 * c->rank}, "the lookup of an accepted list");
 
     CHECK(a.refusal == 0, "the list is accepted, the lookup refused with %" PRIu64, a.refusal);
