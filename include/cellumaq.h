@@ -1,10 +1,11 @@
 /* Cellumaq: a proved reader of HDF5 extensible array chunk indexes. For C99, C11 and C++.
  *
  * A program describes its dataset in a struct cellumaq_dataset and asks with cellumaq_ask_list() and
- * cellumaq_ask_lookup(), which are defined here. They call the library's functions, cellumaq_list() and
- * cellumaq_lookup(); the third is cellumaq_checksum(). Each of the three answers for any bytes and numbers, allocates
- * nothing, keeps no state, and may be called from several threads at once. A slice of bytes is a pointer and a length;
- * the pointer may be NULL where the length is 0. What the calls cost stands at the end of this file.
+ * cellumaq_ask_lookup(). These and the other functions that are defined in this file are C, tested and not proved. The
+ * library has three functions: cellumaq_checksum(), cellumaq_list() and cellumaq_lookup(). Each of them answers for any
+ * bytes and numbers, allocates nothing, keeps no state, and may be called from several threads at once. A slice of
+ * bytes is a pointer and a length; the pointer may be NULL where the length is 0. What the calls cost stands at the end
+ * of this file.
  */
 #ifndef CELLUMAQ_H
 #define CELLUMAQ_H
@@ -219,10 +220,10 @@ static inline void cellumaq_put_arguments(struct cellumaq_arguments *a, const st
                                           const uint64_t *corner)
 {
     size_t rank = d->rank <= CELLUMAQ_RANK_MOST ? (size_t)d->rank : 0;
-    int behind = rank < CELLUMAQ_RANK_MOST && (d->chunk[rank] | d->present[rank] | d->maximum[rank]) != 0;
+    size_t behind = rank < CELLUMAQ_RANK_MOST && (d->chunk[rank] | d->present[rank] | d->maximum[rank]) != 0 ? 1 : 0;
 
     a->element_bytes = d->element_bytes != 0 ? d->element_bytes : UINT64_MAX;
-    a->chunk_length = cellumaq_put_shape(a->chunk, d->chunk, rank + (behind ? 1 : 0));
+    a->chunk_length = cellumaq_put_shape(a->chunk, d->chunk, rank + behind);
     a->present_length = cellumaq_put_shape(a->present, d->present, rank);
     a->maximum_length = cellumaq_put_shape(a->maximum, d->maximum, rank);
     a->corner_length = cellumaq_put_shape(a->corner, corner, corner != NULL ? rank : 0);
@@ -258,7 +259,7 @@ static inline uint64_t cellumaq_lookup_dataset(const struct cellumaq_dataset *d,
 struct cellumaq_answer {
     uint64_t refusal, first, second; /* enum cellumaq_refusal, and its figures */
     uint64_t count;                  /* how many records the list has; of a lookup 1 or 0 */
-    uint64_t address, size, mask;    /* of the chunk that was looked up */
+    uint64_t address, size, mask;    /* of the chunk that was looked up; of a list 0 */
 };
 
 /* The list of a dataset, and the lookup of one chunk. Each number is asked for by a call of its own, and only where it

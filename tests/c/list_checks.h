@@ -21,7 +21,7 @@ static inline void check_same(const struct call *c, const struct dataset *s, con
     uint8_t *expected = dataset_list(s, &count), *records = malloc((count + 1) * record);
 
     length = count * record + random_below((uint32_t)record);
-    struct answer a = ask_list(c, length, records, what);
+    struct cellumaq_answer a = ask_list(c, length, records, what);
     CHECK(a.refusal == 0 && a.count == count, "%s: refusal %" PRIu64 ", %" PRIu64 " records, not %zu", what, a.refusal, a.count, count);
     CHECK(a.count != count || memcmp(records, expected, count * record) == 0, "%s: other records", what);
     if (count != 0) {

@@ -43,7 +43,7 @@ static void expect_call(const struct call *c, const char *wanted)
 {
     uint8_t list[4096];
     char said[4096], *at = said;
-    struct answer a = ask_list(c, sizeof list, list, wanted);
+    struct cellumaq_answer a = ask_list(c, sizeof list, list, wanted);
 
     if (a.refusal != 0)
         sprintf(said, "R %" PRIu64 " %" PRIu64 " %" PRIu64, a.refusal, a.first, a.second);
@@ -142,7 +142,7 @@ static void expect_absent(struct grid g, uint64_t first, uint64_t second)
     struct call c = dataset_call(&s);
     cellumaq_put_length(corner, 0, first);
     cellumaq_put_length(corner, 1, second);
-    struct answer a = ask_lookup(&c, (struct slice){corner, 16}, "a corner without a slot");
+    struct cellumaq_answer a = ask_lookup(&c, (struct slice){corner, 16}, "a corner without a slot");
     CHECK(a.refusal == 0 && a.count == 0, "refusal %" PRIu64 ", %" PRIu64 " records", a.refusal, a.count);
     array_free(&s.array);
 }

@@ -34,7 +34,7 @@ static int is_served(const struct array_parameters *p)
  * is served and where the index block must end. */
 static void check_header(const struct question *q, const char *answer, const char *what)
 {
-    struct answer a = ask_list(&q->call, 0, NULL, what);
+    struct cellumaq_answer a = ask_list(&q->call, 0, NULL, what);
     uint64_t refusal, first, second, count, index_block;
     struct array_parameters p = {.offset_size = (uint8_t)q->call.offset_size};
 
@@ -62,7 +62,7 @@ static void check_header(const struct question *q, const char *answer, const cha
 }
 
 /* An answer as a line; free it. */
-static char *list_line(struct answer a, const uint8_t *records, size_t rank)
+static char *list_line(struct cellumaq_answer a, const uint8_t *records, size_t rank)
 {
     char *text = NULL;
     size_t length;
@@ -88,7 +88,7 @@ static void check_list_line(const struct question *q, const char *answer, const 
     size_t record = cellumaq_record_size(q->call.rank), room = q->room < 4096 ? q->room : 4096;
     size_t length = room * record + strlen(answer) % record;
     uint8_t *records = malloc(length + 1);
-    struct answer a = ask_list(&q->call, length, records, what);
+    struct cellumaq_answer a = ask_list(&q->call, length, records, what);
     char *line = list_line(a, records, q->call.rank);
 
     CHECK(strcmp(line, answer) == 0, "%s: %.200s, not %.200s", what, line, answer);
@@ -129,7 +129,7 @@ static void worked_example(void)
     struct dataset s = worked(plain, line);
     struct call c = dataset_call(&s);
     uint8_t list[72];
-    struct answer a = ask_list(&c, sizeof list, list, "the worked example");
+    struct cellumaq_answer a = ask_list(&c, sizeof list, list, "the worked example");
 
     CHECK(s.array.structures[0].length == 72 && s.array.structures[1].length == 282 && s.array.structures[2].length == 150, "sizes of the structures");
     CHECK(a.refusal == 0 && a.count == 2, "%" PRIu64 " records", a.count);

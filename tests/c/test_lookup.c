@@ -21,7 +21,7 @@ static const char *questions, *answers;
 
 static void check_line(const struct question *q, const char *answer, const char *what)
 {
-    struct answer a = ask_lookup(&q->call, q->corner, what);
+    struct cellumaq_answer a = ask_lookup(&q->call, q->corner, what);
     char line[128];
 
     if (a.refusal != 0)
@@ -328,7 +328,7 @@ static void rank_0(void)
 {
     struct dataset s = worked(plain, grids[0]);
     struct call c = dataset_call(&s);
-    struct answer a = ask_lookup(&c, (struct slice){NULL, 0}, "slot 0");
+    struct cellumaq_answer a = ask_lookup(&c, (struct slice){NULL, 0}, "slot 0");
 
     CHECK(a.count == 1 && a.address == 4096 && a.size == 8 && a.mask == 0, "slot 0: %" PRIu64 " records", a.count);
     array_free(&s.array);
@@ -397,7 +397,7 @@ static void orders(void)
     for (size_t i = 0; i < sizeof given / sizeof *given; i++) {
         s.grid.order = given[i];
         struct call c = dataset_call(&s);
-        struct answer a = ask_lookup(&c, (struct slice){corner, 16}, "the unlimited dimension first");
+        struct cellumaq_answer a = ask_lookup(&c, (struct slice){corner, 16}, "the unlimited dimension first");
 
         CHECK(a.count == 1 && a.address == 4096 && a.size == 1 && a.mask == 2, "order %" PRIu64 ": corner (10, 10) isn't slot 5", given[i]);
     }

@@ -43,9 +43,9 @@ static inline void count_refusal(uint64_t *refused, uint64_t refusal, const char
         refused[refusal]++;
 }
 
-static inline struct answer counted_lookup(const struct call *c, struct slice corner, const char *what)
+static inline struct cellumaq_answer counted_lookup(const struct call *c, struct slice corner, const char *what)
 {
-    struct answer a = ask_lookup(c, corner, what);
+    struct cellumaq_answer a = ask_lookup(c, corner, what);
 
     tally.lookups += CALL_PICKS;
     tally.found += a.refusal == 0 && a.count == 1;
@@ -101,7 +101,7 @@ static inline void check_corners(const struct call *c, const uint8_t *list, size
 static inline void check_lookup(const struct call *c, const uint8_t *list, size_t count, const uint8_t *corner)
 {
     const uint8_t *record = record_of(list, count, c->rank, corner);
-    struct answer a = counted_lookup(c, (struct slice){corner, 8 * c->rank}, "the lookup of an accepted list");
+    struct cellumaq_answer a = counted_lookup(c, (struct slice){corner, 8 * c->rank}, "the lookup of an accepted list");
 
     CHECK(a.refusal == 0, "the list is accepted, the lookup refused with %" PRIu64, a.refusal);
     CHECK(a.count == (record != NULL), "the list has %d record of a corner, the lookup %" PRIu64, record != NULL, a.count);
@@ -144,7 +144,7 @@ static inline int is_shared(uint64_t refusal)
 }
 
 /* The list of a sound input is known. */
-static inline void check_sound(const struct input *in, const struct answer *a, const uint8_t *list)
+static inline void check_sound(const struct input *in, const struct cellumaq_answer *a, const uint8_t *list)
 {
     size_t count, record = cellumaq_record_size(in->call.rank);
     uint8_t *expected = dataset_list(&in->dataset, &count);
@@ -176,7 +176,7 @@ static inline void round_list(const struct input *in)
     size_t record = cellumaq_record_size(c->rank <= 32 ? c->rank : 0), room = (needed <= ROUND_RECORDS ? needed : 0) * record;
     size_t length = room + random_below(one_in(8) ? 2000 : (uint32_t)record), less = needed == 0 ? 0 : random_below((uint32_t)room);
     uint8_t *list = malloc(length + 1);
-    struct answer a = ask_list(c, length, list, "the list"), of_corner = counted_lookup(c, in->corner, "a corner");
+    struct cellumaq_answer a = ask_list(c, length, list, "the list"), of_corner = counted_lookup(c, in->corner, "a corner");
 
     tally.lists += CALL_PICKS;
     if (needed > ROUND_RECORDS) {
@@ -203,7 +203,7 @@ static inline void round_list(const struct input *in)
         tally.described++;
     }
     if (needed != 0 && one_in(4)) {
-        struct answer refused = ask_list(c, less, list, "a list without enough room");
+        struct cellumaq_answer refused = ask_list(c, less, list, "a list without enough room");
 
         tally.lists += CALL_PICKS;
         CHECK(refused.refusal == CELLUMAQ_REFUSED_LIST_TOO_SMALL && refused.first == needed && refused.second == 0, "refusal %" PRIu64, refused.refusal);
