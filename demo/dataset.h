@@ -36,10 +36,13 @@ static void read_shape(const struct cellumaq_dataset *d, const char *text, uint6
 /* The file is never freed: the program ends when it has its answer. */
 static struct cellumaq_dataset read_dataset(char **arguments)
 {
-    struct cellumaq_dataset d = {.offset_size = strtoull(arguments[1], NULL, 10), .length_size = strtoull(arguments[2], NULL, 10),
-                                 .address = strtoull(arguments[3], NULL, 10), .element_bytes = strtoull(arguments[4], NULL, 10)};
+    struct cellumaq_dataset d = {0};
 
     d.file = read_all(arguments[0], &d.file_length);
+    d.offset_size = strtoull(arguments[1], NULL, 10);
+    d.length_size = strtoull(arguments[2], NULL, 10);
+    d.address = strtoull(arguments[3], NULL, 10);
+    d.element_bytes = strtoull(arguments[4], NULL, 10);
     d.rank = read_lengths(arguments[5], d.chunk);
     read_shape(&d, arguments[6], d.present);
     read_shape(&d, arguments[7], d.maximum);

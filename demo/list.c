@@ -7,8 +7,8 @@ static void print_record(const uint8_t *list, size_t rank, size_t i)
     printf("corner");
     for (size_t d = 0; d < rank; d++)
         printf(" %" PRIu64, cellumaq_record_offset(list, rank, i, d));
-    printf(": %u bytes at %" PRIu64 ", filter mask %u\n", cellumaq_record_chunk_size(list, rank, i), cellumaq_record_address(list, rank, i),
-           cellumaq_record_mask(list, rank, i));
+    printf(": %u bytes at %" PRIu64 ", filter mask %u\n", cellumaq_record_chunk_size(list, rank, i),
+           cellumaq_record_address(list, rank, i), cellumaq_record_mask(list, rank, i));
 }
 
 int main(int argc, char **argv)

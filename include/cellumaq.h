@@ -116,9 +116,10 @@ struct cellumaq_dataset {
     uint64_t chunk[CELLUMAQ_RANK_MOST];   /* the lengths of a chunk (the data layout message has one number more, the
                                            * bytes of an element); forgotten: 6 */
     uint64_t present[CELLUMAQ_RANK_MOST]; /* the lengths of the dataset at present */
-    uint64_t maximum[CELLUMAQ_RANK_MOST]; /* the lengths that it can grow to, CELLUMAQ_UNLIMITED without an end; where
-                                           * the dataspace message has none, those at present; forgotten: 5, as wherever
-                                           * one is below the present length */
+    uint64_t maximum[CELLUMAQ_RANK_MOST]; /* the lengths that it can grow to, CELLUMAQ_UNLIMITED where the dataspace
+                                           * message has all bits set, in however few bytes; where it has no maximum,
+                                           * those at present; forgotten: 5, as wherever one is below the present
+                                           * length */
 };
 
 /* Lists the chunks of a dataset. The arguments are the fields of struct cellumaq_dataset, each shape as 8 * rank bytes
@@ -197,7 +198,7 @@ static inline uint64_t cellumaq_record_offset(const uint8_t *list, size_t rank, 
     return cellumaq_get(list + i * cellumaq_record_size(rank) + 16 + 8 * dimension, 8);
 }
 
-/* What a call takes in place of a dataset's fields, and a corner. */
+/* What a call takes in place of a dataset's fields, and a corner; for the functions below. */
 struct cellumaq_arguments {
     uint64_t element_bytes;
     size_t chunk_length, present_length, maximum_length, corner_length;
@@ -233,7 +234,7 @@ static inline void cellumaq_put_arguments(struct cellumaq_arguments *a, const st
 }
 
 /* cellumaq_list() and cellumaq_lookup() of a dataset, its chunks numbered as HDF5 does, with the unlimited dimension
- * first. A corner has an offset for each dimension. */
+ * first. A corner has an offset for each dimension; NULL is one without offsets. */
 static inline uint64_t cellumaq_list_dataset(const struct cellumaq_dataset *d, uint8_t *list, size_t list_length,
                                              uint64_t which)
 {
