@@ -4,7 +4,7 @@ CC = gcc
 CFLAGS = -std=c11 -O2 -Wall -Wextra -Werror
 VERSION = 0.1.0
 
-C_TESTS = test_checksum test_list test_list_call test_lookup test_spans test_eals test_hostile test_differences test_stack test_symbols test_fuzz test_example
+C_TESTS = test_checksum test_list test_list_call test_lookup test_dataset test_header test_spans test_eals test_hostile test_differences test_stack test_symbols test_fuzz test_example
 BENCHES = bench_checksum bench_list bench_lookup bench_worst
 
 # A folder with whole lists of questions and answers, of which tests/data has a part.

@@ -15,8 +15,9 @@ static uint32_t reference(const uint8_t *bytes, size_t length)
 
 static volatile uint32_t sink;
 
-/* Seconds for `turns` calls, whose answers are summed up, so that none is left out. (Nothing is stored into the bytes between two calls: what a load costs
- * right behind a store depends on the widths of both, and that would be measured too.) */
+/* Seconds for `turns` calls, whose answers are summed up, so that none is left out. (Nothing is stored into the bytes
+ * between two calls: what a load costs right behind a store depends on the widths of both, and that would be measured
+ * too.) */
 static double seconds(uint32_t (*checksum)(const uint8_t *, size_t), const uint8_t *bytes, size_t length, size_t turns)
 {
     double begin = now();

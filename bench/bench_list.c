@@ -1,10 +1,12 @@
-/* Nanoseconds per record of cellumaq_list beside the Rust source (build/bench/list, where bench/rust could build it): the same bytes on the same
- * machine in one run, taking turns, the best of all rounds. The bytes are written to build/bench once. */
+/* Nanoseconds per record of cellumaq_list beside the Rust source (build/bench/list, where bench/rust could build it):
+ * the same bytes on the same machine in one run, taking turns, the best of all rounds. The bytes are written to
+ * build/bench once. */
 #define _DEFAULT_SOURCE
 #include <inttypes.h>
 
 #include "clock.h"
 #include "dense.h"
+#include "described.h"
 
 enum { TURNS = 5, ROUNDS = 10 };
 
@@ -65,16 +67,14 @@ static uint64_t digest(const uint8_t *list, size_t rank, uint64_t count)
 }
 
 /* The best of some rounds; the list is cleared before each. */
-static double seconds(const struct call *c, uint8_t *list, size_t length, uint64_t *count)
+static double seconds(const struct cellumaq_dataset *d, uint8_t *list, size_t length, uint64_t *count)
 {
     double best = 1e9;
 
     for (int round = 0; round < ROUNDS; round++) {
         memset(list, 0, length);
         double begin = now();
-        *count = cellumaq_list(c->file.bytes, c->file.length, c->offset_size, c->length_size, c->address, c->element_bytes, c->order, c->rank,
-                               c->chunk.bytes, c->chunk.length, c->present.bytes, c->present.length, c->has_maximum, c->maximum.bytes,
-                               c->maximum.length, list, length, CELLUMAQ_COUNT);
+        *count = cellumaq_list_dataset(d, list, length, CELLUMAQ_COUNT);
         double end = now();
 
         if (end - begin < best)
@@ -112,9 +112,13 @@ static double rust_seconds(const struct dataset *s, const char *path, uint64_t *
     return best;
 }
 
-static int measured(const char *name, struct dataset *s, int has_rust)
+/* The array with so many entries. */
+static int measured(const char *name, struct dataset *s, size_t entry_count, int has_rust)
 {
+    s->array.entry_count = entry_count;
+    array_build(&s->array);
     struct call c = dataset_call(s);
+    struct cellumaq_dataset d = described(&c);
     size_t length = s->array.entry_count * cellumaq_record_size(s->grid.rank);
     uint8_t *list = malloc(length);
     double ours = 1e9, theirs = 1e9;
@@ -128,7 +132,7 @@ static int measured(const char *name, struct dataset *s, int has_rust)
         return 1;
     }
     for (int turn = 0; turn < TURNS; turn++) {
-        double a = seconds(&c, list, length, &count);
+        double a = seconds(&d, list, length, &count);
 
         if (a < ours)
             ours = a;
@@ -151,6 +155,7 @@ static int measured(const char *name, struct dataset *s, int has_rust)
         printf(" %12.1f %10.3f", 1e9 * theirs / (double)count, ours / theirs);
     printf("\n");
     free(list);
+    array_free(&s->array);
     return 0;
 }
 
@@ -165,35 +170,19 @@ int main(void)
     printf("%-8s %10s %10s %16s %12s %10s\n", "list", "bytes", "records", "Cellumaq ns/rec.", "Rust ns/rec.", "of Rust's");
 
     s.grid.present[0] = 10 * SLOTS_MOST;
-    s.array.entry_count = dense();
-    array_build(&s.array);
-    failed |= measured("dense", &s, rust != NULL);
-    array_free(&s.array);
-
-    s.array.entry_count = few();
-    array_build(&s.array);
-    failed |= measured("few", &s, rust != NULL);
-    array_free(&s.array);
+    failed |= measured("dense", &s, dense(), rust != NULL);
+    failed |= measured("few", &s, few(), rust != NULL);
 
     s.array.of = layouts[1];
-    s.array.entry_count = with_sizes();
-    array_build(&s.array);
-    failed |= measured("filtered", &s, rust != NULL);
-    array_free(&s.array);
+    failed |= measured("filtered", &s, with_sizes(), rust != NULL);
 
     s.grid = (struct grid){.element_bytes = 4, .order = 1, .rank = 3, .chunk = {4, 8, 8}, .present = {4 * 10000, 80, 80}, .has_maximum = 1,
                            .maximum = {CELLUMAQ_UNLIMITED, 80, 80}};
-    s.array.entry_count = sparse();
-    array_build(&s.array);
-    failed |= measured("sparse", &s, rust != NULL);
-    array_free(&s.array);
+    failed |= measured("sparse", &s, sparse(), rust != NULL);
 
     s.array.of = layouts[0];
     s.grid = (struct grid){.element_bytes = 4, .order = 1, .rank = 2, .chunk = {10, 10}, .present = {10 * 2494, 4000}, .has_maximum = 1,
                            .maximum = {CELLUMAQ_UNLIMITED, 4010}};
-    s.array.entry_count = plane();
-    array_build(&s.array);
-    failed |= measured("plane", &s, rust != NULL);
-    array_free(&s.array);
+    failed |= measured("plane", &s, plane(), rust != NULL);
     return failed;
 }

@@ -1,9 +1,11 @@
-/* Lookups per second of cellumaq_lookup in a line of 1,000,000 chunks: of corners in order, in no order, and of one corner again and again. */
+/* Lookups per second in a line of 1,000,000 chunks: of corners in order, in no order, and of one corner again and
+ * again, by cellumaq_lookup and by cellumaq_lookup_dataset. */
 #define _DEFAULT_SOURCE
 #include <inttypes.h>
 
 #include "clock.h"
 #include "dense.h"
+#include "described.h"
 
 enum { ROUNDS = 5, LOOKUPS = 20000 };
 
@@ -24,20 +26,37 @@ static uint64_t always_one(uint64_t i)
     return 777777;
 }
 
-static int measured(const char *name, const struct call *c, uint64_t (*slot_of)(uint64_t))
+/* The address of the chunk with that number. */
+static uint64_t by_call(const struct call *c, const struct cellumaq_dataset *d, uint64_t slot)
 {
     uint8_t corner[8];
+
+    (void)d;
+    cellumaq_put_length(corner, 0, 10 * slot);
+    return call_lookup(c, corner, sizeof corner, CELLUMAQ_FOUND_ADDRESS);
+}
+
+static uint64_t by_struct(const struct call *c, const struct cellumaq_dataset *d, uint64_t slot)
+{
+    const uint64_t corner[] = {10 * slot};
+
+    (void)c;
+    return cellumaq_lookup_dataset(d, corner, CELLUMAQ_FOUND_ADDRESS);
+}
+
+typedef uint64_t looked_up(const struct call *, const struct cellumaq_dataset *, uint64_t);
+
+static int measured(const char *name, const struct call *c, looked_up *lookup, uint64_t (*slot_of)(uint64_t))
+{
+    const struct cellumaq_dataset d = described(c);
     double best = 1e9;
 
     for (int round = 0; round < ROUNDS; round++) {
         uint64_t wrong = 0;
         double begin = now();
 
-        for (uint64_t i = 0; i < LOOKUPS; i++) {
-            cellumaq_put_length(corner, 0, 10 * slot_of(i));
-            wrong += cellumaq_lookup(c->file.bytes, c->file.length, 8, 8, 0, c->element_bytes, c->order, 1, c->chunk.bytes, 8, c->present.bytes, 8, 1,
-                                     c->maximum.bytes, 8, corner, 8, CELLUMAQ_FOUND_ADDRESS) != entries[slot_of(i)].address;
-        }
+        for (uint64_t i = 0; i < LOOKUPS; i++)
+            wrong += lookup(c, &d, slot_of(i)) != entries[slot_of(i)].address;
         double end = now();
         if (wrong != 0) {
             printf("%s: %" PRIu64 " wrong addresses\n", name, wrong);
@@ -46,7 +65,7 @@ static int measured(const char *name, const struct call *c, uint64_t (*slot_of)(
         if (end - begin < best)
             best = end - begin;
     }
-    printf("%-12s %12.0f %12.0f\n", name, LOOKUPS / best, 1e9 * best / LOOKUPS);
+    printf("%-16s %12.0f %12.0f\n", name, LOOKUPS / best, 1e9 * best / LOOKUPS);
     return 0;
 }
 
@@ -58,10 +77,11 @@ int main(void)
     s.grid.present[0] = 10 * SLOTS_MOST;
     array_build(&s.array);
     struct call c = dataset_call(&s);
-    printf("%-12s %12s %12s\n", "lookup", "per second", "ns");
-    failed |= measured("in order", &c, in_order);
-    failed |= measured("in no order", &c, in_no_order);
-    failed |= measured("one", &c, always_one);
+    printf("%-16s %12s %12s\n", "lookup", "per second", "ns");
+    failed |= measured("in order", &c, by_call, in_order);
+    failed |= measured("in no order", &c, by_call, in_no_order);
+    failed |= measured("one", &c, by_call, always_one);
+    failed |= measured("one, by struct", &c, by_struct, always_one);
     array_free(&s.array);
     return failed;
 }

@@ -1,40 +1,42 @@
-/* The time of hostile files (hostile.h). Their elements have addresses; either none has a corner of the present shape, so that each is read twice and the list
- * needs no room, or every second one has, so that no two slots lie in a line, and the list is refused for its room behind the first walk. Of a file of half a
- * MiB a part is measured, up to a pointer that leads elsewhere; a smaller file is measured whole, beside what its parts make. */
+/* The time of hostile files (hostile.h). Their elements have addresses; either none has a corner of the present shape,
+ * so that each is read twice and the list needs no room, or every second one has, so that no two slots lie in a line,
+ * and the list is refused for its room behind the first walk. Of a file of half a MiB a part is measured, up to a
+ * pointer that leads elsewhere; a smaller file is measured whole, beside what its parts make. */
 #define _DEFAULT_SOURCE
-#include "calls.h"
+#include <inttypes.h>
+
 #include "clock.h"
 #include "hostile.h"
 
 /* Blocks that are measured. */
-enum { MEASURED = 48, RANK_MOST = 32 };
+enum { MEASURED = 48 };
 
 /* The shapes of a dataset: its leading length is 0 at present, or its last one is 1 of 2. */
 enum shape { NONE_PRESENT, HALF_PRESENT };
 
-static struct call call_of(const struct array *a, enum shape shape, uint64_t rank, uint8_t shapes[3][8 * RANK_MOST])
+static struct cellumaq_dataset described(const struct array *a, enum shape shape, uint64_t rank)
 {
-    struct call c = {.file = {a->bytes, a->length}, .offset_size = 2, .length_size = 8, .element_bytes = 1, .order = 1, .rank = rank, .has_maximum = 1,
-                     .chunk = {shapes[0], 8 * rank}, .present = {shapes[1], 8 * rank}, .maximum = {shapes[2], 8 * rank}};
+    struct cellumaq_dataset d = {.file = a->bytes, .file_length = a->length, .offset_size = a->of.offset_size, .length_size = a->of.length_size,
+                                 .element_bytes = 1, .rank = rank};
 
-    for (size_t d = 0; d < rank; d++) {
-        cellumaq_put_length(shapes[0], d, 1);
-        cellumaq_put_length(shapes[1], d, d == 0 ? 0 : 3);
-        cellumaq_put_length(shapes[2], d, d == 0 ? CELLUMAQ_UNLIMITED : 3);
+    for (size_t i = 0; i < rank; i++) {
+        d.chunk[i] = 1;
+        d.present[i] = i == 0 ? 0 : 3;
+        d.maximum[i] = i == 0 ? CELLUMAQ_UNLIMITED : 3;
     }
     if (shape == HALF_PRESENT) {
-        cellumaq_put_length(shapes[1], 0, INT64_MAX);
-        cellumaq_put_length(shapes[1], rank - 1, 1);
-        cellumaq_put_length(shapes[2], rank - 1, 2);
+        d.present[0] = INT64_MAX;
+        d.present[rank - 1] = 1;
+        d.maximum[rank - 1] = 2;
     }
-    return c;
+    return d;
 }
 
 /* The seconds of a list that is refused with an expected number, or accepted without a record. */
-static double seconds(const struct call *c, uint64_t refusal)
+static double seconds(const struct cellumaq_dataset *d, uint64_t refusal)
 {
     double begin = now();
-    uint64_t given = call_list(c, NULL, 0, CELLUMAQ_REFUSAL);
+    uint64_t given = cellumaq_list_dataset(d, NULL, 0, CELLUMAQ_REFUSAL);
     double end = now();
 
     if (given != refusal) {
@@ -48,10 +50,9 @@ static double seconds(const struct call *c, uint64_t refusal)
 static double hostile_seconds(unsigned u, uint64_t count, uint64_t wrong, enum shape shape, uint64_t rank)
 {
     struct array a = hostile_array(u, count, wrong).array;
-    uint8_t shapes[3][8 * RANK_MOST];
-    struct call c = call_of(&a, shape, rank, shapes);
+    struct cellumaq_dataset d = described(&a, shape, rank);
     uint64_t whole = shape == NONE_PRESENT ? CELLUMAQ_ACCEPTED : CELLUMAQ_REFUSED_LIST_TOO_SMALL;
-    double taken = seconds(&c, wrong < array_blocks(u) ? CELLUMAQ_REFUSED_DATA_BLOCK_SIGNATURE : whole);
+    double taken = seconds(&d, wrong < array_blocks(u) ? CELLUMAQ_REFUSED_DATA_BLOCK_SIGNATURE : whole);
 
     array_free(&a);
     return taken;
@@ -78,10 +79,9 @@ static void measure(unsigned u, enum shape shape, uint64_t rank, int whole)
 static void measure_clear_pages(void)
 {
     struct array a = clear_pages_array();
-    uint8_t shapes[3][8 * RANK_MOST];
-    struct call c = call_of(&a, NONE_PRESENT, 1, shapes);
+    struct cellumaq_dataset d = described(&a, NONE_PRESENT, 1);
 
-    printf("%zu bytes with 2^22 clear pages: %.3f s\n", a.length, seconds(&c, 0));
+    printf("%zu bytes with 2^22 clear pages: %.3f s\n", a.length, seconds(&d, 0));
     array_free(&a);
 }
 
@@ -89,12 +89,10 @@ static void measure_clear_pages(void)
 static void measure_undefined(void)
 {
     struct array a = {.of = {8, 8, 0, 8, 62, 255, 1, 32, 32}, .count = UINT64_MAX};
-    uint8_t shapes[3][8 * RANK_MOST];
 
     array_build(&a);
-    struct call c = call_of(&a, NONE_PRESENT, 32, shapes);
-    c.offset_size = 8;
-    printf("%zu bytes with undefined pointers, count 2^64 - 1: %.6f s\n", a.length, seconds(&c, 0));
+    struct cellumaq_dataset d = described(&a, NONE_PRESENT, CELLUMAQ_RANK_MOST);
+    printf("%zu bytes with undefined pointers, count 2^64 - 1: %.6f s\n", a.length, seconds(&d, 0));
     array_free(&a);
 }
 

@@ -1,5 +1,5 @@
-/* Seconds that the processor has spent on this program, so that others on the machine matter less. The program that includes this file defines
- * _POSIX_C_SOURCE or _DEFAULT_SOURCE. */
+/* Seconds that the processor has spent on this program, so that others on the machine matter less. The program that
+ * includes this file defines _POSIX_C_SOURCE or _DEFAULT_SOURCE. */
 #ifndef CLOCK_H
 #define CLOCK_H
 

@@ -1,5 +1,5 @@
-/* A dataset as it is given on the command line: FILE OFFSETSIZE LENGTHSIZE ADDRESS ELEMENTBYTES CHUNK PRESENT MAXIMUM. A shape is lengths with commas,
- * `*` is unlimited. */
+/* A dataset as it is given on the command line: FILE OFFSETSIZE LENGTHSIZE ADDRESS ELEMENTBYTES CHUNK PRESENT MAXIMUM.
+ * A shape is lengths with commas, `*` is unlimited. */
 #ifndef DATASET_H
 #define DATASET_H
 
@@ -9,39 +9,52 @@
 #include "cellumaq.h"
 #include "file.h"
 
-enum { RANK_MOST = 32, DATASET_ARGUMENTS = 8 };
+enum { DATASET_ARGUMENTS = 8 };
 
-struct dataset {
-    uint8_t *file;
-    size_t file_length;
-    uint64_t offset_size, length_size, address, element_bytes;
-    uint8_t chunk[8 * RANK_MOST], present[8 * RANK_MOST], maximum[8 * RANK_MOST];
-    size_t rank, present_rank, maximum_rank;
-};
-
-/* Stores a shape; its rank. */
-static size_t read_shape(const char *text, uint8_t *shape)
+/* Reads the lengths of a shape, or the offsets of a corner; how many they are. */
+static size_t read_lengths(const char *text, uint64_t lengths[CELLUMAQ_RANK_MOST])
 {
     size_t rank = 0;
 
-    for (; *text != 0 && rank < RANK_MOST; rank++) {
-        cellumaq_put_length(shape, rank, *text == '*' ? CELLUMAQ_UNLIMITED : strtoull(text, NULL, 10));
+    for (; *text != 0 && rank < CELLUMAQ_RANK_MOST; rank++) {
+        lengths[rank] = *text == '*' ? CELLUMAQ_UNLIMITED : strtoull(text, NULL, 10);
         text += strcspn(text, ",");
         text += *text == ',';
     }
     return rank;
 }
 
-static struct dataset read_dataset(char **arguments)
+/* The same; exits where they aren't as many as the dataset has dimensions. */
+static void read_shape(const struct cellumaq_dataset *d, const char *text, uint64_t lengths[CELLUMAQ_RANK_MOST])
 {
-    struct dataset s = {.offset_size = strtoull(arguments[1], NULL, 10), .length_size = strtoull(arguments[2], NULL, 10),
-                        .address = strtoull(arguments[3], NULL, 10), .element_bytes = strtoull(arguments[4], NULL, 10)};
+    if (read_lengths(text, lengths) != d->rank) {
+        fprintf(stderr, "%s: not as many numbers as a chunk has lengths\n", text);
+        exit(1);
+    }
+}
 
-    s.file = read_all(arguments[0], &s.file_length);
-    s.rank = read_shape(arguments[5], s.chunk);
-    s.present_rank = read_shape(arguments[6], s.present);
-    s.maximum_rank = read_shape(arguments[7], s.maximum);
-    return s;
+/* The file is never freed: the program ends when it has its answer. */
+static struct cellumaq_dataset read_dataset(char **arguments)
+{
+    struct cellumaq_dataset d = {0};
+
+    d.file = read_all(arguments[0], &d.file_length);
+    d.offset_size = strtoull(arguments[1], NULL, 10);
+    d.length_size = strtoull(arguments[2], NULL, 10);
+    d.address = strtoull(arguments[3], NULL, 10);
+    d.element_bytes = strtoull(arguments[4], NULL, 10);
+    d.rank = read_lengths(arguments[5], d.chunk);
+    read_shape(&d, arguments[6], d.present);
+    read_shape(&d, arguments[7], d.maximum);
+    return d;
+}
+
+/* Whether an answer is a refusal; tells it. */
+static int is_refused(const struct cellumaq_answer *a)
+{
+    if (a->refusal != CELLUMAQ_ACCEPTED)
+        fprintf(stderr, "refused: %" PRIu64 ", figures %" PRIu64 " and %" PRIu64 "\n", a->refusal, a->first, a->second);
+    return a->refusal != CELLUMAQ_ACCEPTED;
 }
 
 #endif

@@ -20,7 +20,8 @@ struct entry {
     uint32_t mask;
 };
 
-/* A part of the file with a checksum of its own, of the kind that its signature names; a page has none. Its elements begin with a slot. */
+/* A part of the file with a checksum of its own, of the kind that its signature names; a page has none. Its elements
+ * begin with a slot. */
 struct structure {
     const char *signature;
     size_t start, length;
@@ -89,9 +90,24 @@ static inline uint64_t array_pages(const struct array_parameters *p, uint64_t u)
     return paged ? array_block_elements(p, u) / array_page_elements(p) : 0;
 }
 
+/* How many slots an array has, but not more than `most`. */
+static inline uint64_t array_slots(const struct array_parameters *p, uint64_t most)
+{
+    uint64_t slots = p->inline_count;
+
+    for (uint64_t u = 0; u < array_super_blocks(p) && slots < most; u++)
+        slots += array_blocks(u) * array_block_elements(p, u);
+    return slots < most ? slots : most;
+}
+
 static inline size_t array_stride(const struct array_parameters *p)
 {
     return p->client == 0 ? p->offset_size : p->element_size;
+}
+
+static inline size_t array_header_size(const struct array_parameters *p)
+{
+    return 16u + 6u * p->length_size + p->offset_size;
 }
 
 /* Signature, version, client and header address; then the block offset. */
@@ -235,7 +251,8 @@ static inline size_t array_data_block(struct array *a, size_t bits, uint64_t u, 
     return block;
 }
 
-/* The data blocks of super block u whose pointers begin at a position; those without a defined element are not there. */
+/* The data blocks of super block u whose pointers begin at a position; those without a defined element are not
+ * there. */
 static inline void array_data_blocks(struct array *a, size_t pointers, size_t bits, uint64_t u, uint64_t slot)
 {
     uint64_t elements = array_block_elements(&a->of, u);
@@ -284,16 +301,22 @@ static inline size_t array_index_block(struct array *a)
     return block;
 }
 
-/* Of the six statistics the fifth is the count; the others are junk. */
-static inline void array_build(struct array *a)
+/* A file with nothing but the junk before the header. */
+static inline void array_begin(struct array *a)
 {
-    const struct array_parameters *p = &a->of;
-    size_t length = 16u + 6u * p->length_size + p->offset_size;
-
     a->bytes = NULL;
     a->structures = NULL;
     a->length = a->room = a->structure_count = 0;
     array_more(a, a->header, 0x45);
+}
+
+/* Of the six statistics the fifth is the count; the others are junk. */
+static inline void array_build(struct array *a)
+{
+    const struct array_parameters *p = &a->of;
+    size_t length = array_header_size(p);
+
+    array_begin(a);
     array_structure(a, "EAHD", length, 0);
     memcpy(a->bytes + a->header + 5, (uint8_t[]){p->client, p->element_size, p->max_bits, p->inline_count, p->least, p->minimum, p->page_exponent}, 7);
     memset(a->bytes + a->header + 12, 0xab, 6u * p->length_size);

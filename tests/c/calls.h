@@ -1,5 +1,5 @@
-/* Calls of the library for tests: each question is asked with every `which`, on slices that are lent at several places, and everything that can be
- * told of an answer without knowing it is checked. */
+/* Calls of the library for tests: each question is asked with every `which`, on slices that are lent at several places,
+ * and everything that can be told of an answer without knowing it is checked. */
 #ifndef CALLS_H
 #define CALLS_H
 
@@ -24,11 +24,8 @@ static inline uint64_t call_lookup(const struct call *c, const uint8_t *corner, 
                            corner, corner_length, which);
 }
 
-struct answer {
-    uint64_t refusal, first, second, count, address, size, mask;
-};
-
-/* Every argument that picks a number, and some that give the refusal again. The count comes first: it says what may be written. */
+/* Every argument that picks a number, and some that give the refusal again. The count comes first: it says what may be
+ * written. */
 static const uint64_t call_picks[] = {3, 0, 1, 2, 4, 5, 6, 7, 9, 259, ((uint64_t)1 << 32) + 3, UINT64_MAX};
 enum { CALL_PICKS = sizeof call_picks / sizeof *call_picks };
 
@@ -65,9 +62,9 @@ static inline int call_slices_stay(const struct call *c)
 }
 
 /* The answer that the picked numbers make, if they fit each other. */
-static inline struct answer call_answer(const uint64_t picked[CALL_PICKS], const char *what)
+static inline struct cellumaq_answer call_answer(const uint64_t picked[CALL_PICKS], const char *what)
 {
-    struct answer a = {picked[1], picked[2], picked[3], picked[0], picked[4], picked[5], picked[6]};
+    struct cellumaq_answer a = {picked[1], picked[2], picked[3], picked[0], picked[4], picked[5], picked[6]};
 
     for (int i = 7; i < CALL_PICKS; i++)
         CHECK(picked[i] == a.refusal, "%s: another argument doesn't give the refusal", what);
@@ -81,8 +78,9 @@ static inline uint8_t call_fill(size_t i, int turn)
     return (uint8_t)(i * 31 + (size_t)turn * 101 + 7);
 }
 
-/* Asks for the list. Its records are left in `records`, which has room for the whole list; it may be NULL where the list has no bytes. */
-static inline struct answer ask_list(const struct call *c, size_t list_length, uint8_t *records, const char *what)
+/* Asks for the list. Its records are left in `records`, which has room for the whole list; it may be NULL where the
+ * list has no bytes. */
+static inline struct cellumaq_answer ask_list(const struct call *c, size_t list_length, uint8_t *records, const char *what)
 {
     size_t record = cellumaq_record_size(c->rank), fit = c->rank <= 32 ? list_length / record : 0, written = 0;
     uint8_t *before = malloc(list_length + 1);
@@ -108,13 +106,13 @@ static inline struct answer ask_list(const struct call *c, size_t list_length, u
         CHECK(memcmp(list + written, before + written, list_length - written) == 0, "%s: bytes behind the records were written", what);
     }
     free(before);
-    struct answer a = call_answer(picked, what);
+    struct cellumaq_answer a = call_answer(picked, what);
     CHECK(a.address == 0 && a.size == 0 && a.mask == 0, "%s: a list has no such number", what);
     return a;
 }
 
 /* Asks for one chunk. */
-static inline struct answer ask_lookup(const struct call *c, struct slice corner, const char *what)
+static inline struct cellumaq_answer ask_lookup(const struct call *c, struct slice corner, const char *what)
 {
     uint64_t picked[CALL_PICKS];
 
@@ -125,9 +123,25 @@ static inline struct answer ask_lookup(const struct call *c, struct slice corner
         picked[turn] = call_lookup(&lent, corner_at, corner.length, call_picks[turn]);
         CHECK(call_slices_stay(c) && lent_stays(&call_lent[CALL_LAST], corner.bytes), "%s: a slice was written", what);
     }
-    struct answer a = call_answer(picked, what);
+    struct cellumaq_answer a = call_answer(picked, what);
     CHECK(a.count <= 1, "%s: %" PRIu64 " records of one corner", what, a.count);
     return a;
+}
+
+static inline void check_refused(struct cellumaq_answer a, uint64_t refusal, uint64_t first, uint64_t second, const char *what)
+{
+    CHECK(a.refusal == refusal && a.first == first && a.second == second,
+          "%s: refusal %" PRIu64 " with %" PRIu64 " and %" PRIu64 ", not %" PRIu64 " with %" PRIu64 " and %" PRIu64, what, a.refusal, a.first,
+          a.second, refusal, first, second);
+}
+
+/* The record of a corner in a list, or NULL. */
+static inline const uint8_t *record_of(const uint8_t *list, size_t count, size_t rank, const uint8_t *corner)
+{
+    for (size_t i = 0; i < count; i++)
+        if (memcmp(list + i * cellumaq_record_size(rank) + 16, corner, 8 * rank) == 0)
+            return list + i * cellumaq_record_size(rank);
+    return NULL;
 }
 
 #endif

@@ -1,4 +1,5 @@
-/* A dataset with an extensible array that array.h has built: its shapes, the call that asks about it, and the list that it should have. */
+/* A dataset with an extensible array that array.h has built: its shapes, the call that asks about it, and the list that
+ * it should have. */
 #ifndef DATASET_H
 #define DATASET_H
 
@@ -64,7 +65,8 @@ static inline void grid_order(const struct grid *g, uint64_t order[DATASET_RANK]
             order[n++] = d;
 }
 
-/* The corner of a slot, and whether it lies in the present shape. The slot is divided by the dimensions' counts, fastest first. */
+/* The corner of a slot, and whether it lies in the present shape. The slot is divided by the dimensions' counts,
+ * fastest first. */
 static inline int grid_corner(const struct grid *g, uint64_t slot, uint64_t corner[DATASET_RANK])
 {
     uint64_t order[DATASET_RANK], inside = 1;

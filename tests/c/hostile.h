@@ -1,4 +1,5 @@
-/* A file that makes much of few bytes: a super block names one data block again and again, and lies in that block's elements, so that both are large. */
+/* A file that makes much of few bytes: a super block names one data block again and again, and lies in that block's
+ * elements, so that both are large. */
 #ifndef HOSTILE_H
 #define HOSTILE_H
 
@@ -15,8 +16,8 @@ struct hostile {
     size_t block;       /* where the data block begins */
 };
 
-/* Super block u, odd and 9 at least, has all its pointers to the same block; the other super blocks aren't there. Where one pointer is `wrong`, it leads to
- * the header. */
+/* Super block u, odd and 9 at least, has all its pointers to the same block; the other super blocks aren't there. Where
+ * one pointer is `wrong`, it leads to the header. */
 static inline struct hostile hostile_array(unsigned u, uint64_t count, uint64_t wrong)
 {
     struct array a = {.of = hostile_layout, .count = count};

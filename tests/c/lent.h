@@ -1,4 +1,5 @@
-/* Memory that is lent to a call: a slice of it, marked bytes around the slice, and on both sides a page that may not be touched. */
+/* Memory that is lent to a call: a slice of it, marked bytes around the slice, and on both sides a page that may not be
+ * touched. */
 #ifndef LENT_H
 #define LENT_H
 
@@ -10,7 +11,8 @@
 
 enum { LENT_PAGE = 4096, LENT_MARKS = 64 };
 
-/* Where in the memory a slice lies: behind the lower page, before the upper page, or between marks, at an odd address. */
+/* Where in the memory a slice lies: behind the lower page, before the upper page, or between marks, at an odd
+ * address. */
 enum lent_where { LENT_LOW, LENT_HIGH, LENT_BETWEEN };
 
 struct lent {

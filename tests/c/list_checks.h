@@ -10,11 +10,8 @@
 static inline void check_refusal(const struct call *c, uint64_t refusal, uint64_t first, uint64_t second, const char *what)
 {
     uint8_t records[4096];
-    struct answer a = ask_list(c, sizeof records, records, what);
 
-    CHECK(a.refusal == refusal && a.first == first && a.second == second,
-          "%s: refusal %" PRIu64 " with %" PRIu64 " and %" PRIu64 ", not %" PRIu64 " with %" PRIu64 " and %" PRIu64, what, a.refusal, a.first, a.second,
-          refusal, first, second);
+    check_refused(ask_list(c, sizeof records, records, what), refusal, first, second, what);
 }
 
 /* The list of a call is the dataset's. */
@@ -24,7 +21,7 @@ static inline void check_same(const struct call *c, const struct dataset *s, con
     uint8_t *expected = dataset_list(s, &count), *records = malloc((count + 1) * record);
 
     length = count * record + random_below((uint32_t)record);
-    struct answer a = ask_list(c, length, records, what);
+    struct cellumaq_answer a = ask_list(c, length, records, what);
     CHECK(a.refusal == 0 && a.count == count, "%s: refusal %" PRIu64 ", %" PRIu64 " records, not %zu", what, a.refusal, a.count, count);
     CHECK(a.count != count || memcmp(records, expected, count * record) == 0, "%s: other records", what);
     if (count != 0) {

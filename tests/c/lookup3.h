@@ -1,5 +1,5 @@
-/* lookup3 as the tests and the benchmark have it of their own: Bob Jenkins' hashlittle (lookup3.c, May 2006, public domain), byte by byte,
- * for little-endian machines and any alignment. */
+/* lookup3 as the tests and the benchmark have it of their own: Bob Jenkins' hashlittle (lookup3.c, May 2006, public
+ * domain), byte by byte, for little-endian machines and any alignment. */
 #ifndef LOOKUP3_H
 #define LOOKUP3_H
 

@@ -12,14 +12,16 @@ static inline uint32_t random_below(uint32_t n)
     return (uint32_t)(((uint64_t)random_state * n) >> 32);
 }
 
-/* Offset size, length size, client, element size, max bits, inline count, least block elements, super block minimum, page exponent. */
+/* Offset size, length size, client, element size, max bits, inline count, least block elements, super block minimum,
+ * page exponent. */
 static const struct array_parameters layouts[] = {
     {8, 8, 0, 8, 32, 4, 16, 4, 10}, {8, 8, 1, 14, 32, 4, 16, 4, 10}, {2, 2, 0, 2, 10, 1, 2, 1, 1}, {2, 4, 1, 7, 8, 0, 1, 0, 1},
     {4, 2, 3, 8, 12, 3, 4, 2, 2},   {4, 8, 1, 16, 20, 255, 8, 9, 3}, {8, 4, 0, 99, 62, 2, 128, 12, 32}, {8, 2, 255, 20, 5, 0, 1, 3, 0},
     {4, 4, 0, 4, 0, 2, 1, 0, 0},    {8, 8, 1, 12, 7, 1, 1, 32, 1},   {2, 2, 0, 0, 9, 3, 1, 2, 3},       {4, 4, 1, 13, 62, 1, 1, 0, 2},
 };
 
-/* Present shapes that end within the array, a maximum below the present shape, and two in which the unlimited dimension isn't the first. */
+/* Present shapes that end within the array, a maximum below the present shape, and two in which the unlimited dimension
+ * isn't the first. */
 static const struct grid grids[] = {
     {.element_bytes = 8, .order = 1, .rank = 0},
     {.element_bytes = 4, .order = 1, .rank = 1, .chunk = {10}, .present = {95}, .has_maximum = 1, .maximum = {CELLUMAQ_UNLIMITED}},
@@ -35,11 +37,7 @@ enum { LAYOUTS = sizeof layouts / sizeof *layouts, GRIDS = sizeof grids / sizeof
 /* How many slots an array has, SLOTS at most. */
 static inline uint64_t slots_of(const struct array_parameters *p)
 {
-    uint64_t slots = p->inline_count;
-
-    for (uint64_t u = 0; u < array_super_blocks(p) && slots < SLOTS; u++)
-        slots += array_blocks(u) * array_block_elements(p, u);
-    return slots < SLOTS ? slots : SLOTS;
+    return array_slots(p, SLOTS);
 }
 
 /* So many slots, each defined with a chance of so many in 16. */

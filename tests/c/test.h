@@ -1,5 +1,5 @@
-/* Tests that are made of checks. A program of tests runs each by test_run() and ends with test_summary(); the test run reads and adds up
- * the lines `ok` and `FAILED`. */
+/* Tests that are made of checks. A program of tests runs each by test_run() and ends with test_summary(); the test run
+ * reads and adds up the lines `ok` and `FAILED`. */
 #ifndef TEST_H
 #define TEST_H
 

@@ -18,7 +18,8 @@ static void driver_vectors(void)
     CHECK(cellumaq_checksum(NULL, 0) == 0xdeadbeef, "NULL of length 0");
 }
 
-/* Every length from 0 to 64 at every alignment, with low, high and mixed bytes; the bytes around the slice must not matter, and stay. */
+/* Every length from 0 to 64 at every alignment, with low, high and mixed bytes; the bytes around the slice must not
+ * matter, and stay. */
 static void lengths_and_alignments(void)
 {
     for (int fill = 0; fill < 3; fill++) {

@@ -1,5 +1,6 @@
-/* The departures of docs/DIFFERENCES.md that a call from C can show, each on its smallest input. An answer is `R number figure figure`, or `A` and the
- * records `address:size:mask:offset,..`. The unchanged Rust gives the same answer to the same input, unless a comment says what it does. */
+/* The departures of docs/DIFFERENCES.md that a call from C can show, each on its smallest input. An answer is `R number
+ * figure figure`, or `A` and the records `address:size:mask:offset,..`. The unchanged Rust gives the same answer to the
+ * same input, unless a comment says what it does. */
 #define _DEFAULT_SOURCE
 #include "calls.h"
 #include "dataset.h"
@@ -10,9 +11,9 @@ static const struct entry entries[] = {{0, 7, 5, 3}, {1, 8, 5, 3}, {2, 9, 5, 3},
 /* A line of chunks of one element of one byte. */
 static const struct grid line = {.element_bytes = 1, .order = 1, .rank = 1, .chunk = {1}, .present = {9}, .has_maximum = 1, .maximum = {CELLUMAQ_UNLIMITED}};
 
-/* Offset size, length size, client, element size, max bits, inline count, least block elements, super block minimum, page exponent. The first array has
- * nothing but inline elements; the second none, super blocks 0 and 1 with one data block of 1 and 2 elements that the index block names, and super block 2
- * with two of 2 elements. */
+/* Offset size, length size, client, element size, max bits, inline count, least block elements, super block minimum,
+ * page exponent. The first array has nothing but inline elements; the second none, super blocks 0 and 1 with one data
+ * block of 1 and 2 elements that the index block names, and super block 2 with two of 2 elements. */
 static const struct array_parameters inline_only = {2, 2, 0, 2, 0, 2, 1, 0, 0}, blocks_only = {2, 2, 0, 2, 2, 0, 1, 2, 1};
 enum { HEADER, INDEX, DIRECT_0, DIRECT_1, SUPER_2, BLOCK_0, BLOCK_1 };
 
@@ -42,7 +43,7 @@ static void expect_call(const struct call *c, const char *wanted)
 {
     uint8_t list[4096];
     char said[4096], *at = said;
-    struct answer a = ask_list(c, sizeof list, list, wanted);
+    struct cellumaq_answer a = ask_list(c, sizeof list, list, wanted);
 
     if (a.refusal != 0)
         sprintf(said, "R %" PRIu64 " %" PRIu64 " %" PRIu64, a.refusal, a.first, a.second);
@@ -141,7 +142,7 @@ static void expect_absent(struct grid g, uint64_t first, uint64_t second)
     struct call c = dataset_call(&s);
     cellumaq_put_length(corner, 0, first);
     cellumaq_put_length(corner, 1, second);
-    struct answer a = ask_lookup(&c, (struct slice){corner, 16}, "a corner without a slot");
+    struct cellumaq_answer a = ask_lookup(&c, (struct slice){corner, 16}, "a corner without a slot");
     CHECK(a.refusal == 0 && a.count == 0, "refusal %" PRIu64 ", %" PRIu64 " records", a.refusal, a.count);
     array_free(&s.array);
 }
@@ -247,7 +248,8 @@ static void undefined_index_block(void)
     expect(s, "A 7:1:0:0;8:1:0:1");
 }
 
-/* Four slots are published: the second data block of super block 2, and the second page of its first one, lie behind them. */
+/* Four slots are published: the second data block of super block 2, and the second page of its first one, lie behind
+ * them. */
 static void damage_past_the_count(void)
 {
     struct array_parameters paged = blocks_only;
@@ -285,7 +287,8 @@ static void sizes_from_4_gib(void)
     expect_on((struct grid){.element_bytes = 1, .rank = 2, .chunk = {65536, 65536}, .present = {1, 1}}, "R 30 4294967296 0");
 }
 
-/* Max bits below log2 m; a minimum of 3; more inline elements than a page has; more elements than that in the first data block of a super block. */
+/* Max bits below log2 m; a minimum of 3; more inline elements than a page has; more elements than that in the first
+ * data block of a super block. */
 static void parameters_that_do_not_fit(void)
 {
     expect(made((struct array_parameters){2, 2, 0, 2, 0, 0, 2, 0, 1}, 2), "A 7:1:0:0;8:1:0:1");

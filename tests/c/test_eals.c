@@ -4,7 +4,8 @@
 
 enum { MOST_FILE = 60000, MOST_LINE = 4095 };
 
-/* The array of the worked example: count 3, 4096 in the first inline element, 8192 in the first element of the first data block. */
+/* The array of the worked example: count 3, 4096 in the first inline element, 8192 in the first element of the first
+ * data block. */
 static const struct array_parameters plain = {8, 8, 0, 8, 32, 2, 16, 4, 10};
 static const struct entry worked_entries[] = {{0, 4096, 0, 0}, {2, 8192, 0, 0}};
 

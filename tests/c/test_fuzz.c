@@ -11,6 +11,7 @@ static void random_inputs(void)
         if (test_failures != 0)
             printf("seed %d, round %" PRIu64 "\n", SEED, round);
     }
+    CHECK(tally.described > ROUNDS / 8, "few inputs were asked by way of a struct");
     CHECK(tally.accepted > ROUNDS / 4 && tally.found > ROUNDS && tally.absent > ROUNDS, "few inputs were accepted");
     for (int i = CELLUMAQ_REFUSED_PAST_END; i <= CELLUMAQ_REFUSED_CHUNK_SIZE; i++)
         CHECK(tally.refused[i] != 0, "no list was refused with %d", i);

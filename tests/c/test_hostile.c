@@ -1,4 +1,5 @@
-/* Files that make much of few bytes: one block named again and again, the largest count over pointers that lead nowhere, millions of clear pages. */
+/* Files that make much of few bytes: one block named again and again, the largest count over pointers that lead
+ * nowhere, millions of clear pages. */
 #define _DEFAULT_SOURCE
 #include "calls.h"
 #include "dataset.h"
@@ -28,7 +29,7 @@ static void check_again(unsigned u, uint64_t count)
         array_put(at + 16, first + i, 8);
         at += 24;
     }
-    struct answer a = ask_list(&c, all * 24, list, "one block again and again");
+    struct cellumaq_answer a = ask_list(&c, all * 24, list, "one block again and again");
     CHECK(a.refusal == 0 && a.count == (uint64_t)(at - expected) / 24, "super block %u: refusal %" PRIu64 ", %" PRIu64 " records", u, a.refusal, a.count);
     CHECK(memcmp(list, expected, (size_t)(at - expected)) == 0, "super block %u: other records", u);
     for (uint64_t i = 0; i < a.count; i += 1 + i / 8)

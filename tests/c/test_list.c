@@ -3,6 +3,7 @@
  * test_list QUESTIONS ANSWERS replays those two lists alone. */
 #define _DEFAULT_SOURCE
 #include "cellumaq.h"
+#include "described.h"
 #include "list_checks.h"
 #include "lookup3.h"
 #include "test.h"
@@ -29,11 +30,11 @@ static int is_served(const struct array_parameters *p)
     return p->least != 0 && p->least <= 128 && (p->least & (p->least - 1)) == 0 && p->max_bits <= 62 && p->minimum <= 32 && p->page_exponent <= 32;
 }
 
-/* A header has no call of its own, but it is read first in a list, and where it is accepted its fields say whether it is served and where the
- * index block must end. */
+/* A header has no call of its own, but it is read first in a list, and where it is accepted its fields say whether it
+ * is served and where the index block must end. */
 static void check_header(const struct question *q, const char *answer, const char *what)
 {
-    struct answer a = ask_list(&q->call, 0, NULL, what);
+    struct cellumaq_answer a = ask_list(&q->call, 0, NULL, what);
     uint64_t refusal, first, second, count, index_block;
     struct array_parameters p = {.offset_size = (uint8_t)q->call.offset_size};
 
@@ -61,7 +62,7 @@ static void check_header(const struct question *q, const char *answer, const cha
 }
 
 /* An answer as a line; free it. */
-static char *list_line(struct answer a, const uint8_t *records, size_t rank)
+static char *list_line(struct cellumaq_answer a, const uint8_t *records, size_t rank)
 {
     char *text = NULL;
     size_t length;
@@ -87,10 +88,11 @@ static void check_list_line(const struct question *q, const char *answer, const 
     size_t record = cellumaq_record_size(q->call.rank), room = q->room < 4096 ? q->room : 4096;
     size_t length = room * record + strlen(answer) % record;
     uint8_t *records = malloc(length + 1);
-    struct answer a = ask_list(&q->call, length, records, what);
+    struct cellumaq_answer a = ask_list(&q->call, length, records, what);
     char *line = list_line(a, records, q->call.rank);
 
     CHECK(strcmp(line, answer) == 0, "%s: %.200s, not %.200s", what, line, answer);
+    check_described_list(&q->call, length, what);
     free(line);
     free(records);
 }
@@ -127,7 +129,7 @@ static void worked_example(void)
     struct dataset s = worked(plain, line);
     struct call c = dataset_call(&s);
     uint8_t list[72];
-    struct answer a = ask_list(&c, sizeof list, list, "the worked example");
+    struct cellumaq_answer a = ask_list(&c, sizeof list, list, "the worked example");
 
     CHECK(s.array.structures[0].length == 72 && s.array.structures[1].length == 282 && s.array.structures[2].length == 150, "sizes of the structures");
     CHECK(a.refusal == 0 && a.count == 2, "%" PRIu64 " records", a.count);
@@ -138,7 +140,8 @@ static void worked_example(void)
     array_free(&s.array);
 }
 
-/* Arrays of all widths and geometries, dense, sparse and empty, with every count near the begin and some others, under every grid. */
+/* Arrays of all widths and geometries, dense, sparse and empty, with every count near the begin and some others, under
+ * every grid. */
 static void built_arrays(void)
 {
     static const uint32_t chances[] = {16, 9, 1, 0};
@@ -164,7 +167,8 @@ static void built_arrays(void)
     }
 }
 
-/* Few elements, far from each other: super blocks and data blocks that aren't there, and clear pages, are stepped over. */
+/* Few elements, far from each other: super blocks and data blocks that aren't there, and clear pages, are stepped
+ * over. */
 static void far_elements(void)
 {
     static const struct entry entries[] = {
@@ -257,8 +261,9 @@ static void cut_files(void)
     array_free(&s.array);
 }
 
-/* Whether the list of an array without gaps comes to a structure: data blocks that the index block names, and super blocks, only up to the
- * count; all data blocks of a super block; a page unless one before it has run past the count. */
+/* Whether the list of an array without gaps comes to a structure: data blocks that the index block names, and super
+ * blocks, only up to the count; all data blocks of a super block; a page unless one before it has run past the
+ * count. */
 static int is_reached(const struct structure *t, const struct structure *super_block, uint64_t first_of_block, uint64_t count)
 {
     if (t->slot == 0)

@@ -167,7 +167,7 @@ static void orders(void)
     for (size_t i = 0; i < sizeof given / sizeof *given; i++) {
         s.grid.order = given[i];
         struct call c = dataset_call(&s);
-        struct answer a = ask_list(&c, sizeof list, list, "the unlimited dimension first");
+        struct cellumaq_answer a = ask_list(&c, sizeof list, list, "the unlimited dimension first");
 
         CHECK(a.refusal == 0 && a.count == 1 && cellumaq_record_offset(list, 2, 0, 0) == 10 && cellumaq_record_offset(list, 2, 0, 1) == 10,
               "order %" PRIu64 ": slot 5 isn't corner (10, 10)", given[i]);
@@ -245,7 +245,7 @@ static void list_lengths(void)
     uint8_t list[200];
 
     for (size_t length = 0; length <= sizeof list; length++) {
-        struct answer a = ask_list(&c, length, list, "some length");
+        struct cellumaq_answer a = ask_list(&c, length, list, "some length");
 
         if (length < 48)
             CHECK(a.refusal == CELLUMAQ_REFUSED_LIST_TOO_SMALL && a.first == 2 && a.second == 0, "length %zu: refusal %" PRIu64, length, a.refusal);
@@ -316,13 +316,14 @@ static void served_headers(void)
         patch_header(&s.array, cases[i].byte, cases[i].value);
         struct call c = dataset_call(&s);
         snprintf(what, sizeof what, "header byte %zu is %u", cases[i].byte, cases[i].value);
-        struct answer a = ask_list(&c, sizeof list, list, what);
+        struct cellumaq_answer a = ask_list(&c, sizeof list, list, what);
         CHECK((a.refusal == CELLUMAQ_REFUSED_HEADER_NOT_SERVED) == !cases[i].served, "%s: refusal %" PRIu64, what, a.refusal);
         array_free(&s.array);
     }
 }
 
-/* Filtered elements of every size: too few bytes for an address and a mask, a size field of 0 to 8 bytes, one of 9, and sizes over 32 bits. */
+/* Filtered elements of every size: too few bytes for an address and a mask, a size field of 0 to 8 bytes, one of 9, and
+ * sizes over 32 bits. */
 static void element_sizes(void)
 {
     static const struct entry small[] = {{0, 4096, 0xfe, 6}}, large[] = {{0, 4096, 0x123456789a, 6}};

@@ -1,8 +1,10 @@
-/* cellumaq_lookup: lists of questions and answers, every corner of real files and of arrays that are built here, damage on the way and elsewhere.
+/* cellumaq_lookup: lists of questions and answers, every corner of real files and of arrays that are built here, damage
+ * on the way and elsewhere.
  *
  * test_lookup QUESTIONS ANSWERS replays those two lists alone. */
 #define _DEFAULT_SOURCE
 #include "cellumaq.h"
+#include "described.h"
 #include "lookup3.h"
 #include "samples.h"
 #include "test.h"
@@ -10,11 +12,7 @@
 
 static void check_refusal(const struct call *c, struct slice corner, uint64_t refusal, uint64_t first, uint64_t second, const char *what)
 {
-    struct answer a = ask_lookup(c, corner, what);
-
-    CHECK(a.refusal == refusal && a.first == first && a.second == second,
-          "%s: refusal %" PRIu64 " with %" PRIu64 " and %" PRIu64 ", not %" PRIu64 " with %" PRIu64 " and %" PRIu64, what, a.refusal, a.first, a.second,
-          refusal, first, second);
+    check_refused(ask_lookup(c, corner, what), refusal, first, second, what);
 }
 
 /* Questions and answers. */
@@ -23,7 +21,7 @@ static const char *questions, *answers;
 
 static void check_line(const struct question *q, const char *answer, const char *what)
 {
-    struct answer a = ask_lookup(&q->call, q->corner, what);
+    struct cellumaq_answer a = ask_lookup(&q->call, q->corner, what);
     char line[128];
 
     if (a.refusal != 0)
@@ -31,6 +29,7 @@ static void check_line(const struct question *q, const char *answer, const char 
     else
         snprintf(line, sizeof line, "ok %" PRIu64 " %" PRIu64 " %" PRIu64 " %" PRIu64, a.count, a.address, a.size, a.mask);
     CHECK(strcmp(line, answer) == 0, "%s: %s, not %s", what, line, answer);
+    check_described_lookup(&q->call, q->corner, what);
 }
 
 static void replay_lookups(void)
@@ -52,15 +51,6 @@ static void check_found(const struct call *c, const uint8_t *corner, const uint8
     CHECK(call_lookup(c, corner, length, 3) == 1 && call_lookup(c, corner, length, 4) == cellumaq_get(record, 8) &&
           call_lookup(c, corner, length, 5) == cellumaq_get(record + 8, 4) && call_lookup(c, corner, length, 6) == cellumaq_get(record + 12, 4),
           "%s: another record than the list's", what);
-}
-
-/* The record of a corner in a list, or NULL. */
-static const uint8_t *record_of(const uint8_t *list, size_t count, size_t rank, const uint8_t *corner)
-{
-    for (size_t i = 0; i < count; i++)
-        if (memcmp(list + i * cellumaq_record_size(rank) + 16, corner, 8 * rank) == 0)
-            return list + i * cellumaq_record_size(rank);
-    return NULL;
 }
 
 /* Steps a corner on by some chunks, the last dimension fastest; 0 behind the present shape. */
@@ -175,8 +165,8 @@ static void far_elements(void)
     }
 }
 
-/* Whether the way to a slot leads over a structure: the header and the index block always; for a slot below the count the super block, data block and
- * page that begin with the first slot of its super block, data block and page. */
+/* Whether the way to a slot leads over a structure: the header and the index block always; for a slot below the count
+ * the super block, data block and page that begin with the first slot of its super block, data block and page. */
 static int on_the_way(const struct array *a, const struct structure *t, uint64_t slot)
 {
     const struct array_parameters *p = &a->of;
@@ -198,7 +188,8 @@ static int on_the_way(const struct array *a, const struct structure *t, uint64_t
     return t->slot == slot - in_block % array_page_elements(p);
 }
 
-/* One bit of one structure is another: every lookup whose way leads over it is refused, every other one answers as before. */
+/* One bit of one structure is another: every lookup whose way leads over it is refused, every other one answers as
+ * before. */
 static void damage(void)
 {
     struct dataset s = small_array();
@@ -307,7 +298,7 @@ static void wrong_corners(void)
     array_free(&s.array);
 }
 
-/* Corners in the present shape that have no slot: behind the count of a dimension that doesn't lead, or past 2^64 - 1. */
+/* Corners in the present shape without a slot: behind the count of a dimension that doesn't lead, or past 2^64 - 1. */
 static void corners_without_slots(void)
 {
     struct dataset s = worked(filtered, (struct grid){.order = 0, .rank = 2, .chunk = {5, 2}, .present = {70, 20}, .has_maximum = 1, .maximum = {40, 4}});
@@ -337,7 +328,7 @@ static void rank_0(void)
 {
     struct dataset s = worked(plain, grids[0]);
     struct call c = dataset_call(&s);
-    struct answer a = ask_lookup(&c, (struct slice){NULL, 0}, "slot 0");
+    struct cellumaq_answer a = ask_lookup(&c, (struct slice){NULL, 0}, "slot 0");
 
     CHECK(a.count == 1 && a.address == 4096 && a.size == 8 && a.mask == 0, "slot 0: %" PRIu64 " records", a.count);
     array_free(&s.array);
@@ -406,7 +397,7 @@ static void orders(void)
     for (size_t i = 0; i < sizeof given / sizeof *given; i++) {
         s.grid.order = given[i];
         struct call c = dataset_call(&s);
-        struct answer a = ask_lookup(&c, (struct slice){corner, 16}, "the unlimited dimension first");
+        struct cellumaq_answer a = ask_lookup(&c, (struct slice){corner, 16}, "the unlimited dimension first");
 
         CHECK(a.count == 1 && a.address == 4096 && a.size == 1 && a.mask == 2, "order %" PRIu64 ": corner (10, 10) isn't slot 5", given[i]);
     }

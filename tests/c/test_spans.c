@@ -1,5 +1,6 @@
-/* The span listing against the answers that the Rust gave: tests/data/spans/questions.txt, line by line with answers.txt.
- * A question is `spans O L ADDRESS ROOM HEX`, an answer `ok COUNT address,length ..` or `refused NUMBER FIGURE FIGURE`. */
+/* The span listing against the answers that the Rust gave: tests/data/spans/questions.txt, line by line with
+ * answers.txt. A question is `spans O L ADDRESS ROOM HEX`, an answer `ok COUNT address,length ..` or `refused NUMBER
+ * FIGURE FIGURE`. */
 #include <inttypes.h>
 #include <stdint.h>
 #include <stdlib.h>
@@ -75,7 +76,8 @@ static size_t strays(const uint64_t *list, const uint64_t *wanted, uint64_t coun
     return n;
 }
 
-/* One call with lists of these lengths: its number and both lists. Lists begin as BEFORE; the call's writes are taken back. */
+/* One call with lists of these lengths: its number and both lists. Lists begin as BEFORE; the call's writes are taken
+ * back. */
 static void check_call(int line, const struct call *c, const struct expected *e, uint64_t first, uint64_t second, uint64_t which)
 {
     uint64_t count = e->numbers[3];
@@ -128,7 +130,8 @@ static void answers_of_the_rust(void)
     fclose(answers);
 }
 
-/* Header sizes as given: 16 + 6L + O bytes, and their sum with the address is exact. 31 begins where it is past 2^64 - 1, then 20. */
+/* Header sizes as given: 16 + 6L + O bytes, and their sum with the address is exact. 31 begins where it is past
+ * 2^64 - 1, then 20. */
 static void sizes_as_given(void)
 {
     static const struct {

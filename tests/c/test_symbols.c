@@ -1,4 +1,4 @@
-/* The archive has the functions of cellumaq.h and no other name, and needs nothing but the C library's memory functions. */
+/* The archive has the functions of cellumaq.h and no other name, and needs only the C library's memory functions. */
 #define _DEFAULT_SOURCE
 #include <string.h>
 

@@ -136,7 +136,8 @@ static inline void vector_question(char *line, const char *questions, struct que
     q->call.file = vector_file(&line, questions, &q->file);
 }
 
-/* Hands each question of a kind to `ask`, with its answer without the line's end; how many there were. Both lists must have as many lines. */
+/* Hands each question of a kind to `ask`, with its answer without the line's end; how many there were. Both lists must
+ * have as many lines. */
 static inline unsigned long vector_replay(const char *questions, const char *answers, const char *kind,
                                    void (*ask)(const struct question *q, const char *answer, const char *what))
 {

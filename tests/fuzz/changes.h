@@ -51,7 +51,8 @@ static inline uint64_t random_target(const struct array *a)
     }
 }
 
-/* One pointer, or all from some pointer on, lead elsewhere: those of an index block or super block, counted from its end. */
+/* One pointer, or all from some pointer on, lead elsewhere: those of an index block or super block, counted from its
+ * end. */
 static inline void change_pointers(struct array *a)
 {
     const struct structure *t = random_structure(a);

@@ -1,5 +1,5 @@
-/* Random inputs for the C functions, without end or for some time: fuzz SEED SECONDS, or fuzz SEED SECONDS ROUND for that round alone.
- * A failure is told with its seed and round. */
+/* Random inputs for the C functions, without end or for some time: fuzz SEED SECONDS, or fuzz SEED SECONDS ROUND for
+ * that round alone. A failure is told with its seed and round. */
 #define _DEFAULT_SOURCE
 #include <sanitizer/common_interface_defs.h>
 #include <signal.h>
@@ -40,6 +40,7 @@ static void report(uint64_t rounds, double seconds)
            tally.checksums, tally.lists, tally.lookups);
     printf("  lists accepted %" PRIu64 " with %" PRIu64 " records, only counted %" PRIu64 "; lookups found %" PRIu64 ", absent %" PRIu64 "\n", tally.accepted,
            tally.records, tally.too_many, tally.found, tally.absent);
+    printf("  asked by way of a struct too %" PRIu64 "\n", tally.described);
     print_refusals("lists", tally.refused);
     print_refusals("lookups", tally.lookup_refused);
     printf("  slowest list %.6f s in round %" PRIu64 "; %lu checks\n", tally.slowest, tally.slowest_round, test_checks);

@@ -53,21 +53,11 @@ static inline struct array_parameters random_layout(void)
     return p;
 }
 
-/* How many slots an array has, INPUT_SLOTS at most. */
-static inline uint64_t capacity(const struct array_parameters *p)
-{
-    uint64_t slots = p->inline_count;
-
-    for (uint64_t u = 0; u < array_super_blocks(p) && slots < INPUT_SLOTS; u++)
-        slots += array_blocks(u) * array_block_elements(p, u);
-    return slots < INPUT_SLOTS ? slots : INPUT_SLOTS;
-}
-
 /* Elements in the first slots, and a few far from them. */
 static inline void random_elements(struct input *in)
 {
     struct array *a = &in->dataset.array;
-    uint64_t slots = capacity(&a->of), near = slots_of(&a->of), slot;
+    uint64_t slots = array_slots(&a->of, INPUT_SLOTS), near = slots_of(&a->of), slot;
 
     a->entries = in->entries;
     near = near == 0 ? 0 : random_below((uint32_t)near + 1);
@@ -120,8 +110,8 @@ static inline void random_corner(struct input *in)
     in->corner = dataset_shape(offsets, g->rank, in->shapes[3]);
 }
 
-/* Whether what the file has is what the dataset says: elements are long enough and not too long, addresses fit the offset size, the chunks' sizes 32
- * bits, and their numbers 64. */
+/* Whether what the file has is what the dataset says: elements are long enough and not too long, addresses fit the
+ * offset size, the chunks' sizes 32 bits, and their numbers 64. */
 static inline int is_sound(const struct dataset *s)
 {
     const struct grid *g = &s->grid;
@@ -140,12 +130,9 @@ static inline int is_sound(const struct dataset *s)
 /* Bytes without sense behind junk; perhaps with a header whose fields have none. */
 static inline void random_bytes(struct array *a)
 {
-    size_t length = 16u + 6u * a->of.length_size + a->of.offset_size;
+    size_t length = array_header_size(&a->of);
 
-    a->bytes = NULL;
-    a->structures = NULL;
-    a->length = a->room = a->structure_count = 0;
-    array_more(a, a->header, 0x45);
+    array_begin(a);
     if (one_in(2)) {
         array_structure(a, "EAHD", length, 0);
         for (size_t i = 5; i < length; i++)

@@ -1,4 +1,5 @@
-/* One round: a random input, what can be told of its answers without knowing them, and where it is sound the list itself. */
+/* One round: a random input, what can be told of its answers without knowing them, and where it is sound the list
+ * itself. */
 #ifndef ROUND_H
 #define ROUND_H
 
@@ -6,6 +7,7 @@
 
 #include "calls.h"
 #include "changes.h"
+#include "described.h"
 #include "lookup3.h"
 
 /* A list with more records is only counted. */
@@ -14,8 +16,10 @@ enum { ROUND_RECORDS = 20000, ROUND_REFUSALS = 40 };
 /* What the rounds have met. */
 struct tally {
     uint64_t rounds, checksums, lists, lookups; /* rounds, and calls of each kind */
-    uint64_t accepted, records, too_many;       /* inputs whose list was accepted, their records; and lists that were only counted */
+    uint64_t accepted, records;                 /* inputs whose list was accepted, and their records */
+    uint64_t too_many;                          /* lists that were only counted */
     uint64_t found, absent;                     /* of lookups */
+    uint64_t described;                         /* inputs that were asked by way of a struct too */
     uint64_t refused[ROUND_REFUSALS];           /* inputs whose list was refused, by number */
     uint64_t lookup_refused[ROUND_REFUSALS];
     double slowest; /* the processor's seconds for the slowest list, and its round */
@@ -39,9 +43,9 @@ static inline void count_refusal(uint64_t *refused, uint64_t refusal, const char
         refused[refusal]++;
 }
 
-static inline struct answer counted_lookup(const struct call *c, struct slice corner, const char *what)
+static inline struct cellumaq_answer counted_lookup(const struct call *c, struct slice corner, const char *what)
 {
-    struct answer a = ask_lookup(c, corner, what);
+    struct cellumaq_answer a = ask_lookup(c, corner, what);
 
     tally.lookups += CALL_PICKS;
     tally.found += a.refusal == 0 && a.count == 1;
@@ -93,20 +97,11 @@ static inline void check_corners(const struct call *c, const uint8_t *list, size
     free(sorted);
 }
 
-/* The record of a corner in a list, or NULL. */
-static inline const uint8_t *record_at(const uint8_t *list, size_t count, size_t rank, const uint8_t *corner)
-{
-    for (size_t i = 0; i < count; i++)
-        if (memcmp(list + i * cellumaq_record_size(rank) + 16, corner, 8 * rank) == 0)
-            return list + i * cellumaq_record_size(rank);
-    return NULL;
-}
-
 /* The lookup of a corner of the present shape gives the list's record, or none where the list has none. */
 static inline void check_lookup(const struct call *c, const uint8_t *list, size_t count, const uint8_t *corner)
 {
-    const uint8_t *record = record_at(list, count, c->rank, corner);
-    struct answer a = counted_lookup(c, (struct slice){corner, 8 * c->rank}, "the lookup of an accepted list");
+    const uint8_t *record = record_of(list, count, c->rank, corner);
+    struct cellumaq_answer a = counted_lookup(c, (struct slice){corner, 8 * c->rank}, "the lookup of an accepted list");
 
     CHECK(a.refusal == 0, "the list is accepted, the lookup refused with %" PRIu64, a.refusal);
     CHECK(a.count == (record != NULL), "the list has %d record of a corner, the lookup %" PRIu64, record != NULL, a.count);
@@ -140,7 +135,8 @@ static inline void check_lookups(const struct call *c, const uint8_t *list, size
     }
 }
 
-/* What the header, the numbers and the shapes are refused for comes before the corner: list and lookup have the same. */
+/* What the header, the numbers and the shapes are refused for comes before the corner: list and lookup have the
+ * same. */
 static inline int is_shared(uint64_t refusal)
 {
     return (refusal >= CELLUMAQ_REFUSED_OFFSET_SIZE && refusal <= CELLUMAQ_REFUSED_TOO_MANY_CHUNKS) || refusal == CELLUMAQ_REFUSED_HEADER_SIGNATURE ||
@@ -148,7 +144,7 @@ static inline int is_shared(uint64_t refusal)
 }
 
 /* The list of a sound input is known. */
-static inline void check_sound(const struct input *in, const struct answer *a, const uint8_t *list)
+static inline void check_sound(const struct input *in, const struct cellumaq_answer *a, const uint8_t *list)
 {
     size_t count, record = cellumaq_record_size(in->call.rank);
     uint8_t *expected = dataset_list(&in->dataset, &count);
@@ -180,7 +176,7 @@ static inline void round_list(const struct input *in)
     size_t record = cellumaq_record_size(c->rank <= 32 ? c->rank : 0), room = (needed <= ROUND_RECORDS ? needed : 0) * record;
     size_t length = room + random_below(one_in(8) ? 2000 : (uint32_t)record), less = needed == 0 ? 0 : random_below((uint32_t)room);
     uint8_t *list = malloc(length + 1);
-    struct answer a = ask_list(c, length, list, "the list"), of_corner = counted_lookup(c, in->corner, "a corner");
+    struct cellumaq_answer a = ask_list(c, length, list, "the list"), of_corner = counted_lookup(c, in->corner, "a corner");
 
     tally.lists += CALL_PICKS;
     if (needed > ROUND_RECORDS) {
@@ -200,8 +196,14 @@ static inline void round_list(const struct input *in)
     }
     if (in->sound)
         check_sound(in, &a, list);
+    if (is_described(c) && needed <= ROUND_RECORDS && one_in(4)) {
+        check_described_list(c, length, "the list");
+        if (in->corner.length == 8 * c->rank || c->rank > CELLUMAQ_RANK_MOST)
+            check_described_lookup(c, in->corner, "a corner");
+        tally.described++;
+    }
     if (needed != 0 && one_in(4)) {
-        struct answer refused = ask_list(c, less, list, "a list without enough room");
+        struct cellumaq_answer refused = ask_list(c, less, list, "a list without enough room");
 
         tally.lists += CALL_PICKS;
         CHECK(refused.refusal == CELLUMAQ_REFUSED_LIST_TOO_SMALL && refused.first == needed && refused.second == 0, "refusal %" PRIu64, refused.refusal);

@@ -21,7 +21,8 @@ static inline uint64_t layout_index(const struct messages *m, const uint8_t *lay
 {
     if (length < 5 || layout[0] != 4 || layout[1] != CHUNKED)
         return UINT64_MAX;
-    /* Behind version, class, flags, rank and width of a length: the lengths, the kind of index, and five parameters of the extensible array. */
+    /* Behind version, class, flags, rank and width of a length: the lengths, the kind of index, and five parameters of
+     * the extensible array. */
     uint64_t kind = 5 + (uint64_t)layout[3] * layout[4];
     if (length < kind + 6 + m->offset_size || layout[kind] != EXTENSIBLE_ARRAY)
         return UINT64_MAX;

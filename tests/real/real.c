@@ -2,10 +2,12 @@
 #define _DEFAULT_SOURCE
 #define H5_USE_110_API
 #include <hdf5.h>
+#include <inttypes.h>
 
-#include "calls.h"
+#include "cellumaq.h"
 #include "layout.h"
 #include "samples.h"
+#include "test.h"
 
 enum { RANK_MOST = 6, CHUNK_BYTES_MOST = 4096, CORNERS_MOST = 3000 };
 
@@ -161,31 +163,29 @@ static uint8_t *read_archive(size_t *length)
     return bytes;
 }
 
-/* The call for the dataset, from what the library says of it. */
-static struct call call_of(const struct archive *a, hid_t dataset, struct slice file, uint8_t shapes[3][8 * RANK_MOST])
+/* The dataset, from what the library says of it; its index isn't known yet. */
+static struct cellumaq_dataset described(const struct archive *a, hid_t dataset, const uint8_t *file, size_t length)
 {
-    hsize_t present[RANK_MOST], maximum[RANK_MOST];
+    struct cellumaq_dataset d = {.file = file, .file_length = length, .offset_size = a->offset_size, .length_size = a->length_size, .element_bytes = 4};
     hid_t space = H5Dget_space(dataset);
+    hsize_t present[RANK_MOST], maximum[RANK_MOST];
     H5O_info_t info;
-    struct call c = {.file = file, .offset_size = a->offset_size, .length_size = a->length_size, .element_bytes = 4, .order = CELLUMAQ_UNLIMITED_FIRST,
-                     .rank = (uint64_t)H5Sget_simple_extent_dims(space, present, maximum), .has_maximum = 1};
 
+    d.rank = (uint64_t)H5Sget_simple_extent_dims(space, present, maximum);
+    for (size_t i = 0; i < d.rank; i++) {
+        d.chunk[i] = a->chunk[i];
+        d.present[i] = present[i];
+        d.maximum[i] = maximum[i] == H5S_UNLIMITED ? CELLUMAQ_UNLIMITED : maximum[i];
+    }
     H5Sclose(space);
     H5Oget_info(dataset, &info);
-    c.address = index_address(file.bytes, file.length, c.offset_size, c.length_size, info.addr);
-    for (size_t d = 0; d < c.rank; d++) {
-        cellumaq_put_length(shapes[0], d, a->chunk[d]);
-        cellumaq_put_length(shapes[1], d, present[d]);
-        cellumaq_put_length(shapes[2], d, maximum[d] == H5S_UNLIMITED ? CELLUMAQ_UNLIMITED : maximum[d]);
-    }
-    c.chunk = (struct slice){shapes[0], 8 * c.rank};
-    c.present = (struct slice){shapes[1], 8 * c.rank};
-    c.maximum = (struct slice){shapes[2], 8 * c.rank};
-    return c;
+    d.address = index_address(file, length, a->offset_size, a->length_size, info.addr);
+    return d;
 }
 
-/* The list is the library's, chunk by chunk. The library of version 1.10 has other corners where the unlimited dimension isn't the first. */
-static void compare_list(const struct archive *a, hid_t dataset, const struct call *c)
+/* The list is the library's, chunk by chunk. The library of version 1.10 has other corners where the unlimited
+ * dimension isn't the first. */
+static void compare_list(const struct archive *a, hid_t dataset, const struct cellumaq_dataset *d)
 {
     hid_t space = H5Dget_space(dataset);
     hsize_t chunks = 0, corner[RANK_MOST], size;
@@ -193,66 +193,65 @@ static void compare_list(const struct archive *a, hid_t dataset, const struct ca
     haddr_t address;
 
     H5Dget_num_chunks(dataset, space, &chunks);
-    uint8_t *list = malloc((chunks + 1) * cellumaq_record_size(c->rank));
-    struct answer answer = ask_list(c, chunks * cellumaq_record_size(c->rank), list, a->name);
+    uint8_t *list = malloc((chunks + 1) * cellumaq_record_size(d->rank));
+    struct cellumaq_answer answer = cellumaq_ask_list(d, list, chunks * cellumaq_record_size(d->rank));
 
-    CHECK(chunks != 0 && answer.refusal == 0 && answer.count == chunks, "%s: refusal %" PRIu64 ", %" PRIu64 " chunks, not %" PRIu64, a->name, answer.refusal,
-          answer.count, (uint64_t)chunks);
+    CHECK(chunks != 0 && answer.refusal == 0 && answer.count == chunks, "%s: refusal %" PRIu64 ", %" PRIu64 " chunks, not %" PRIu64, a->name,
+          answer.refusal, answer.count, (uint64_t)chunks);
     for (size_t i = 0; i < answer.count; i++) {
         CHECK(H5Dget_chunk_info(dataset, space, i, corner, &mask, &address, &size) >= 0, "%s: the library has no chunk %zu", a->name, i);
-        CHECK(address == cellumaq_record_address(list, c->rank, i) && size == cellumaq_record_chunk_size(list, c->rank, i) &&
-              mask == cellumaq_record_mask(list, c->rank, i), "%s: the library has another chunk %zu", a->name, i);
-        for (size_t d = 0; d < c->rank && a->unlimited == 0; d++)
-            CHECK(corner[d] == cellumaq_record_offset(list, c->rank, i, d), "%s: the library has another corner of chunk %zu", a->name, i);
+        CHECK(address == cellumaq_record_address(list, d->rank, i) && size == cellumaq_record_chunk_size(list, d->rank, i) &&
+              mask == cellumaq_record_mask(list, d->rank, i), "%s: the library has another chunk %zu", a->name, i);
+        for (size_t k = 0; k < d->rank && a->unlimited == 0; k++)
+            CHECK(corner[k] == cellumaq_record_offset(list, d->rank, i, k), "%s: the library has another corner of chunk %zu", a->name, i);
     }
-    printf("  %s: index at %" PRIu64 " of %zu bytes, %" PRIu64 " of %" PRIu64 " chunks\n", a->name, c->address, c->file.length, answer.count, corners(a));
+    printf("  %s: index at %" PRIu64 " of %zu bytes, %" PRIu64 " of %" PRIu64 " chunks\n", a->name, d->address, d->file_length, answer.count, corners(a));
     free(list);
     H5Sclose(space);
 }
 
 /* The chunk of a corner, by the library: whether it is there, its mask, and its bytes where the lookup says. */
-static void compare_lookup(const struct archive *a, hid_t dataset, const struct call *c, const hsize_t corner[RANK_MOST])
+static void compare_lookup(const struct archive *a, hid_t dataset, const struct cellumaq_dataset *d, const hsize_t corner[RANK_MOST])
 {
-    uint8_t offsets[8 * RANK_MOST], bytes[CHUNK_BYTES_MOST];
+    uint8_t bytes[CHUNK_BYTES_MOST];
+    uint64_t offsets[RANK_MOST];
     hsize_t size = 0;
     uint32_t mask = 0;
 
-    for (size_t d = 0; d < c->rank; d++)
-        cellumaq_put_length(offsets, d, corner[d]);
-    uint64_t found = call_lookup(c, offsets, 8 * c->rank, CELLUMAQ_COUNT), address = call_lookup(c, offsets, 8 * c->rank, CELLUMAQ_FOUND_ADDRESS);
+    for (size_t i = 0; i < d->rank; i++)
+        offsets[i] = corner[i];
+    struct cellumaq_answer answer = cellumaq_ask_lookup(d, offsets);
 
-    CHECK(call_lookup(c, offsets, 8 * c->rank, CELLUMAQ_REFUSAL) == 0, "%s: a refused lookup", a->name);
+    CHECK(answer.refusal == 0, "%s: a lookup is refused with %" PRIu64, a->name, answer.refusal);
     if (H5Dget_chunk_storage_size(dataset, corner, &size) < 0)
         size = 0;
-    CHECK(call_lookup(c, offsets, 8 * c->rank, CELLUMAQ_FOUND_SIZE) == size && found == (size != 0), "%s: the library has %" PRIu64 " bytes of a chunk",
-          a->name, (uint64_t)size);
-    if (size == 0 || found == 0 || size > sizeof bytes)
+    CHECK(answer.size == size && answer.count == (size != 0), "%s: the library has %" PRIu64 " bytes of a chunk", a->name, (uint64_t)size);
+    if (size == 0 || answer.count == 0 || size > sizeof bytes)
         return;
     CHECK(H5Dread_chunk(dataset, H5P_DEFAULT, corner, &mask, bytes) >= 0, "%s: the library can't read a chunk", a->name);
-    CHECK(call_lookup(c, offsets, 8 * c->rank, CELLUMAQ_FOUND_MASK) == mask, "%s: the library has mask %" PRIu32, a->name, mask);
-    CHECK(address + size <= c->file.length && memcmp(c->file.bytes + address, bytes, size) == 0, "%s: the chunk's bytes are elsewhere", a->name);
+    CHECK(answer.mask == mask, "%s: the library has mask %" PRIu32, a->name, mask);
+    CHECK(answer.address + size <= d->file_length && memcmp(d->file + answer.address, bytes, size) == 0, "%s: the chunk's bytes are elsewhere", a->name);
 }
 
 /* All corners of the present shape, or of very many a part; and all that may be written. */
-static void compare_lookups(const struct archive *a, hid_t dataset, const struct call *c)
+static void compare_lookups(const struct archive *a, hid_t dataset, const struct cellumaq_dataset *d)
 {
     uint64_t n = corners(a), others = n <= CORNERS_MOST ? 1 : n / CORNERS_MOST;
     hsize_t corner[RANK_MOST];
 
     for (uint64_t i = 0; i < n; i += others) {
         corner_of(a, i, corner);
-        compare_lookup(a, dataset, c, corner);
+        compare_lookup(a, dataset, d, corner);
     }
     for (uint64_t i = 0; i < n && a->step > 1; i += a->step) {
         corner_of(a, i, corner);
-        compare_lookup(a, dataset, c, corner);
+        compare_lookup(a, dataset, d, corner);
     }
 }
 
 /* The file stays open: the library can't open a dataset again that is unlimited in a file of 2 or 4 bytes a length. */
 static void compare(void)
 {
-    uint8_t shapes[3][8 * RANK_MOST];
     size_t length = 0;
 
     snprintf(path, sizeof path, "%s/real.h5", folder);
@@ -262,11 +261,11 @@ static void compare(void)
 
     CHECK(done && bytes != NULL, "%s: cannot write and read %s", made->name, path);
     if (done && bytes != NULL) {
-        struct call c = call_of(made, dataset, (struct slice){bytes, length}, shapes);
+        struct cellumaq_dataset d = described(made, dataset, bytes, length);
 
-        CHECK(c.address != UINT64_MAX, "%s: no extensible array in the data layout message", made->name);
-        compare_list(made, dataset, &c);
-        compare_lookups(made, dataset, &c);
+        CHECK(d.address != UINT64_MAX, "%s: no extensible array in the data layout message", made->name);
+        compare_list(made, dataset, &d);
+        compare_lookups(made, dataset, &d);
     }
     H5Dclose(dataset);
     H5Fclose(file);
