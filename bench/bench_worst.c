@@ -17,7 +17,7 @@ enum shape { NONE_PRESENT, HALF_PRESENT };
 static struct cellumaq_dataset described(const struct array *a, enum shape shape, uint64_t rank)
 {
     struct cellumaq_dataset d = {.file = a->bytes, .file_length = a->length, .offset_size = a->of.offset_size, .length_size = a->of.length_size,
-                                 .element_bytes = 1, .rank = rank};
+                                 .element_bytes = 1, .order = CELLUMAQ_UNLIMITED_FIRST, .rank = rank};
 
     for (size_t i = 0; i < rank; i++) {
         d.chunk[i] = 1;

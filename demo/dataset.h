@@ -43,6 +43,7 @@ static struct cellumaq_dataset read_dataset(char **arguments)
     d.length_size = strtoull(arguments[2], NULL, 10);
     d.address = strtoull(arguments[3], NULL, 10);
     d.element_bytes = strtoull(arguments[4], NULL, 10);
+    d.order = CELLUMAQ_UNLIMITED_FIRST;
     d.rank = read_lengths(arguments[5], d.chunk);
     read_shape(&d, arguments[6], d.present);
     read_shape(&d, arguments[7], d.maximum);

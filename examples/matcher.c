@@ -129,8 +129,9 @@ int main(int argc, char **argv)
         return 2;
     }
     struct cellumaq_dataset d = {.file = file, .file_length = length, .offset_size = 8, .length_size = 8,
-                                 .address = strtoull(argv[2], NULL, 10), .element_bytes = 4, .rank = 2, .chunk = {4, 4},
-                                 .present = {11, 13}, .maximum = {CELLUMAQ_UNLIMITED, 15}};
+                                 .address = strtoull(argv[2], NULL, 10), .element_bytes = 4,
+                                 .order = CELLUMAQ_UNLIMITED_FIRST, .rank = 2, .chunk = {4, 4}, .present = {11, 13},
+                                 .maximum = {CELLUMAQ_UNLIMITED, 15}};
     int listed = print_list(&d);
 
     print_chunk(&d, strtoull(argv[3], NULL, 10), strtoull(argv[4], NULL, 10));

@@ -111,6 +111,8 @@ struct cellumaq_dataset {
                              * since an HDF5 file begins otherwise */
     uint64_t element_bytes; /* of one element of the dataset. The size of a chunk that isn't filtered is the product of
                              * the chunk's lengths and this; forgotten: 30 at the first such chunk */
+    uint64_t order;         /* enum cellumaq_order: CELLUMAQ_UNLIMITED_FIRST; forgotten: row-major, which gives the same,
+                             * or 7 or 8 */
     uint64_t rank;          /* how many dimensions the dataset has, 0 to 32; forgotten: 3, as wherever a shape has a
                              * length behind the rank */
     uint64_t chunk[CELLUMAQ_RANK_MOST];   /* the lengths of a chunk (the data layout message has one number more, the
@@ -233,8 +235,7 @@ static inline void cellumaq_put_arguments(struct cellumaq_arguments *a, const st
             a->maximum_length = 0;
 }
 
-/* cellumaq_list() and cellumaq_lookup() of a dataset, its chunks numbered as HDF5 does, with the unlimited dimension
- * first. A corner has an offset for each dimension; NULL is one without offsets. */
+/* cellumaq_list() and cellumaq_lookup() of a dataset. A corner has an offset for each dimension; NULL is one without offsets. */
 static inline uint64_t cellumaq_list_dataset(const struct cellumaq_dataset *d, uint8_t *list, size_t list_length,
                                              uint64_t which)
 {
@@ -242,8 +243,8 @@ static inline uint64_t cellumaq_list_dataset(const struct cellumaq_dataset *d, u
 
     cellumaq_put_arguments(&a, d, NULL);
     return cellumaq_list(d->file, d->file_length, d->offset_size, d->length_size, d->address, a.element_bytes,
-                         CELLUMAQ_UNLIMITED_FIRST, d->rank, a.chunk, a.chunk_length, a.present, a.present_length, 1,
-                         a.maximum, a.maximum_length, list, list_length, which);
+                         d->order, d->rank, a.chunk, a.chunk_length, a.present, a.present_length, 1, a.maximum,
+                         a.maximum_length, list, list_length, which);
 }
 
 static inline uint64_t cellumaq_lookup_dataset(const struct cellumaq_dataset *d, const uint64_t *corner, uint64_t which)
@@ -252,8 +253,8 @@ static inline uint64_t cellumaq_lookup_dataset(const struct cellumaq_dataset *d,
 
     cellumaq_put_arguments(&a, d, corner);
     return cellumaq_lookup(d->file, d->file_length, d->offset_size, d->length_size, d->address, a.element_bytes,
-                           CELLUMAQ_UNLIMITED_FIRST, d->rank, a.chunk, a.chunk_length, a.present, a.present_length, 1,
-                           a.maximum, a.maximum_length, a.corner, a.corner_length, which);
+                           d->order, d->rank, a.chunk, a.chunk_length, a.present, a.present_length, 1, a.maximum,
+                           a.maximum_length, a.corner, a.corner_length, which);
 }
 
 /* All numbers of an answer, as enum cellumaq_which has them. */

@@ -19,7 +19,8 @@ static inline int is_described(const struct call *c)
 static inline struct cellumaq_dataset described(const struct call *c)
 {
     struct cellumaq_dataset d = {.file = c->file.bytes, .file_length = c->file.length, .offset_size = c->offset_size, .length_size = c->length_size,
-                                 .address = c->address, .element_bytes = c->element_bytes, .rank = c->rank};
+                                 .address = c->address, .element_bytes = c->element_bytes, .order = c->order,
+                                 .rank = c->rank};
     const struct slice *maximum = c->has_maximum != 0 ? &c->maximum : &c->present;
 
     for (size_t i = 0; i < c->rank && c->rank <= CELLUMAQ_RANK_MOST; i++) {
@@ -30,15 +31,12 @@ static inline struct cellumaq_dataset described(const struct call *c)
     return d;
 }
 
-/* The call that answers as the struct is to. Where row-major order is refused with 7 or 8, the other one is taken;
- * elements without bytes are too large, and a maximum below the present shape is of another rank. */
+/* The call that answers as the struct is to: elements without bytes are too large, and a maximum below the present shape
+ * is of another rank. */
 static inline struct call plain_call(const struct call *c)
 {
     struct call plain = *c;
-    uint64_t refusal = call_list(c, NULL, 0, CELLUMAQ_REFUSAL);
 
-    if (refusal == CELLUMAQ_REFUSED_UNLIMITED || refusal == CELLUMAQ_REFUSED_TOO_MANY_CHUNKS)
-        plain.order = CELLUMAQ_UNLIMITED_FIRST;
     if (c->element_bytes == 0)
         plain.element_bytes = UINT64_MAX;
     for (size_t i = 0; i < c->rank && c->rank <= CELLUMAQ_RANK_MOST && c->has_maximum != 0; i++)

@@ -12,6 +12,7 @@ int main(void)
 
     dataset.offset_size = dataset.length_size = 8;
     dataset.element_bytes = 4;
+    dataset.order = CELLUMAQ_UNLIMITED_FIRST;
     dataset.rank = 1;
     dataset.chunk[0] = 10;
     dataset.present[0] = 25;

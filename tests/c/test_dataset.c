@@ -119,7 +119,7 @@ static void forgotten_fields(void)
         size_t offset, size;
         uint64_t list, lookup;
     } fields[] = {{"file and its length", 0, 16, 20, 20}, {FIELD(offset_size), 1, 1}, {FIELD(length_size), 2, 2}, {FIELD(address), 21, 21},
-                  {FIELD(element_bytes), 30, 30}, {FIELD(rank), 3, 3}, {FIELD(chunk), 6, 6}, {FIELD(present), 0, 10}, {FIELD(maximum), 5, 5}};
+                  {FIELD(element_bytes), 30, 30}, {FIELD(order), 7, 7}, {FIELD(rank), 3, 3}, {FIELD(chunk), 6, 6}, {FIELD(present), 0, 10}, {FIELD(maximum), 5, 5}};
     static const struct entry entries[] = {{5, 4096, 0, 0}};
     struct dataset s = {.array = {.of = plain, .count = 6, .entries = entries, .entry_count = 1, .header = 100}, .grid = grids[6]};
     uint64_t corner[] = {10, 10};

@@ -166,7 +166,8 @@ static uint8_t *read_archive(size_t *length)
 /* The dataset, from what the library says of it; its index isn't known yet. */
 static struct cellumaq_dataset described(const struct archive *a, hid_t dataset, const uint8_t *file, size_t length)
 {
-    struct cellumaq_dataset d = {.file = file, .file_length = length, .offset_size = a->offset_size, .length_size = a->length_size, .element_bytes = 4};
+    struct cellumaq_dataset d = {.file = file, .file_length = length, .offset_size = a->offset_size, .length_size = a->length_size,
+                                 .element_bytes = 4, .order = CELLUMAQ_UNLIMITED_FIRST};
     hid_t space = H5Dget_space(dataset);
     hsize_t present[RANK_MOST], maximum[RANK_MOST];
     H5O_info_t info;
