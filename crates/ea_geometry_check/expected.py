@@ -51,4 +51,5 @@ for o in (2, 8, TOP):
     print(f"offset size {o} direct {DIRECT} super {SUPER} index block {min(extent, TOP)}")
 for slot in (0, 1, 2, 17, 18, 242, 131_060, 138_226, 8_589_934_577, 8_589_934_578, TOP):
     print(f"slot {slot} {place(slot)}")
-print("".join(f"{byte:08b}" for byte in b"\x81\x43"))
+for bits in (b"\x81\x43", b"\x01\xfe"):
+    print("".join(f"{byte:08b}" for byte in bits))

@@ -4,11 +4,8 @@ from collections import namedtuple
 
 UNLIMITED = 2**64 - 1
 
-# list_offset_size is the offset size that the list is called with; the header is read with offset_size. The last two only describe the
-# array: whether it is filtered, and whether a slot below the count lies in a page.
-Case = namedtuple(
-    "Case", "file offset_size length_size address element_bytes order chunk present maximum list_offset_size filtered paged"
-)
+# list_offset_size is the offset size that the list is called with; the header is read with offset_size.
+Case = namedtuple("Case", "file offset_size length_size address element_bytes order chunk present maximum list_offset_size")
 
 
 def le(value, width):
@@ -54,8 +51,6 @@ class Maker:
             present,
             maximum,
             self.pick(3, 2, 4, 8, 0) if self.chance(0.04) else self.offset_size,
-            self.client != 0,
-            self.paged,
         )
 
     def parameters(self):
@@ -89,7 +84,6 @@ class Maker:
         self.defined = self.pick(0.5, 0.8, 0.95)
         self.pointed = self.pick(0.5, 0.9)
         self.bad = self.pick(0, 0, 0, 0.05, 0.2)
-        self.paged = False
 
     # Bytes.
 
@@ -151,7 +145,6 @@ class Maker:
         """Its data blocks and itself; gives its position."""
         blocks, elements = 2 ** (u // 2), self.least * 2 ** ((u + 1) // 2)
         pages = elements >> self.page_exponent if elements > 2**self.page_exponent else 0
-        self.paged |= pages > 0 and self.inline + self.least * (2**u - 1) < self.count
         bits = [0] * (blocks * ((pages + 7) // 8))
         pointers = []
         for k in range(blocks):

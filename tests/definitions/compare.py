@@ -12,7 +12,11 @@ from arrays import Maker
 
 HERE = os.path.dirname(os.path.abspath(__file__))
 ROOT = os.path.dirname(os.path.dirname(HERE))
-CASES = os.path.join(ROOT, "crates", "ea_compared", "proofs", "Cases.antt")
+
+# The crate with the equations stands in a repository of its own below target/, the one folder where rt minds no file
+# that is in no crate.
+REPOSITORY = os.path.join(ROOT, "target", "definitions")
+CRATE = "compared: ea_worked ea_header index chunk_grid fields refusal"
 SOURCES = ["bytes.rs", "chunk_grid.rs", "convert.rs", "error.rs", "extensible_array.rs", "source.rs"]
 MANIFEST = """[package]
 name = "harness"
@@ -32,9 +36,6 @@ checksum = []
 [profile.release]
 overflow-checks = true
 """
-
-# The cases that are committed: so many, from so many of this seed.
-COMMITTED, POOL, SEED = 64, 3000, 1
 
 
 def built(sources):
@@ -83,18 +84,6 @@ def kind(answer):
     return "accepted " + ("0", "1", "2", "more")[min(len(records(answer)), 3)]
 
 
-def chosen(pairs, n):
-    """n of them, all kinds in turn; of accepted lists also filtered or not, and with pages or not."""
-    kinds = {}
-    for c, answer in pairs:
-        key = (kind(answer), c.filtered, c.paged) if answer.startswith("A ") else kind(answer)
-        kinds.setdefault(key, []).append((c, answer))
-    out = []
-    while len(out) < n and any(kinds.values()):
-        out += [queue.pop(0) for queue in kinds.values() if queue]
-    return out[:n]
-
-
 # antt
 
 
@@ -129,11 +118,45 @@ unfolding compared
 """
 
 
-def written(pairs):
-    with open(os.path.join(HERE, "Head.txt")) as f:
-        head = f.read()
-    with open(CASES, "w") as f:
-        f.write(head + "".join(equation(f"case-{i}", c, a) for i, (c, a) in enumerate(pairs)))
+def written(path, text):
+    os.makedirs(os.path.dirname(path), exist_ok=True)
+    with open(path, "w") as f:
+        f.write(text)
+
+
+def read(path):
+    with open(path) as f:
+        return f.read()
+
+
+def repository(pairs):
+    """Writes the repository: the crates that are here, with what is proved of them, and the crate with the equations."""
+    shutil.rmtree(REPOSITORY, ignore_errors=True)
+    crate = os.path.join(REPOSITORY, "crates", "compared")
+    equations = "".join(equation(f"case-{i}", c, a) for i, (c, a) in enumerate(pairs))
+    written(os.path.join(crate, "src", "lib.rt"), "// Equations; no code.\n")
+    written(os.path.join(crate, "proofs", "Lib.antt"), "pub mod Cases\n")
+    written(os.path.join(crate, "proofs", "Cases.antt"), read(os.path.join(HERE, "Head.txt")) + equations)
+    written(os.path.join(REPOSITORY, "crates.txt"), read(os.path.join(ROOT, "crates.txt")) + CRATE + "\n")
+    for name in os.listdir(os.path.join(ROOT, "crates")):
+        os.symlink(os.path.join(ROOT, "crates", name), os.path.join(REPOSITORY, "crates", name))
+    os.makedirs(os.path.join(REPOSITORY, "target"))
+    for name in ("rlib", "stamp"):
+        os.symlink(os.path.join(ROOT, "target", name), os.path.join(REPOSITORY, "target", name))
+
+
+def rt(folder, *words):
+    return subprocess.run(["rt", *words], cwd=folder, capture_output=True, text=True, errors="replace")
+
+
+def proved(pairs):
+    """Whether the equations hold, and what is said of those that don't."""
+    run = rt(ROOT, "check", "ea_worked")
+    if run.returncode == 0:
+        repository(pairs)
+        run = rt(REPOSITORY, "dev", "compared")
+    said = (run.stdout + run.stderr).splitlines()
+    return run.returncode == 0, [line for line in said if "error" in line] or said[-10:]
 
 
 def main():
@@ -141,36 +164,22 @@ def main():
     parser.add_argument("sources", help="the folder with the Rust's extensible_array.rs")
     parser.add_argument("--seed", type=int, default=2)
     parser.add_argument("--cases", type=int, default=250)
-    parser.add_argument("--write", action="store_true", help="write the committed cases again, and prove nothing")
     options = parser.parse_args()
 
     harness = built(options.sources)
-    maker = Maker(SEED if options.write else options.seed)
+    maker = Maker(options.seed)
     cases = []
-    while len(cases) < (POOL if options.write else options.cases):
+    while len(cases) < options.cases:
         c = maker.case()
         if len(c.file) <= 900:
             cases.append(c)
     pairs = answered(harness, cases)
-    if options.write:
-        pairs = chosen(pairs, COMMITTED)
     print(f"{len(pairs)} cases:", ", ".join(f"{k} × {n}" for k, n in sorted(Counter(kind(a) for _, a in pairs).items())))
-    if options.write:
-        written(pairs)
-        return 0
-    with open(CASES) as f:
-        committed = f.read()
-    try:
-        written(pairs)
-        proved = subprocess.run(["rt", "dev", "ea_compared"], cwd=ROOT, capture_output=True, text=True, errors="replace")
-    finally:
-        with open(CASES, "w") as f:
-            f.write(committed)
-    if proved.returncode == 0:
+    agree, said = proved(pairs)
+    if agree:
         print("all agree")
         return 0
-    said = (proved.stdout + proved.stderr).splitlines()
-    print("\n".join(line[:400] for line in [line for line in said if "error" in line] or said[-10:]))
+    print("\n".join(line[:400] for line in said))
     print("NOT all agree")
     return 1
 

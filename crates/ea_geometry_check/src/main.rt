@@ -372,4 +372,5 @@ fn main() {
     print_worked_place(8_589_934_578);
     print_worked_place(0xffff_ffff_ffff_ffff);
     print_bits(b"\xff\x81\x43");
+    print_bits(b"\xff\x01\xfe");
 }

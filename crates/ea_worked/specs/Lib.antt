@@ -1,4 +1,5 @@
 pub mod Files
 pub mod Worked
 pub mod Pages
+pub mod Table
 pub mod Lazy

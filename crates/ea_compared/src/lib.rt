@@ -1,1 +1,0 @@
-// Answers of the definitions held against those of a second implementation; no code.
