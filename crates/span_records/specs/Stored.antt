@@ -1,10 +1,13 @@
 -- Span records in a lent list.
-use Prim.Native.Nat.{ℕ, zero, suc}
-use mathlib.Core.Bool.{Bool, cond, _&&_}
+use Prim.Native.Nat.{ℕ, zero, suc, min}
 use mathlib.Core.List.{List}
-use lib.Dec.{leb}
+use lib.Dec.{ltb}
 use lib.ListN.{length, getD, set}
+use Rattle.refusal.specs.declared.Checked.{Checked}
+use Rattle.refusal.specs.declared.Checked.the-variants.{Passed, Refused}
+use Rattle.refusal.specs.Refusals.{refuse}
 use Rattle.span_walk.specs.declared.Span.{Span}
+use Rattle.ea_spans.specs.SpanList.{roomOf}
 
 -- the first n records hold the addresses and the lengths, and the others are as they were
 abbrev pub spanAt : List ℕ → List ℕ → ℕ → Span
@@ -14,9 +17,15 @@ abbrev pub stored : ℕ → List ℕ → List ℕ → List Span → List Span
 stored zero addresses lengths spans = spans
 stored (suc n) addresses lengths spans = set (stored n addresses lengths spans) n (spanAt addresses lengths n)
 
--- no list is shorter than n
-unfoldable pub fits : ℕ → List Span → List ℕ → List ℕ → Bool
-fits n spans addresses lengths = leb n (length spans) && leb n (length addresses) && leb n (length lengths)
+-- Three lists hold as many spans as the shortest of them.
+abbrev pub recordRoom : List ℕ → List ℕ → List Span → ℕ
+recordRoom addresses lengths spans = min (roomOf addresses lengths) (length spans)
 
-unfoldable pub storedWhere : ℕ → List ℕ → List ℕ → List Span → List Span
-storedWhere n addresses lengths spans = cond (fits n spans addresses lengths) (stored n addresses lengths spans) spans
+-- 9, list too small (needed records)
+unfoldable pub roomTest : ℕ → ℕ → Checked
+roomTest n room = refuse 9 n 0 (ltb room n)
+
+-- how many are stored: n, or none after a refusal
+unfoldable pub storedNumber : Checked → ℕ → ℕ
+storedNumber Passed n = n
+storedNumber (Refused r) n = 0
