@@ -1,6 +1,6 @@
 -- Span records in a lent list: where they fit, and what they are. Assumes nothing.
 use Prim.Native.Nat.{ℕ, zero, suc, _+_, _<_, _≤_}
-use mathlib.Core.Path.{_≡_, refl, ap, _∙_}
+use mathlib.Core.Path.{_≡_, refl, sym, ap, _∙_}
 use mathlib.Core.Bool.{Bool, true, false}
 use mathlib.Core.List.{List, [], _∷_, _++_}
 use native.Mathlib.Omega.{arith}
@@ -10,10 +10,14 @@ use lib.ListN.{length, getD, take, set, length-set, length-take, List·getD-appe
 use lib.Seq.{sets, sets-eq, take-suc, take-all}
 use Rattle.refusal.specs.declared.Checked.the-variants.{Passed, Refused}
 use Rattle.refusal.specs.Refusals.{refuse}
-use Rattle.refusal.specs.Outcome.{accepted}
+use Rattle.refusal.specs.Outcome.{refused, accepted, inRoom}
+use Rattle.refusal.specs.Values.{countedOf}
+use Rattle.refusal.proofs.Outcomes.{room-had}
 use Rattle.span_walk.specs.declared.Span.{Span}
+use Rattle.span_walk.specs.Walk.{Spanning}
 use Rattle.ea_spans.specs.SpanList.{each, filled, addressOf, lengthOf}
-use Rattle.span_records.specs.Stored.{spanAt, stored, roomTest, storedNumber}
+use Rattle.ea_spans.proofs.Writing.{length-filled}
+use Rattle.span_records.specs.Stored.{spanAt, stored, recordRoom, roomTest, storedNumber, listedNumber, recorded}
 
 pub length-stored : (n : ℕ) (xs ls : List ℕ) (ys : List Span) → length (stored n xs ls ys) ≡ length ys
 length-stored zero xs ls ys = refl
@@ -37,6 +41,11 @@ module _ (n room : ℕ) where
       go : (b : Bool) → ltb room n ≡ b → storedNumber (refuse 9 n 0 b) n ≤ room
       go true e = omega arith
       go false e = ltb-false room n e
+
+  -- all of n, where there is room
+  number-all : n ≤ room → storedNumber (roomTest n room) n ≡ n
+  unfolding storedNumber
+  number-all le = rw (sym (room-passed le)) refl
 
 -- one store more
 sets-snoc : (l : List Span) (i : ℕ) (a : List Span) (x : Span) → sets l i (a ++ (x ∷ [])) ≡ set (sets l i a) (i + length a) x
@@ -84,5 +93,28 @@ module _ (l : List Span) (xs ls : List ℕ) (ys : List Span) (a : length l ≤ l
       let k : 0 + length (take n l) ≡ n = omega (arith, length-take n l) in
       rw (stored-take n (omega arith), at, take-suc l n none h, sets-snoc ys 0 (take n l) (getD l n none), k) refl
 
-  pub spans-stored : stored (length l) A L ys ≡ sets ys 0 l
+  spans-stored : stored (length l) A L ys ≡ sets ys 0 l
   spans-stored = stored-take (length l) (omega arith) ∙ ap (sets ys 0) (take-all (length l) l (omega arith))
+
+-- Listed and then stored, they are recorded.
+listed-recorded : (t : Spanning) (xs ls : List ℕ) (ys : List Span) → ((l : List Span) → t ≡ accepted l → length l ≤ recordRoom xs ls ys)
+    → let A = filled addressOf t 0 xs in
+    let L = filled lengthOf t 0 ls in
+    let n = listedNumber (countedOf t) in
+    stored (storedNumber (roomTest n (recordRoom A L ys)) n) A L ys ≡ recorded t ys
+unfolding listedNumber countedOf recorded
+listed-recorded (refused r) xs ls ys had = rw (number-all 0 (recordRoom (filled addressOf (refused r) 0 xs) (filled lengthOf (refused r) 0 ls) ys) (omega arith)) refl
+listed-recorded (accepted l) xs ls ys had =
+    let k = had l refl in
+    let x = length-filled addressOf (accepted l) 0 xs in
+    let y = length-filled lengthOf (accepted l) 0 ls in
+    rw (number-all (length l) (recordRoom (filled addressOf (accepted l) 0 xs) (filled lengthOf (accepted l) 0 ls) ys) (omega arith))
+    (spans-stored l xs ls ys (omega arith) (omega arith))
+
+pub spans-recorded : (a : Spanning) (xs ls : List ℕ) (ys : List Span)
+    → let t = inRoom a (recordRoom xs ls ys) in
+    let A = filled addressOf t 0 xs in
+    let L = filled lengthOf t 0 ls in
+    let n = listedNumber (countedOf t) in
+    stored (storedNumber (roomTest n (recordRoom A L ys)) n) A L ys ≡ recorded t ys
+spans-recorded a xs ls ys = listed-recorded (inRoom a (recordRoom xs ls ys)) xs ls ys (λ l e. room-had a (recordRoom xs ls ys) l e)

@@ -3,10 +3,15 @@ use Prim.Native.Nat.{ℕ, zero, suc, min}
 use mathlib.Core.List.{List}
 use lib.Dec.{ltb}
 use lib.ListN.{length, getD, set}
+use lib.Seq.{sets}
 use Rattle.refusal.specs.declared.Checked.{Checked}
 use Rattle.refusal.specs.declared.Checked.the-variants.{Passed, Refused}
+use Rattle.refusal.specs.declared.Counted.{Counted}
+use Rattle.refusal.specs.declared.Counted.the-variants.{Count, Refused as CountedRefused}
 use Rattle.refusal.specs.Refusals.{refuse}
+use Rattle.refusal.specs.Outcome.{refused, accepted, inRoom}
 use Rattle.span_walk.specs.declared.Span.{Span}
+use Rattle.span_walk.specs.Walk.{Spanning, spans}
 use Rattle.ea_spans.specs.SpanList.{roomOf}
 
 -- the first n records hold the addresses and the lengths, and the others are as they were
@@ -29,3 +34,17 @@ roomTest n room = refuse 9 n 0 (ltb room n)
 unfoldable pub storedNumber : Checked → ℕ → ℕ
 storedNumber Passed n = n
 storedNumber (Refused r) n = 0
+
+-- the spans of an index in the room of all three lists
+unfoldable pub spansAsRecords : List ℕ → ℕ → ℕ → ℕ → List ℕ → List ℕ → List Span → Spanning
+spansAsRecords f address o l addresses lengths records = inRoom (spans f address o l) (recordRoom addresses lengths records)
+
+-- how many are listed: the count, or none after a refusal
+unfoldable pub listedNumber : Counted → ℕ
+listedNumber (Count n) = n
+listedNumber (CountedRefused r) = 0
+
+-- The records then: the spans from number 0 on, and the others as they were. After a refusal all are as they were.
+unfoldable pub recorded : Spanning → List Span → List Span
+recorded (refused r) out = out
+recorded (accepted l) out = sets out 0 l

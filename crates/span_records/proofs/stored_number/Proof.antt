@@ -1,5 +1,4 @@
 -- `span_records::stored_number` meets its contract. Assumes nothing.
-use mathlib.Core.Path.{sym, ap}
 use borrow.Author.Needs.{needs}
 use Rattle.span_records.specs.Stored.{storedNumber}
 use Rattle.span_records.proofs.stored_number.Statement.{statement}
