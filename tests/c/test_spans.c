@@ -1,5 +1,6 @@
-/* The span listings against the answers that the Rust gave: tests/data/spans/questions.txt, line by line with answers.txt.
- * A question is `spans O L ADDRESS ROOM HEX`, an answer `ok COUNT address,length ..` or `refused NUMBER FIGURE FIGURE`. */
+/* The span listings against the answers that the Rust gave: tests/data/spans/questions.txt, line by line with
+ * answers.txt. A question is `spans O L ADDRESS ROOM HEX`, an answer `ok COUNT address,length ..` or
+ * `refused NUMBER FIGURE FIGURE`. */
 #include <inttypes.h>
 #include <stdint.h>
 #include <stdlib.h>
@@ -131,8 +132,8 @@ static void check_records(int line, const struct call *c, const struct expected 
     reset(count);
 }
 
-/* A question as records: each number that can be picked; each list the shorter one; and where all are accepted, each list one too
- * short, when 9 names how many are needed. */
+/* A question as records: each number that can be picked; each list the shorter one; and where all are accepted, each list
+ * one too short, when 9 names how many are needed. */
 static void check_question(int line, const struct call *c, const struct expected *e)
 {
     uint64_t count = e->numbers[3];

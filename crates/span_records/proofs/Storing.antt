@@ -17,7 +17,7 @@ use Rattle.span_walk.specs.declared.Span.{Span}
 use Rattle.span_walk.specs.Walk.{Spanning}
 use Rattle.ea_spans.specs.SpanList.{each, filled, addressOf, lengthOf}
 use Rattle.ea_spans.proofs.Writing.{length-filled}
-use Rattle.span_records.specs.Stored.{spanAt, stored, recordRoom, roomTest, storedNumber, listedNumber, recorded}
+use Rattle.span_records.specs.Stored.{spanAt, stored, recordRoom, roomTest, storedNumber, storedWhere, listedNumber, recorded}
 
 pub length-stored : (n : ℕ) (xs ls : List ℕ) (ys : List Span) → length (stored n xs ls ys) ≡ length ys
 length-stored zero xs ls ys = refl
@@ -101,7 +101,7 @@ listed-recorded : (t : Spanning) (xs ls : List ℕ) (ys : List Span) → ((l : L
     → let A = filled addressOf t 0 xs in
     let L = filled lengthOf t 0 ls in
     let n = listedNumber (countedOf t) in
-    stored (storedNumber (roomTest n (recordRoom A L ys)) n) A L ys ≡ recorded t ys
+    storedWhere n A L ys ≡ recorded t ys
 unfolding listedNumber countedOf recorded
 listed-recorded (refused r) xs ls ys had = rw (number-all 0 (recordRoom (filled addressOf (refused r) 0 xs) (filled lengthOf (refused r) 0 ls) ys) (omega arith)) refl
 listed-recorded (accepted l) xs ls ys had =
@@ -116,5 +116,5 @@ pub spans-recorded : (a : Spanning) (xs ls : List ℕ) (ys : List Span)
     let A = filled addressOf t 0 xs in
     let L = filled lengthOf t 0 ls in
     let n = listedNumber (countedOf t) in
-    stored (storedNumber (roomTest n (recordRoom A L ys)) n) A L ys ≡ recorded t ys
+    storedWhere n A L ys ≡ recorded t ys
 spans-recorded a xs ls ys = listed-recorded (inRoom a (recordRoom xs ls ys)) xs ls ys (λ l e. room-had a (recordRoom xs ls ys) l e)

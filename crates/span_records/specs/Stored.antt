@@ -30,14 +30,22 @@ recordRoom addresses lengths spans = min (roomOf addresses lengths) (length span
 unfoldable pub roomTest : ℕ → ℕ → Checked
 roomTest n room = refuse 9 n 0 (ltb room n)
 
+abbrev pub storeTest : ℕ → List ℕ → List ℕ → List Span → Checked
+storeTest n addresses lengths spans = roomTest n (recordRoom addresses lengths spans)
+
 -- how many are stored: n, or none after a refusal
 unfoldable pub storedNumber : Checked → ℕ → ℕ
 storedNumber Passed n = n
 storedNumber (Refused r) n = 0
 
+abbrev pub storedWhere : ℕ → List ℕ → List ℕ → List Span → List Span
+storedWhere n addresses lengths spans =
+    stored (storedNumber (storeTest n addresses lengths spans) n) addresses lengths spans
+
 -- the spans of an index in the room of all three lists
 unfoldable pub spansAsRecords : List ℕ → ℕ → ℕ → ℕ → List ℕ → List ℕ → List Span → Spanning
-spansAsRecords f address o l addresses lengths records = inRoom (spans f address o l) (recordRoom addresses lengths records)
+spansAsRecords f address o l addresses lengths records =
+    inRoom (spans f address o l) (recordRoom addresses lengths records)
 
 -- how many are listed: the count, or none after a refusal
 unfoldable pub listedNumber : Counted → ℕ

@@ -3,24 +3,17 @@ ghost use mathlib.Core.Path.{_≡_};
 ghost use Prim.Native.Nat.{min};
 ghost use Rattle.refusal.specs.Values.{countedOf};
 ghost use Rattle.ea_spans.specs.SpanList.{filled, addressOf, lengthOf};
-ghost use Rattle.span_records.specs.Stored.{
-  stored,
-  recordRoom,
-  roomTest,
-  storedNumber,
-  spansAsRecords,
-  listedNumber,
-  recorded,
-};
+ghost use Rattle.span_records.specs.Stored.{roomTest, storeTest, storedNumber, storedWhere};
+ghost use Rattle.span_records.specs.Stored.{spansAsRecords, listedNumber, recorded};
 use ea_spans::extensible_array_index_spans_within;
 use refusal::Checked;
 use refusal::Counted;
 use refusal::Refusal;
 use span_walk::Span;
 
-// Lists the spans of the index whose header lies at an address, as records from number 0 on. The lists of addresses and lengths are
-// room to work in: they are filled too. The answer is how many spans they are. After a refusal all three lists are as they were; 9
-// tells how many spans each must hold.
+// Lists the spans of the index whose header lies at an address, as records from number 0 on. The lists of addresses and
+// lengths are room to work in: they are filled too. The answer is how many spans they are. After a refusal all three
+// lists are as they were; 9 tells how many spans each must hold.
 pub fn extensible_array_index_span_records(
     file: &[u8],
     address: u64,
@@ -47,6 +40,7 @@ pub fn extensible_array_index_span_records(
         lengths,
     );
     let n = listed_number(counted);
+    // n spans have room in all three lists: this is not refused.
     store_spans(spans, addresses, lengths, n);
     counted
 }
@@ -61,11 +55,12 @@ fn listed_number(counted: Counted) -> usize
     }
 }
 
-// Stores the first n spans, whose addresses and lengths the two lists hold, as the first n records. 9 where a list is shorter than
-// n: then nothing is stored.
+// Stores the first n spans, whose addresses and lengths the two lists hold, as the first n records. 9 where a list is
+// shorter than n: then nothing is stored.
 pub fn store_spans(spans: &mut [Span], addresses: &[u64], lengths: &[u64], n: usize) -> Checked
-    ensures { λ r. ⌜ (let t = roomTest n (recordRoom (now (addresses .entry)) (now (lengths .entry)) (now (spans .entry))) in
-        (r ≡ t) × (now (spans .exit) ≡ stored (storedNumber t n) (now (addresses .entry)) (now (lengths .entry)) (now (spans .entry)))) ⌝ }
+    ensures checked { λ r. ⌜ r ≡ storeTest n (now (addresses .entry)) (now (lengths .entry)) (now (spans .entry)) ⌝ }
+    ensures records { λ _. ⌜ now (spans .exit)
+        ≡ storedWhere n (now (addresses .entry)) (now (lengths .entry)) (now (spans .entry)) ⌝ }
 {
     let checked = test_room(n, addresses.len(), lengths.len(), spans.len());
     let end = stored_number(checked, n);

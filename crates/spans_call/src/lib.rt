@@ -49,7 +49,8 @@ pub extern "C" fn cellumaq_test_span_records(
 ) -> u64
     ensures { λ r. ⌜ (let s = spansAsRecords (now (file .entry)) address «offset_size» «length_size»
         (now (addresses .entry)) (now (lengths .entry)) (now (spans .entry)) in
-        (r ≡ picked which (answered 1 listNumbers s)) × (now (addresses .exit) ≡ filled addressOf s 0 (now (addresses .entry)))
+        (r ≡ picked which (answered 1 listNumbers s))
+        × (now (addresses .exit) ≡ filled addressOf s 0 (now (addresses .entry)))
         × (now (lengths .exit) ≡ filled lengthOf s 0 (now (lengths .entry)))
         × (now (spans .exit) ≡ recorded s (now (spans .entry)))) ⌝ }
 {

@@ -1,6 +1,7 @@
--- `span_records::extensible_array_index_span_records` meets its contract: a walk of its MIR, by hand, with three calls. The lists of
--- numbers are lent again to the first call, for lifetimes of its own, and are shared for the last one. The records go to that one.
--- All that the proof knows of the functions that are called is that they meet their contracts.
+-- `span_records::extensible_array_index_span_records` meets its contract: a walk of its MIR, by hand, with three calls.
+-- The lists of numbers are lent again to the first call, for lifetimes of its own, and are shared for good for the last
+-- one, to which the records go. All that the proof knows of the functions that are called is that they meet their
+-- contracts.
 -- Assumes nothing.
 use mathlib.Core.Path.{_≡_, refl, ap, _∙_}
 use Prim.Native.Nat.{ℕ, _<_, _^_}
@@ -58,7 +59,7 @@ use Rattle.ea_spans.proofs.extensible_array_index_spans_within as within
 use Rattle.ea_spans.proofs.extensible_array_index_spans_within.Symbol as within-def
 use Rattle.ea_spans.proofs.extensible_array_index_spans_within.Symbol.{name as #within}
 use Rattle.ea_spans.proofs.extensible_array_index_spans_within.Met as within-thm
-use Rattle.span_records.specs.Stored.{stored, recordRoom, roomTest, storedNumber, spansAsRecords, listedNumber, recorded}
+use Rattle.span_records.specs.Stored.{recordRoom, storeTest, storedWhere, spansAsRecords, listedNumber, recorded}
 use Rattle.span_records.proofs.Storing.{spans-recorded}
 use Rattle.span_records.proofs.Lending.{LentAgain, lends-again, comes-back, shares}
 use Rattle.span_records.proofs.listed_number as listed-number
@@ -185,7 +186,8 @@ module _ {M : Type 1} (𝓤 : URA M) (H : Heap 𝓤) (A : Atoms 𝓤) (W : Given
       nothing ! $ move ! (3 ∷ 0 ∷ []) $ fjoin ! $ move ! (2 ∷ 0 ∷ []) $ fjoin ! $ move ! (1 ∷ 0 ∷ []) $ fjoin ! $ nothing ! $ fjoin ! $ nothing ! $ fjoin ! $ nothing ! $ fjoin ! $ nothing ! $ fjoin ! $ frame ! $
       owned ! D.the-row (Is D.the-row) (EL.makes D.the-type D′.the-plain 𝓤 H A) r _ is $ done !
 
-  -- what each callee's triple binds outside, and that the caller has what it asks. First the lists of numbers are lent for ν₁ and ν₂
+  -- what each callee's triple binds outside, and that the caller has what it asks. For the first call the lists of
+  -- numbers are lent for ν₁ and ν₂
   module _ (ν₁ ν₂ : ℕ) (δ₁ δ₂ : GName) where
     abbrev to-within : Within 𝓤 H A mem run .Ghost
     to-within = (((κ₀, (ν₁ ∷ [], (ν₂ ∷ [], tt))), (q₀, (fullShare, (fullShare, tt))), tt, (x₀, (address, (off, (len, (length ys, (x₁ δ₁ xs, (x₂ δ₂ ls, tt))))))), (s₀ ∷ [], (vint w64 address ∷ [], (vint w64 off ∷ [], (vint w64 len ∷ [], (vint w64 (length ys) ∷ [], (s₁ ∷ [], (s₂ ∷ [], tt)))))))), tt)
@@ -228,7 +230,7 @@ module _ {M : Type 1} (𝓤 : URA M) (H : Heap 𝓤) (A : Atoms 𝓤) (W : Given
       module _ (r : Counted) (w : Val) (is : Is D.the-row r (w ∷ [])) (said : r ≡ countedOf S) where
         module _ (m : ℕ) (number : m ≡ listedNumber r) (m-fits : m < 2 ^ 64) where
           -- what `store_spans` stores are the spans
-          are-recorded : stored (storedNumber (roomTest m (recordRoom X L ys)) m) X L ys ≡ recorded S ys
+          are-recorded : storedWhere m X L ys ≡ recorded S ys
           are-recorded = rw (number, said) (spans-recorded (spans (x₀ .now) address off len) xs ls ys)
 
           -- behind the last call, which left the records zs and answered at w′
@@ -236,7 +238,7 @@ module _ {M : Type 1} (𝓤 : URA M) (H : Heap 𝓤) (A : Atoms 𝓤) (W : Given
               → Sq W ((‵ (flft κ₃ q₃) ⊛ ‵ (flft κ₁ q₁) ⊛ ‵ (flft κ₂ q₂) ⊛ ‵ ftrue) ∷ ‵ (finally T.the-row γ₃ zs) ∷ ‵ (finally u64 γ₂ L) ∷ ‵ (finally u64 γ₁ X) ∷ ‵ (flft κ₀ q₀) ∷ ‵ (fat fullShare si l₂₁ 0 s₂) ∷ ‵ (fdies si l₂₁) ∷ ‵ (fat fullShare ri l₂₀ 0 (vptr b₂ o₂)) ∷ ‵ (fdies ri l₂₀) ∷ ‵ (fat fullShare si l₁₉ 0 s₁) ∷ ‵ (fdies si l₁₉) ∷ ‵ (fat fullShare ri l₁₈ 0 (vptr b₁ o₁)) ∷ ‵ (fdies ri l₁₈) ∷ ‵ (fat fullShare ss l₁₇ 0 s₃) ∷ ‵ (fdies ss l₁₇) ∷ ‵ (fat fullShare rs l₁₆ 0 (vptr b₃ o₃)) ∷ ‵ (fdies rs l₁₆) ∷ ‵ (fat fullShare C′.mir l₁₅ 0 w′) ∷ ‵ (fdies C′.mir l₁₅) ∷ ‵ (fat fullShare sm l₁₄ 0 s₂) ∷ ‵ (fdies sm l₁₄) ∷ ‵ (fat fullShare rm l₁₃ 0 (vptr b₂ o₂)) ∷ ‵ (fdies rm l₁₃) ∷ ‵ (fat fullShare sm l₁₂ 0 s₁) ∷ ‵ (fdies sm l₁₂) ∷ ‵ (fat fullShare rm l₁₁ 0 (vptr b₁ o₁)) ∷ ‵ (fdies rm l₁₁) ∷ ‵ (fat fullShare word l₁₀ 0 (vint w64 m)) ∷ ‵ (fdies word l₁₀) ∷ ‵ (fat fullShare D′.mir l₉ 0 w) ∷ ‵ (fdies D′.mir l₉) ∷ ‵ (fat fullShare word l₈ 0 (vint w64 (length ys))) ∷ ‵ (fdies word l₈) ∷ ‵ (fat fullShare sl3 l₇ 0 s₃) ∷ ‵ (fdies sl3 l₇) ∷ ‵ (fat fullShare sl2 l₆ 0 s₂) ∷ ‵ (fdies sl2 l₆) ∷ ‵ (fat fullShare sl1 l₅ 0 s₁) ∷ ‵ (fdies sl1 l₅) ∷ ‵ (fat fullShare word l₄ 0 (vint w64 len)) ∷ ‵ (fdies word l₄) ∷ ‵ (fat fullShare word l₃ 0 (vint w64 off)) ∷ ‵ (fdies word l₃) ∷ ‵ (fat fullShare word l₂ 0 (vint w64 address)) ∷ ‵ (fdies word l₂) ∷ ‵ (fat fullShare sl0 l₁ 0 s₀) ∷ ‵ (fdies sl0 l₁) ∷ ‵ (froom D′.mir l₀ 0) ∷ ‵ (fdies D′.mir l₀) ∷ []) (runs (𝓣 .C) (𝓣 .Λ) En mir′.t-15 (atRet En Post))
           ends w′ zs put same =
               split ! $ move ! (1 ∷ []) $ split ! $ move ! (1 ∷ []) $ split ! $
-              -- [κ₂'s token; true; κ₁'s; κ₃'s; how the records' name ends; the lengths'; the addresses'; κ₀'s token; _21; …]
+              -- [κ₂'s token; true; κ₁'s; κ₃'s; how the records' name ends, the lengths', the addresses'; κ₀'s token; _21; …]
               assigns ! (of-opd ! (load ! (from ! (stop !)) (look ! 32 refl))) (from ! (stop !)) (init ! 50 refl (EL.lawful D.the-type D′.the-laws 𝓤 H A W tt .typed r (w ∷ []) is .0)) $
               returns ! (look ! 50 refl) $ forget ! 8 refl $ forget ! 10 refl $ forget ! 12 refl $ forget ! 14 refl $ forget ! 16 refl $ forget ! 18 refl $ forget ! 20 refl $ forget ! 22 refl $ forget ! 24 refl $ forget ! 26 refl $ forget ! 28 refl $ forget ! 30 refl $ forget ! 32 refl $ forget ! 34 refl $ forget ! 36 refl $ forget ! 38 refl $ forget ! 40 refl $ forget ! 42 refl $ forget ! 44 refl $ forget ! 46 refl $ forget ! 48 refl $ forget ! 50 refl $
               move ! (50 ∷ 51 ∷ []) $ free1 ! $ move ! (48 ∷ 49 ∷ []) $ free1 ! $ move ! (46 ∷ 47 ∷ []) $ free1 ! $ move ! (44 ∷ 45 ∷ []) $ free1 ! $ move ! (42 ∷ 43 ∷ []) $ free1 ! $ move ! (40 ∷ 41 ∷ []) $ free1 ! $ move ! (38 ∷ 39 ∷ []) $ free1 ! $ move ! (36 ∷ 37 ∷ []) $ free1 ! $ move ! (34 ∷ 35 ∷ []) $ free1 ! $ move ! (32 ∷ 33 ∷ []) $ free1 ! $ move ! (30 ∷ 31 ∷ []) $ free1 ! $ move ! (28 ∷ 29 ∷ []) $ free1 ! $ move ! (26 ∷ 27 ∷ []) $ free1 ! $ move ! (24 ∷ 25 ∷ []) $ free1 ! $ move ! (22 ∷ 23 ∷ []) $ free1 ! $ move ! (20 ∷ 21 ∷ []) $ free1 ! $ move ! (18 ∷ 19 ∷ []) $ free1 ! $ move ! (16 ∷ 17 ∷ []) $ free1 ! $ move ! (14 ∷ 15 ∷ []) $ free1 ! $ move ! (12 ∷ 13 ∷ []) $ free1 ! $ move ! (10 ∷ 11 ∷ []) $ free1 ! $ move ! (8 ∷ 9 ∷ []) $ free1 ! $ free0 ! $
@@ -250,16 +252,17 @@ module _ {M : Type 1} (𝓤 : URA M) (H : Heap 𝓤) (A : Atoms 𝓤) (W : Given
               assigns ! (addr ! (from ! (fld ! refl (hop ! (look-in ! 37 (sub ! 0 refl (whole !))) (stop !))))) (from ! (stop !)) (init ! 9 refl (tt, tt)) $ assigns ! (agg ! (and-then ! (load ! (from ! (stop !)) (look ! 9 refl)) (and-then ! (load ! (from ! (fld ! refl (stop !))) (look-in ! 37 (sub ! 1 refl (whole !)))) (no-more !)))) (from ! (stop !)) (init ! 7 refl (tt, (tt, (record { fits = room₂ .0 }, tt)))) $
               use2 W (later (some (λ (δ : GName). ‵ (ShrSlice (named 1) κ₁ u64 .own (x₁ δ X) (s₁ ∷ [])) ⊛ (‵ (finally u64 γ₁ X) ⊛ ‵ (flft κ₁ q₁))))) (shares u64 κ₁ κ₁ q₁ γ₁ b₁ o₁ 𝓤 H A W (named 1) (named 1) X (s₁ ∷ [])) $ await ! tt $ pick ! (λ δ₁. split ! $ move ! (1 ∷ []) $ split ! $
               move ! (3 ∷ 4 ∷ []) $ use2 W (later (some (λ (δ : GName). ‵ (ShrSlice (named 2) κ₂ u64 .own (x₂ δ L) (s₂ ∷ [])) ⊛ (‵ (finally u64 γ₂ L) ⊛ ‵ (flft κ₂ q₂))))) (shares u64 κ₂ κ₂ q₂ γ₂ b₂ o₂ 𝓤 H A W (named 2) (named 2) L (s₂ ∷ [])) $ await ! tt $ pick ! (λ δ₂. split ! $ move ! (1 ∷ []) $ split ! $
-              -- [how the lengths' name ends; κ₂'s token; the lengths, shared; the same of the addresses; the records; κ₃'s token; κ₀'s; _21; …]
+              -- [how the lengths' name ends; κ₂'s token; the lengths, shared; the same of the addresses; the records;
+              -- κ₃'s token; κ₀'s; _21; …]
               nothing ! $ owned ! usize (Is usize) (uint-makes 𝓤 H A W w64) m _ (refl, m-fits) $ fjoin ! $ move ! (3 ∷ 0 ∷ []) $ fjoin ! $ move ! (5 ∷ 0 ∷ []) $ fjoin ! $ move ! (5 ∷ 0 ∷ []) $ fjoin ! $
               nothing ! $ move ! (3 ∷ 0 ∷ []) $ join ! $ move ! (4 ∷ 0 ∷ []) $ join ! $ move ! (4 ∷ 0 ∷ []) $ join ! $
               use2 W (raw (StoreSpans 𝓤 H A mem run .pre (to-store δ₁ δ₂ m))) (goes-store δ₁ δ₂ m) $
               calls-at ! (fmOf 𝓤 H (W .laws) 𝓣) (StoreSpans 𝓤 H A mem run) known-store (to-store δ₁ δ₂ m) (and-then ! (load ! (from ! (stop !)) (look ! 12 refl)) (and-then ! (load ! (from ! (stop !)) (look ! 8 refl)) (and-then ! (load ! (from ! (stop !)) (look ! 4 refl)) (and-then ! (load ! (from ! (stop !)) (look ! 26 refl)) (no-more !))))) (λ w′.
-              use1 W (later (some (λ (c : Checked). (tokens-store δ₁ δ₂ m ⊛ ‵ (C.the-row .own c (w′ ∷ []))) ⊛ some (λ (zs : List Span × (Unit {0} × (Unit {0} × (Unit {0} × Unit {0})))). ‵ (lasts store-spans.ended (κ₃, (κ₁, (κ₂, tt))) (x₃, (x₁ δ₁ X, (x₂ δ₂ L, (m, tt)))) zs) ⊛ raw (fact 𝓤 ((c ≡ roomTest m (recordRoom X L ys)) × (zs .0 ≡ stored (storedNumber (roomTest m (recordRoom X L ys)) m) X L ys))))))) (id⊢ 𝓤 _) $ await ! tt $ pick ! (λ c.
-              split ! $ move ! (1 ∷ []) $ pick ! (λ zs. split ! $ move ! (1 ∷ []) $ heard ! ((c ≡ roomTest m (recordRoom X L ys)) × (zs .0 ≡ stored (storedNumber (roomTest m (recordRoom X L ys)) m) X L ys)) (λ e.
+              use1 W (later (some (λ (c : Checked). (tokens-store δ₁ δ₂ m ⊛ ‵ (C.the-row .own c (w′ ∷ []))) ⊛ some (λ (zs : List Span × (Unit {0} × (Unit {0} × (Unit {0} × Unit {0})))). ‵ (lasts store-spans.ended (κ₃, (κ₁, (κ₂, tt))) (x₃, (x₁ δ₁ X, (x₂ δ₂ L, (m, tt)))) zs) ⊛ (raw (fact 𝓤 (c ≡ storeTest m X L ys)) ⊛ raw (fact 𝓤 (zs .0 ≡ storedWhere m X L ys))))))) (id⊢ 𝓤 _) $ await ! tt $ pick ! (λ c.
+              split ! $ move ! (1 ∷ []) $ pick ! (λ zs. split ! $ move ! (1 ∷ []) $ split ! $ drop ! $ heard ! (zs .0 ≡ storedWhere m X L ys) (λ put.
               fsplit ! $ fsplit ! $ move ! (1 ∷ []) $ feqL ! (λ same. move ! (2 ∷ []) $ split ! $ move ! (1 ∷ []) $ facts ! C.the-row (Is C.the-row) (shows 𝓤 H A C.the-row) c (w′ ∷ []) (λ is′.
               land ! (from ! (stop !)) (init ! 18 refl (EL.lawful C.the-type C′.the-laws 𝓤 H A W tt .typed c (w′ ∷ []) is′ .0)) $
-              move ! (2 ∷ []) $ drop ! $ ends w′ (zs .0) (e .1 ∙ are-recorded) same))))))))
+              move ! (2 ∷ []) $ drop ! $ ends w′ (zs .0) (put ∙ are-recorded) same))))))))
 
         -- `listed_number`
         numbers : Sq W (‵ (MutSlice (named 1) κ₁ u64 .own (x₁ γ₁ X) (s₁ ∷ [])) ∷ ‵ (flft κ₁ q₁) ∷ ‵ (MutSlice (named 2) κ₂ u64 .own (x₂ γ₂ L) (s₂ ∷ [])) ∷ ‵ (flft κ₂ q₂) ∷ ‵ (MutSlice (named 3) κ₃ T.the-row .own x₃ (s₃ ∷ [])) ∷ ‵ (flft κ₃ q₃) ∷ ‵ (flft κ₀ q₀) ∷ ‵ (froom si l₂₁ 0) ∷ ‵ (fdies si l₂₁) ∷ ‵ (froom ri l₂₀ 0) ∷ ‵ (fdies ri l₂₀) ∷ ‵ (froom si l₁₉ 0) ∷ ‵ (fdies si l₁₉) ∷ ‵ (froom ri l₁₈ 0) ∷ ‵ (fdies ri l₁₈) ∷ ‵ (froom ss l₁₇ 0) ∷ ‵ (fdies ss l₁₇) ∷ ‵ (froom rs l₁₆ 0) ∷ ‵ (fdies rs l₁₆) ∷ ‵ (froom C′.mir l₁₅ 0) ∷ ‵ (fdies C′.mir l₁₅) ∷ ‵ (fat fullShare sm l₁₄ 0 s₂) ∷ ‵ (fdies sm l₁₄) ∷ ‵ (fat fullShare rm l₁₃ 0 (vptr b₂ o₂)) ∷ ‵ (fdies rm l₁₃) ∷ ‵ (fat fullShare sm l₁₂ 0 s₁) ∷ ‵ (fdies sm l₁₂) ∷ ‵ (fat fullShare rm l₁₁ 0 (vptr b₁ o₁)) ∷ ‵ (fdies rm l₁₁) ∷ ‵ (froom word l₁₀ 0) ∷ ‵ (fdies word l₁₀) ∷ ‵ (fat fullShare D′.mir l₉ 0 w) ∷ ‵ (fdies D′.mir l₉) ∷ ‵ (fat fullShare word l₈ 0 (vint w64 (length ys))) ∷ ‵ (fdies word l₈) ∷ ‵ (fat fullShare sl3 l₇ 0 s₃) ∷ ‵ (fdies sl3 l₇) ∷ ‵ (fat fullShare sl2 l₆ 0 s₂) ∷ ‵ (fdies sl2 l₆) ∷ ‵ (fat fullShare sl1 l₅ 0 s₁) ∷ ‵ (fdies sl1 l₅) ∷ ‵ (fat fullShare word l₄ 0 (vint w64 len)) ∷ ‵ (fdies word l₄) ∷ ‵ (fat fullShare word l₃ 0 (vint w64 off)) ∷ ‵ (fdies word l₃) ∷ ‵ (fat fullShare word l₂ 0 (vint w64 address)) ∷ ‵ (fdies word l₂) ∷ ‵ (fat fullShare sl0 l₁ 0 s₀) ∷ ‵ (fdies sl0 l₁) ∷ ‵ (froom D′.mir l₀ 0) ∷ ‵ (fdies D′.mir l₀) ∷ []) (runs (𝓣 .C) (𝓣 .Λ) En mir′.t-7 (atRet En Post))
@@ -293,7 +296,8 @@ module _ {M : Type 1} (𝓤 : URA M) (H : Heap 𝓤) (A : Atoms 𝓤) (W : Given
           use2 W (later (some (λ (δ : GName). ‵ (MutSlice (named 1) (ν₁ ∷ []) u64 .own (x₁ δ xs) (s₁ ∷ [])) ⊛ ‵ (LentAgain u64 κ₁ (ν₁ ∷ []) q₁ γ₁ b₁ o₁ δ xs)))) (lends-again u64 κ₁ (ν₁ ∷ []) q₁ γ₁ b₁ o₁ 𝓤 H A W (named 1) (named 1) xs) $ await ! tt $ pick ! (λ δ₁. split ! $
           lft-new ! tt (λ ν₂. move ! (6 ∷ 7 ∷ []) $
           use2 W (later (some (λ (δ : GName). ‵ (MutSlice (named 2) (ν₂ ∷ []) u64 .own (x₂ δ ls) (s₂ ∷ [])) ⊛ ‵ (LentAgain u64 κ₂ (ν₂ ∷ []) q₂ γ₂ b₂ o₂ δ ls)))) (lends-again u64 κ₂ (ν₂ ∷ []) q₂ γ₂ b₂ o₂ 𝓤 H A W (named 2) (named 2) ls) $ await ! tt $ pick ! (λ δ₂. split ! $
-          -- [the lengths; what is kept of them; ν₂'s token; the same of the addresses; the file; κ₀'s token; the records; κ₃'s; _21; …]
+          -- [the lengths; what is kept of them; ν₂'s token; the same of the addresses; the file; κ₀'s token;
+          -- the records; κ₃'s token; _21; …]
           nothing ! $ move ! (1 ∷ 0 ∷ []) $ fjoin ! $ move ! (3 ∷ 0 ∷ []) $ fjoin ! $ owned ! usize (Is usize) (uint-makes 𝓤 H A W w64) (length ys) _ (refl, room₃ .0) $ fjoin ! $ owned ! u64 (Is u64) (uint-makes 𝓤 H A W w64) len _ (refl, len-fits) $ fjoin ! $ owned ! u64 (Is u64) (uint-makes 𝓤 H A W w64) off _ (refl, off-fits) $ fjoin ! $ owned ! u64 (Is u64) (uint-makes 𝓤 H A W w64) address _ (refl, address-fits) $ fjoin ! $ move ! (5 ∷ 0 ∷ []) $ fjoin ! $
           nothing ! $ move ! (3 ∷ 0 ∷ []) $ join ! $ move ! (4 ∷ 0 ∷ []) $ join ! $ move ! (4 ∷ 0 ∷ []) $ join ! $
           use2 W (raw (Within 𝓤 H A mem run .pre (to-within ν₁ ν₂ δ₁ δ₂))) (goes-within ν₁ ν₂ δ₁ δ₂) $
