@@ -66,7 +66,7 @@ build/test_stack: CFLAGS += -pthread
 build/fuzz: $(wildcard tests/fuzz/*) $(wildcard tests/c/*.h) build/libcellumaq.a build/cellumaq.h
 	@$(CC) $(CFLAGS) -g -fsanitize=address,undefined -fno-sanitize-recover=all -Ibuild -Itests/c -o $@ tests/fuzz/fuzz.c build/libcellumaq.a
 
-# The span listing is called from C in its test only.
+# The span listings are called from C in their test only.
 build/libspans_call.a: crates.txt $(shell find crates -name '*.rt' -o -name '*.antt') | tools
 	@mkdir -p build
 	@tests/prove build/spans_call.log staticlib spans_call

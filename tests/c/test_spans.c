@@ -1,6 +1,6 @@
-/* The span listing against the answers that the Rust gave: tests/data/spans/questions.txt, line by line with
- * answers.txt. A question is `spans O L ADDRESS ROOM HEX`, an answer `ok COUNT address,length ..` or `refused NUMBER
- * FIGURE FIGURE`. */
+/* The span listings against the answers that the Rust gave: tests/data/spans/questions.txt, line by line with
+ * answers.txt. A question is `spans O L ADDRESS ROOM HEX`, an answer `ok COUNT address,length ..` or
+ * `refused NUMBER FIGURE FIGURE`. */
 #include <inttypes.h>
 #include <stdint.h>
 #include <stdlib.h>
@@ -11,14 +11,23 @@
 uint64_t cellumaq_test_spans(const uint8_t *file, size_t file_length, uint64_t offset_size, uint64_t length_size, uint64_t address,
                              uint64_t *addresses, size_t addresses_length, uint64_t *lengths, size_t lengths_length, uint64_t which);
 
+struct span {
+    uint64_t address, length;
+};
+
+uint64_t cellumaq_test_span_records(const uint8_t *file, size_t file_length, uint64_t offset_size, uint64_t length_size, uint64_t address,
+                                    uint64_t *addresses, size_t addresses_length, uint64_t *lengths, size_t lengths_length,
+                                    struct span *spans, size_t spans_length, uint64_t which);
+
 enum { LINE = 1 << 16, MOST = 100003, GUARD = 4 };
 
-/* What a list holds before a call, at each place another number. */
+/* What a list holds before a call, at each place another number. A record's length is its complement. */
 #define BEFORE(i) (UINT64_C(0x5a5a000000000000) + (i))
 
 static char question[LINE], answer[LINE];
 static uint8_t file[LINE / 2];
 static uint64_t addresses[MOST + GUARD], lengths[MOST + GUARD];
+static struct span spans[MOST + GUARD];
 static uint64_t expected_addresses[LINE], expected_lengths[LINE];
 
 struct call {
@@ -76,6 +85,27 @@ static size_t strays(const uint64_t *list, const uint64_t *wanted, uint64_t coun
     return n;
 }
 
+/* The same of the records. */
+static size_t stray_records(uint64_t count)
+{
+    size_t n = 0;
+
+    for (size_t i = 0; i < MOST + GUARD; i++)
+        n += spans[i].address != (i < count ? expected_addresses[i] : BEFORE(i))
+            || spans[i].length != (i < count ? expected_lengths[i] : ~BEFORE(i));
+    return n;
+}
+
+/* Numbers and records from 0 up to n as they are before a call. */
+static void reset(uint64_t n)
+{
+    for (uint64_t i = 0; i < n; i++) {
+        addresses[i] = BEFORE(i);
+        lengths[i] = BEFORE(i);
+        spans[i] = (struct span){BEFORE(i), ~BEFORE(i)};
+    }
+}
+
 /* One call with lists of these lengths: its number and both lists. Lists begin as BEFORE; the call's writes are taken
  * back. */
 static void check_call(int line, const struct call *c, const struct expected *e, uint64_t first, uint64_t second, uint64_t which)
@@ -86,9 +116,44 @@ static void check_call(int line, const struct call *c, const struct expected *e,
     CHECK(number == e->numbers[which < 4 ? which : 0], "line %d, which %" PRIu64 ": %" PRIu64, line, which, number);
     CHECK(strays(addresses, expected_addresses, count) == 0, "line %d, which %" PRIu64 ": addresses", line, which);
     CHECK(strays(lengths, expected_lengths, count) == 0, "line %d, which %" PRIu64 ": lengths", line, which);
-    for (uint64_t i = 0; i < count; i++) {
-        addresses[i] = BEFORE(i);
-        lengths[i] = BEFORE(i);
+    reset(count);
+}
+
+/* One call with lists of these lengths: its number and all three lists. */
+static void check_records(int line, const struct call *c, const struct expected *e, const uint64_t rooms[3], uint64_t which)
+{
+    uint64_t count = e->numbers[3];
+    uint64_t number = cellumaq_test_span_records(file, c->file_length, c->offset_size, c->length_size, c->address, addresses, rooms[0],
+                                                 lengths, rooms[1], spans, rooms[2], which);
+
+    CHECK(number == e->numbers[which < 4 ? which : 0], "records, line %d, which %" PRIu64 ": %" PRIu64, line, which, number);
+    CHECK(strays(addresses, expected_addresses, count) == 0, "records, line %d, which %" PRIu64 ": addresses", line, which);
+    CHECK(strays(lengths, expected_lengths, count) == 0, "records, line %d, which %" PRIu64 ": lengths", line, which);
+    CHECK(stray_records(count) == 0, "records, line %d, which %" PRIu64 ": records", line, which);
+    reset(count);
+}
+
+/* A question as records: each number that can be picked; each list the shorter one; and where all are accepted, each list
+ * one too short, when 9 names how many are needed. */
+static void check_question(int line, const struct call *c, const struct expected *e)
+{
+    uint64_t count = e->numbers[3];
+    struct expected small = {{9, count, 0, 0}};
+
+    for (uint64_t which = 0; which <= 4; which++)
+        check_records(line, c, e, (uint64_t[3]){c->room, c->room, c->room}, which);
+    for (int shorter = 0; shorter < 3; shorter++) {
+        uint64_t rooms[3] = {c->room + 3, c->room + 3, c->room + 3};
+
+        rooms[shorter] = c->room;
+        check_records(line, c, e, rooms, 1);
+    }
+    for (int shorter = 0; shorter < 3 && e->numbers[0] == 0; shorter++) {
+        uint64_t rooms[3] = {count, count, count};
+
+        rooms[shorter] = count - 1;
+        for (uint64_t which = 0; which <= 1; which++)
+            check_records(line, c, &small, rooms, which);
     }
 }
 
@@ -100,7 +165,7 @@ static FILE *open_data(const char *name)
     return f;
 }
 
-/* Every question with each number that can be picked, and with either list the shorter one. */
+/* Every question with each number that can be picked, and with either list the shorter one; and as records. */
 static void answers_of_the_rust(void)
 {
     FILE *questions = open_data("tests/data/spans/questions.txt"), *answers = open_data("tests/data/spans/answers.txt");
@@ -110,10 +175,7 @@ static void answers_of_the_rust(void)
 
     if (questions == NULL || answers == NULL)
         return;
-    for (size_t i = 0; i < MOST + GUARD; i++) {
-        addresses[i] = BEFORE(i);
-        lengths[i] = BEFORE(i);
-    }
+    reset(MOST + GUARD);
     while (fgets(question, LINE, questions) != NULL) {
         line++;
         int readable = fgets(answer, LINE, answers) != NULL && read_question(&c) && read_answer(&e) && c.room <= MOST - 3;
@@ -124,6 +186,7 @@ static void answers_of_the_rust(void)
             check_call(line, &c, &e, c.room, c.room, which);
         check_call(line, &c, &e, c.room, c.room + 3, 1);
         check_call(line, &c, &e, c.room + 3, c.room, 1);
+        check_question(line, &c, &e);
     }
     CHECK(line == 223 && fgets(answer, LINE, answers) == NULL, "%d questions", line);
     fclose(questions);
@@ -150,6 +213,9 @@ static void sizes_as_given(void)
             uint64_t number = cellumaq_test_spans(NULL, 0, cases[i].offset_size, cases[i].length_size, cases[i].address, NULL, 0, NULL, 0, which);
 
             CHECK(number == cases[i].numbers[which], "case %zu, which %" PRIu64 ": %" PRIu64, i, which, number);
+            number = cellumaq_test_span_records(NULL, 0, cases[i].offset_size, cases[i].length_size, cases[i].address, NULL, 0, NULL, 0,
+                                                NULL, 0, which);
+            CHECK(number == cases[i].numbers[which], "records, case %zu, which %" PRIu64 ": %" PRIu64, i, which, number);
         }
 }
 

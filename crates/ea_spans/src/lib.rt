@@ -2,13 +2,14 @@
 // data block that is pointed to.
 ghost use mathlib.Core.Path.{_≡_};
 ghost use mathlib.Core.Bool.{true};
+ghost use Prim.Native.Nat.{min};
 ghost use Rattle.refusal.specs.declared.Counted.the-variants.{Refused};
 ghost use Rattle.refusal.specs.Outcome.{also, inRoom};
 ghost use Rattle.refusal.specs.Values.{countedOf};
 ghost use Rattle.fields.specs.Fields.{isWidth};
 ghost use Rattle.ea_geometry.specs.Bounded.{Bounded};
 ghost use Rattle.ea_blocks.specs.Values.{arrayOf};
-ghost use Rattle.span_walk.specs.Walk.{indexSpans};
+ghost use Rattle.span_walk.specs.Walk.{indexSpans, spans};
 ghost use Rattle.ea_spans.specs.SpanList.{roomOf, spansInto, filled, addressOf, lengthOf};
 use crate::write::put_span;
 use crate::write::write_index;
@@ -39,6 +40,33 @@ pub fn extensible_array_index_spans(
         (r ≡ countedOf s) × (now (addresses .exit) ≡ filled addressOf s 0 (now (addresses .entry)))
         × (now (lengths .exit) ≡ filled lengthOf s 0 (now (lengths .entry)))) ⌝ }
 {
+    let limit = addresses.len();
+    extensible_array_index_spans_within(
+        file,
+        address,
+        offset_size,
+        length_size,
+        limit,
+        addresses,
+        lengths,
+    )
+}
+
+// The same where no more than `limit` spans have room: 9 tells how many are needed.
+pub fn extensible_array_index_spans_within(
+    file: &[u8],
+    address: u64,
+    offset_size: u64,
+    length_size: u64,
+    limit: usize,
+    addresses: &mut [u64],
+    lengths: &mut [u64],
+) -> Counted
+    ensures { λ r. ⌜ (let s = inRoom (spans (now (file .entry)) address «offset_size» «length_size»)
+        (min (roomOf (now (addresses .entry)) (now (lengths .entry))) limit) in
+        (r ≡ countedOf s) × (now (addresses .exit) ≡ filled addressOf s 0 (now (addresses .entry)))
+        × (now (lengths .exit) ≡ filled lengthOf s 0 (now (lengths .entry)))) ⌝ }
+{
     match parse_served(file, address, offset_size, length_size) {
         Parsed::Refused(r) => Counted::Refused(r),
         Parsed::Header(header) => {
@@ -47,7 +75,14 @@ pub fn extensible_array_index_spans(
                 geometry: EaGeometry::from_header(header, offset_size),
                 index_at: header.index_block_address,
             };
-            list_spans(file, array, Span { address, length }, addresses, lengths)
+            list_spans(
+                file,
+                array,
+                Span { address, length },
+                limit,
+                addresses,
+                lengths,
+            )
         }
     }
 }
@@ -57,12 +92,13 @@ fn list_spans(
     file: &[u8],
     array: ExtensibleArray,
     header: Span,
+    limit: usize,
     addresses: &mut [u64],
     lengths: &mut [u64],
 ) -> Counted
     requires { ⌜ Bounded (array .geometry) × (isWidth (array .geometry .«offset_size») ≡ true) ⌝ }
     ensures { λ r. ⌜ (let s = inRoom (also header (indexSpans (arrayOf (now (file .entry)) array)))
-        (roomOf (now (addresses .entry)) (now (lengths .entry))) in
+        (min (roomOf (now (addresses .entry)) (now (lengths .entry))) limit) in
         (r ≡ countedOf s) × (now (addresses .exit) ≡ filled addressOf s 0 (now (addresses .entry)))
         × (now (lengths .exit) ≡ filled lengthOf s 0 (now (lengths .entry)))) ⌝ }
 {
@@ -70,6 +106,9 @@ fn list_spans(
         Counted::Count(n) => n + 1,
         Counted::Refused(r) => return Counted::Refused(r),
     };
+    if (limit as u64) < needed {
+        return too_small(needed);
+    }
     if (addresses.len() as u64) < needed {
         return too_small(needed);
     }

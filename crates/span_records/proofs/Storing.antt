@@ -1,57 +1,51 @@
 -- Span records in a lent list: where they fit, and what they are. Assumes nothing.
 use Prim.Native.Nat.{ℕ, zero, suc, _+_, _<_, _≤_}
 use mathlib.Core.Path.{_≡_, refl, sym, ap, _∙_}
-use mathlib.Core.Bool.{Bool, true, false, _&&_}
+use mathlib.Core.Bool.{Bool, true, false}
 use mathlib.Core.List.{List, [], _∷_, _++_}
 use native.Mathlib.Omega.{arith}
-use borrow.Author.Tests.{le-leb, lt-leb}
-use lib.Dec.{leb}
+use borrow.Author.Tests.{lt-ltb, le-ltb, ltb-false}
+use lib.Dec.{ltb}
 use lib.ListN.{length, getD, take, set, length-set, length-take, List·getD-append}
 use lib.Seq.{sets, sets-eq, take-suc, take-all}
-use Rattle.refusal.specs.Outcome.{accepted}
+use Rattle.refusal.specs.declared.Checked.the-variants.{Passed, Refused}
+use Rattle.refusal.specs.Refusals.{refuse}
+use Rattle.refusal.specs.Outcome.{refused, accepted, inRoom}
+use Rattle.refusal.specs.Values.{countedOf}
+use Rattle.refusal.proofs.Outcomes.{room-had}
 use Rattle.span_walk.specs.declared.Span.{Span}
+use Rattle.span_walk.specs.Walk.{Spanning}
 use Rattle.ea_spans.specs.SpanList.{each, filled, addressOf, lengthOf}
 use Rattle.ea_spans.proofs.Writing.{length-filled}
-use Rattle.span_records.specs.Stored.{spanAt, stored, fits, storedWhere}
+use Rattle.span_records.specs.Stored.{spanAt, stored, recordRoom, roomTest, storedNumber, storedWhere, listedNumber, recorded}
 
 pub length-stored : (n : ℕ) (xs ls : List ℕ) (ys : List Span) → length (stored n xs ls ys) ≡ length ys
 length-stored zero xs ls ys = refl
 length-stored (suc n) xs ls ys = length-set (stored n xs ls ys) n (spanAt xs ls n) ∙ length-stored n xs ls ys
 
-module _ (n : ℕ) (ys : List Span) (xs ls : List ℕ) where
-  pub fits-all : n ≤ length ys → n ≤ length xs → n ≤ length ls → fits n ys xs ls ≡ true
-  unfolding fits
-  fits-all a b c = rw (le-leb n (length ys) a, le-leb n (length xs) b, le-leb n (length ls) c) refl
+-- the test's two answers
+module _ (n room : ℕ) where
+  pub room-passed : n ≤ room → Passed ≡ roomTest n room
+  unfolding roomTest refuse
+  room-passed le = rw (le-ltb room n le) refl
 
-  -- one of the three is too short
-  pub data Short : Type 0 where
-    first : length ys < n → Short
-    second : length xs < n → Short
-    third : length ls < n → Short
+  pub room-refused : room < n → Refused (record { number = 9; first = n; second = 0 }) ≡ roomTest n room
+  unfolding roomTest refuse
+  room-refused lt = rw (lt-ltb room n lt) refl
 
-  pub fits-not : Short → fits n ys xs ls ≡ false
-  unfolding fits
-  fits-not (first a) = rw (lt-leb n (length ys) a) refl
-  fits-not (second a) = go (leb n (length ys))
+  -- what is stored has room
+  pub number-fits : storedNumber (roomTest n room) n ≤ room
+  unfolding roomTest refuse storedNumber
+  number-fits = go (ltb room n) refl
     where
-      go : (b : Bool) → b && leb n (length xs) && leb n (length ls) ≡ false
-      go true = rw (lt-leb n (length xs) a) refl
-      go false = refl
-  fits-not (third a) = go (leb n (length ys)) (leb n (length xs))
-    where
-      go : (b d : Bool) → b && d && leb n (length ls) ≡ false
-      go true true = lt-leb n (length ls) a
-      go true false = refl
-      go false d = refl
+      go : (b : Bool) → ltb room n ≡ b → storedNumber (refuse 9 n 0 b) n ≤ room
+      go true e = omega arith
+      go false e = ltb-false room n e
 
-module _ (n : ℕ) (xs ls : List ℕ) (ys : List Span) where
-  pub stored-whole : fits n ys xs ls ≡ true → stored n xs ls ys ≡ storedWhere n xs ls ys
-  unfolding storedWhere
-  stored-whole e = rw e refl
-
-  pub stored-none : fits n ys xs ls ≡ false → ys ≡ storedWhere n xs ls ys
-  unfolding storedWhere
-  stored-none e = rw e refl
+  -- all of n, where there is room
+  number-all : n ≤ room → storedNumber (roomTest n room) n ≡ n
+  unfolding storedNumber
+  number-all le = rw (sym (room-passed le)) refl
 
 -- one store more
 sets-snoc : (l : List Span) (i : ℕ) (a : List Span) (x : Span) → sets l i (a ++ (x ∷ [])) ≡ set (sets l i a) (i + length a) x
@@ -99,9 +93,28 @@ module _ (l : List Span) (xs ls : List ℕ) (ys : List Span) (a : length l ≤ l
       let k : 0 + length (take n l) ≡ n = omega (arith, length-take n l) in
       rw (stored-take n (omega arith), at, take-suc l n none h, sets-snoc ys 0 (take n l) (getD l n none), k) refl
 
-  pub spans-stored : length l ≤ length ys → storedWhere (length l) A L ys ≡ sets ys 0 l
-  spans-stored c =
-      let x : length A ≡ length xs = length-filled addressOf (accepted l) 0 xs in
-      let y : length L ≡ length ls = length-filled lengthOf (accepted l) 0 ls in
-      sym (stored-whole (length l) A L ys (fits-all (length l) ys A L c (rw x a) (rw y b)))
-      ∙ stored-take (length l) (omega arith) ∙ ap (sets ys 0) (take-all (length l) l (omega arith))
+  spans-stored : stored (length l) A L ys ≡ sets ys 0 l
+  spans-stored = stored-take (length l) (omega arith) ∙ ap (sets ys 0) (take-all (length l) l (omega arith))
+
+-- Listed and then stored, they are recorded.
+listed-recorded : (t : Spanning) (xs ls : List ℕ) (ys : List Span) → ((l : List Span) → t ≡ accepted l → length l ≤ recordRoom xs ls ys)
+    → let A = filled addressOf t 0 xs in
+    let L = filled lengthOf t 0 ls in
+    let n = listedNumber (countedOf t) in
+    storedWhere n A L ys ≡ recorded t ys
+unfolding listedNumber countedOf recorded
+listed-recorded (refused r) xs ls ys had = rw (number-all 0 (recordRoom (filled addressOf (refused r) 0 xs) (filled lengthOf (refused r) 0 ls) ys) (omega arith)) refl
+listed-recorded (accepted l) xs ls ys had =
+    let k = had l refl in
+    let x = length-filled addressOf (accepted l) 0 xs in
+    let y = length-filled lengthOf (accepted l) 0 ls in
+    rw (number-all (length l) (recordRoom (filled addressOf (accepted l) 0 xs) (filled lengthOf (accepted l) 0 ls) ys) (omega arith))
+    (spans-stored l xs ls ys (omega arith) (omega arith))
+
+pub spans-recorded : (a : Spanning) (xs ls : List ℕ) (ys : List Span)
+    → let t = inRoom a (recordRoom xs ls ys) in
+    let A = filled addressOf t 0 xs in
+    let L = filled lengthOf t 0 ls in
+    let n = listedNumber (countedOf t) in
+    storedWhere n A L ys ≡ recorded t ys
+spans-recorded a xs ls ys = listed-recorded (inRoom a (recordRoom xs ls ys)) xs ls ys (λ l e. room-had a (recordRoom xs ls ys) l e)

@@ -1,5 +1,5 @@
 -- `ea_spans::list_spans` meets its contract. Assumes nothing.
-use Prim.Native.Nat.{ℕ, _+_, _<_}
+use Prim.Native.Nat.{ℕ, _+_, _<_, min}
 use mathlib.Core.Path.{_≡_, sym, _∙_}
 use mathlib.Core.List.{List}
 use native.Mathlib.Omega.{arith}
@@ -28,7 +28,7 @@ abbrev whole : tie.Start → Spanning
 whole s = also (s .args .header) (inner s)
 
 abbrev room : tie.Start → ℕ
-room s = roomOf (s .args .addresses .now) (s .args .lengths .now)
+room s = min (roomOf (s .args .addresses .now) (s .args .lengths .now)) (s .args .limit)
 
 add-needed : tie.Need-add-needed
 add-needed c =
@@ -75,42 +75,49 @@ returns-3 c =
     let a = small (c .before .before .before) (omega arith) in
     (c .too-small2 .ensures ∙ a .0, a .1, a .2)
 
+returns-4 : tie.Need-returns-4
+returns-4 c =
+    let t = c .before .if3 .taken in
+    let a = small (c .before .before .before .before) (omega arith) in
+    (c .too-small3 .ensures ∙ a .0, a .1, a .2)
+
 -- there is room for all
-roomy : (c : tie.Else2) → let s = start (c .before .before) in inRoom (whole s) (room s) ≡ whole s
+roomy : (c : tie.Else3) → let s = start (c .before .before .before) in inRoom (whole s) (room s) ≡ whole s
 roomy c =
-    let i = listed (c .before .before) in
-    let a = c .before .if1 .left in
-    let b = c .if2 .left in
+    let i = listed (c .before .before .before) in
+    let k = c .before .before .if1 .left in
+    let a = c .before .if2 .left in
+    let b = c .if3 .left in
     room-fits _ _ (i .0) (i .1) _ (i .2) (omega arith)
 
 -- the spans behind the header's come next
 behind : (c : tie.After-put-span)
-    → let s = start (c .before .before .before .before .before) in
+    → let s = start (c .before .before .before .before .before .before) in
     Going (whole s) 0 (s .args .addresses .now) (s .args .lengths .now) (inner s) 1 (c .put-span .last .0) (c .put-span .last .1 .0)
 behind c =
     let e = c .before .before .before in
-    let i = listed (e .before .before) in
-    let a = e .before .if1 .left in
-    let b = e .if2 .left in
+    let i = listed (e .before .before .before) in
+    let a = e .before .if2 .left in
+    let b = e .if3 .left in
     going-put _ _ (going-whole (record { list = i .0; is = i .1; first = omega (arith, i .2); second = omega (arith, i .2) }))
     (c .put-span .ensures .0) (c .put-span .ensures .1)
 
 write-index-requires : tie.Need-write-index-requires
 write-index-requires c κs =
     let p = c .before .before .before .before .before .before in
-    let s = start (p .before .before .before .before .before) in
+    let s = start (p .before .before .before .before .before .before) in
     (s .pre .0, s .pre .1, behind p .room)
 
-returns-4 : tie.Need-returns-4
-returns-4 c =
+returns-5 : tie.Need-returns-5
+returns-5 c =
     let w = c .before .before .before .before in
     let p = w .before .before .before .before .before .before .before in
     let e = p .before .before .before in
     let g = behind p in
-    rw (roomy e) (counted (e .before .before), w .write-index .ensures .0 ∙ g .first, w .write-index .ensures .1 ∙ g .second)
+    rw (roomy e) (counted (e .before .before .before), w .write-index .ensures .0 ∙ g .first, w .write-index .ensures .1 ∙ g .second)
 
 pub list-spans-spec : {M : Type 1} → statement M
 list-spans-spec =
     tie.close
-    (tie.spec (λ c κs. search needs) (search needs) add-needed (search needs) returns (search needs) returns-2 (search needs) returns-3
-    (search needs) write-index-requires (search needs) (search needs) returns-4)
+    (tie.spec (λ c κs. search needs) (search needs) add-needed (search needs) returns (search needs) returns-2 (search needs) returns-3 (search needs) returns-4
+    (search needs) write-index-requires (search needs) (search needs) returns-5)
