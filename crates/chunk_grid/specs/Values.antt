@@ -3,11 +3,13 @@ use Prim.Native.Nat.{ℕ, zero, suc}
 use mathlib.Core.Path.{_≡_}
 use mathlib.Core.Bool.{Bool, false, not, cond}
 use mathlib.Core.List.{List, [], _∷_}
+use mathlib.Core.Option.{Option, none, some}
 use lib.Dec.{ltb, eqb}
 use lib.ListN.{take, drop}
 use Rattle.refusal.specs.declared.Checked.{Checked}
 use Rattle.refusal.specs.declared.Checked.the-variants.{Passed, Refused}
 use Rattle.refusal.specs.Refusals.{refuse, _then_}
+use Rattle.refusal.specs.Outcome.{Outcome, refused, accepted, _yields_}
 use Rattle.chunk_grid.specs.declared.ChunkGrid.{ChunkGrid}
 use Rattle.chunk_grid.specs.declared.GridOrder.the-variants.{RowMajor}
 use Rattle.chunk_grid.specs.declared.Offsets.{Offsets}
@@ -66,10 +68,14 @@ pub record Extents (rank : ℕ) (numbers : Bool) (bound : List ℕ) (g : Grid) :
   pub bounds : take rank bound ≡ pairwise ceilDiv (g .present) (g .chunk)
   pub fits : overflows (g .present) ≡ false
 
--- A slot whose offsets don't all lie below the present extents is dropped, without refusal.
-unfoldable pub insideOr : Checked → Bool → Offsets
-insideOr (Refused r) b = OffsetsRefused r
-insideOr Passed b = cond b Inside Dropped
+-- What a slot's offsets come to: 32, 33, else the offsets where all of them lie below the present extents. A slot whose
+-- offsets don't is dropped, without refusal.
+unfoldable pub inExtent : Grid → ℕ → Outcome (Option (List ℕ))
+inExtent g s = offsetsTest g s yields accepted (cond (below (offsets g s) (g .present)) (some (offsets g s)) none)
 
-unfoldable pub inExtent : Grid → ℕ → Offsets
-inExtent g s = insideOr (offsetsTest g s) (below (offsets g s) (g .present))
+-- What computing them answers. Refused: the refusal's number and figures. Accepted: number 0, and that the slot is dropped
+-- or lies inside; its offsets are handed over beside the answer.
+unfoldable pub offsetsOf : Outcome (Option (List ℕ)) → Offsets
+offsetsOf (refused r) = OffsetsRefused r
+offsetsOf (accepted none) = Dropped
+offsetsOf (accepted (some corner)) = Inside

@@ -14,7 +14,7 @@ use lib.Seq.{drop-cons, getD-take}
 use Rattle.refusal.proofs.Tests.{both, false-true}
 use Rattle.chunk_grid.specs.declared.Offsets.the-variants.{Inside}
 use Rattle.chunk_grid.specs.Grid.{Grid, every, ceilDiv, ordered, multiplier, multipliers, quotients, offsets, below, numbersNothing}
-use Rattle.chunk_grid.specs.Values.{dimAt, GridNumbers, Extents, inExtent}
+use Rattle.chunk_grid.specs.Values.{dimAt, GridNumbers, Extents, inExtent, offsetsOf}
 use Rattle.chunk_slots.specs.AllInside.{allBelow, allInside}
 use Rattle.chunk_grid.proofs.Grids.{multiplier-pos}
 use Rattle.chunk_grid.proofs.Places.{inOrder, length-order, order-at}
@@ -82,7 +82,7 @@ module _ (g : Grid) (rank u : ℕ) (chunk down : List ℕ) (n : GridNumbers rank
   unasked e = rw (← x .numbering, e) refl
 
   -- what the answer says of each slot
-  pub all-inside : allInside g k ≡ true → (s : ℕ) → s < k → inExtent g s ≡ Inside
+  pub all-inside : allInside g k ≡ true → (s : ℕ) → s < k → offsetsOf (inExtent g s) ≡ Inside
   unfolding allInside
   all-inside h s l =
       let t = both (not (numbersNothing g)) _ h in

@@ -3,6 +3,7 @@ use Prim.Native.Nat.{ℕ, suc, _+_, _-_, _*_, _/_, _%_, _<_, _≤_}
 use mathlib.Core.Path.{_≡_, refl, sym, ap, _∙_}
 use mathlib.Core.Bool.{Bool, true, false, cond, _&&_, _||_, and-assoc, or-assoc, and-true, or-false}
 use mathlib.Core.List.{List, [], _∷_}
+use mathlib.Core.Option.{none, some}
 use mathlib.Core.Logic.{⊎-elim}
 use native.Mathlib.Nat.{pos-of-ne-zero, le-div-iff-mul-le}
 use native.Mathlib.Numerals.{add-one}
@@ -12,10 +13,11 @@ use lib.Dec.{ltb, eqb}
 use lib.ListN.{length, getD, take, drop, set, length-take, drop-of-length-le}
 use lib.Seq.{drop-cons, getD-take}
 use Rattle.refusal.specs.Refusals.{largest64, refuse, _then_}
+use Rattle.refusal.specs.Outcome.{accepted as accepting, _yields_}
 use Rattle.chunk_grid.specs.declared.Offsets.{Offsets}
 use Rattle.chunk_grid.specs.declared.Offsets.the-variants.{Inside, Dropped, Refused as OffsetsRefused}
 use Rattle.chunk_grid.specs.Grid.{Grid, pairwise, every, any, ceilDiv, leading, toFront, ordered, multipliers, hasZero, numbersNothing, quotients, offsets, overflows, below, offsetsTest}
-use Rattle.chunk_grid.specs.Values.{dimAt, GridNumbers, Extents, insideOr, inExtent}
+use Rattle.chunk_grid.specs.Values.{dimAt, GridNumbers, Extents, inExtent, offsetsOf}
 use Rattle.chunk_slots.specs.Values.{shown, handed}
 use Rattle.refusal.proofs.Tests.{lt-or-ge, neither}
 use Rattle.chunk_grid.proofs.Order.{front-back, length-front, length-pairwise, pairwise-front, every-front, any-front}
@@ -120,10 +122,11 @@ module _ (slot rank u : ℕ) (chunk bound down : List ℕ) where
 abbrev pub answered : Bool → Bool → Offsets
 answered over inside = cond over (OffsetsRefused (record { number = 33; first = 0; second = 0 })) (cond inside Inside Dropped)
 
-picked : (over inside : Bool) → answered over inside ≡ insideOr (refuse 33 0 0 over) inside
-unfolding insideOr refuse
-picked true inside = refl
-picked false inside = refl
+picked : (over inside : Bool) (l : List ℕ) → answered over inside ≡ offsetsOf (refuse 33 0 0 over yields accepting (cond inside (some l) none))
+unfolding offsetsOf _yields_ refuse
+picked true inside l = refl
+picked false true l = refl
+picked false false l = refl
 
 -- For a built grid with its numbers.
 module _ (g : Grid) (rank u : ℕ) (chunk down : List ℕ) (n : GridNumbers rank u chunk down g) where
@@ -253,11 +256,11 @@ module _ (g : Grid) (rank u : ℕ) (chunk down : List ℕ) (n : GridNumbers rank
             let size : length (shown g slot) ≡ rank = length-pairwise _ (offsets g slot) (g .present) (length-offsets g b slot ∙ sym (b .presented)) ∙ length-offsets g b slot ∙ sym (n .ranked) in
             rw numbered (stored-all u rank (valueAt (quotientsBy slot rank down) u chunk bound) l out (shown g slot) leads size shown-at (rw e at (t .stored)))
 
-        pub turned : (answered over inside ≡ inExtent g slot) × (out ≡ handed g slot l)
+        pub turned : (answered over inside ≡ offsetsOf (inExtent g slot)) × (out ≡ handed g slot l)
         unfolding inExtent offsetsTest refuse _then_
-        turned = (rw (numbered, ← past-is, ← lies-is) (picked over inside), handed-is)
+        turned = (rw (numbered, ← past-is, ← lies-is) (picked over inside (offsets g slot)), handed-is)
 
       -- A grid that numbers nothing.
-      pub unnumbered : numbers ≡ false → (l : List ℕ) → (OffsetsRefused (record { number = 32; first = 0; second = 0 }) ≡ inExtent g slot) × (l ≡ handed g slot l)
-      unfolding inExtent offsetsTest insideOr handed refuse _then_
+      pub unnumbered : numbers ≡ false → (l : List ℕ) → (OffsetsRefused (record { number = 32; first = 0; second = 0 }) ≡ offsetsOf (inExtent g slot)) × (l ≡ handed g slot l)
+      unfolding inExtent offsetsTest offsetsOf _yields_ handed refuse _then_
       unnumbered e l = let z : numbersNothing g ≡ true = not-false _ (sym (x .numbering) ∙ e) in (rw z refl, rw z refl)

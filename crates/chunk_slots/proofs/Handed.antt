@@ -11,7 +11,7 @@ use Rattle.refusal.specs.declared.Checked.the-variants.{Passed}
 use Rattle.refusal.proofs.Tests.{by-cond, false-true, both}
 use Rattle.chunk_grid.specs.declared.Offsets.the-variants.{Inside}
 use Rattle.chunk_grid.specs.Grid.{Grid, pairwise, every, numbersNothing, offsets, below, gridTest}
-use Rattle.chunk_grid.specs.Values.{inExtent}
+use Rattle.chunk_grid.specs.Values.{inExtent, offsetsOf}
 use Rattle.chunk_grid.proofs.Grids.{accepted, length-offsets}
 use Rattle.chunk_grid.proofs.Slots.{inside-inv}
 use Rattle.chunk_slots.specs.Values.{shown, handed}
@@ -26,12 +26,12 @@ below-shown (a ∷ l) (b ∷ m) h =
     rw (t .0, below-shown l m (t .1)) refl
 
 module _ (g : Grid) (s : ℕ) where
-  pub handed-inside : inExtent g s ≡ Inside → (l : List ℕ) → handed g s l ≡ sets l 0 (offsets g s)
+  pub handed-inside : offsetsOf (inExtent g s) ≡ Inside → (l : List ℕ) → handed g s l ≡ sets l 0 (offsets g s)
   unfolding handed shown
   handed-inside h l = let i = inside-inv g s h in rw (i .0, below-shown (offsets g s) (g .present) (i .2)) refl
 
   -- an array that has room for them then begins with them
-  pub handed-corner : gridTest g ≡ Passed → inExtent g s ≡ Inside → (l : List ℕ) → g .rank ≤ length l → take (g .rank) (handed g s l) ≡ offsets g s
+  pub handed-corner : gridTest g ≡ Passed → offsetsOf (inExtent g s) ≡ Inside → (l : List ℕ) → g .rank ≤ length l → take (g .rank) (handed g s l) ≡ offsets g s
   handed-corner t h l fits =
       let n = length-offsets g (accepted g t) s in
       let e : sets l 0 (offsets g s) ≡ offsets g s ++ drop (0 + length (offsets g s)) l = sets-eq (offsets g s) l 0 (omega arith) in

@@ -17,7 +17,7 @@ use Rattle.refusal.specs.Refusals.{largest64}
 use Rattle.refusal.proofs.Tests.{false-true, both, lt-or-ge}
 use Rattle.chunk_grid.specs.declared.Offsets.the-variants.{Inside}
 use Rattle.chunk_grid.specs.Grid.{Grid, pairwise, every, leading, toFront, fromFront, ordered, multiplier, multipliers, quotients, offsets, below}
-use Rattle.chunk_grid.specs.Values.{dimAt, GridNumbers, Extents, inExtent}
+use Rattle.chunk_grid.specs.Values.{dimAt, GridNumbers, Extents, inExtent, offsetsOf}
 use Rattle.chunk_slots.specs.Lines.{InLine}
 use Rattle.chunk_grid.proofs.Order.{length-back}
 use Rattle.chunk_grid.proofs.Grids.{Accepted, accepted, lead, length-ordered, quotients-chunk, length-products, length-offsets}
@@ -134,7 +134,7 @@ back-set u l i v k h =
 
 -- For a built grid with its numbers, and a slot in the present extents.
 module _ (g : Grid) (rank u : ℕ) (chunk down : List ℕ) (n : GridNumbers rank u chunk down g) (numbers : Bool) (bound : List ℕ) (x : Extents rank numbers bound g)
-    (slot : ℕ) (h : inExtent g slot ≡ Inside) {slots rest i : ℕ} (l : Lining slot rank down slots rest i) where
+    (slot : ℕ) (h : offsetsOf (inExtent g slot) ≡ Inside) {slots rest i : ℕ} (l : Lining slot rank down slots rest i) where
   b : Accepted g
   b = accepted g (n .built)
 
@@ -183,7 +183,7 @@ module _ (g : Grid) (rank u : ℕ) (chunk down : List ℕ) (n : GridNumbers rank
         ∙ back-set (leading g) (pairwise _*_ Q C) i _ (omega arith) (omega arith)
         ∙ rw (chunk-here, ← n .leads) refl
 
-    insides : (j : ℕ) → j < slots → rest + j < getD bound d 0 → inExtent g (slot + j) ≡ Inside
+    insides : (j : ℕ) → j < slots → rest + j < getD bound d 0 → offsetsOf (inExtent g (slot + j)) ≡ Inside
     insides j lt lies =
         let q : below (quotientsBy (slot + j) rank down) (inOrder rank u bound) ≡ true =
         rw (line-quotients slot rank down room l k (down-pos g rank u chunk down n i k) one j lt)

@@ -9,7 +9,7 @@ ghost use Rattle.refusal.specs.declared.Checked.the-variants.{Passed};
 ghost use Rattle.refusal.specs.Refusals.{largest64};
 ghost use Rattle.chunk_grid.specs.declared.Offsets.the-variants.{Inside};
 ghost use Rattle.chunk_grid.specs.Grid.{Grid, cornerTest, slotOf, gridTest};
-ghost use Rattle.chunk_grid.specs.Values.{gridOf, GridNumbers, GridCounts, Extents, inExtent};
+ghost use Rattle.chunk_grid.specs.Values.{gridOf, GridNumbers, GridCounts, Extents, inExtent, offsetsOf};
 ghost use Rattle.chunk_slots.specs.Values.{handed};
 ghost use Rattle.chunk_slots.specs.AllInside.{allInside};
 ghost use Rattle.chunk_slots.specs.Lines.{InLine};
@@ -107,7 +107,7 @@ pub fn offsets_in_extent(
         × (Extents rank numbers (now bound) g)) ⌝ }
     ensures { λ r. ⌜ ((g : Grid) → GridNumbers rank rotated (now (chunk .entry)) (now (down .entry)) g
         → Extents rank numbers (now (bound .entry)) g
-        → (r ≡ inExtent g slot) × (now (offsets .exit) ≡ handed g slot (now (offsets .entry)))) ⌝ }
+        → (r ≡ offsetsOf (inExtent g slot)) × (now (offsets .exit) ≡ handed g slot (now (offsets .entry)))) ⌝ }
 {
     if !numbers {
         return Offsets::Refused(Refusal::plain(Refusal::NUMBERS_NOTHING));
@@ -155,10 +155,10 @@ pub fn line_from(
     down: &[u64; 32],
 ) -> Line
     requires { ⌜ ((g : Grid) × (chunk : List ℕ) × (numbers : Bool) × (GridNumbers rank rotated chunk (now down) g)
-        × (Extents rank numbers (now bound) g) × (inExtent g slot ≡ Inside)) ⌝ }
+        × (Extents rank numbers (now bound) g) × (offsetsOf (inExtent g slot) ≡ Inside)) ⌝ }
     ensures { λ r. ⌜ ((g : Grid) (chunk : List ℕ) (numbers : Bool)
         → GridNumbers rank rotated chunk (now (down .entry)) g → Extents rank numbers (now (bound .entry)) g
-        → inExtent g slot ≡ Inside → InLine g chunk slot r) ⌝ }
+        → offsetsOf (inExtent g slot) ≡ Inside → InLine g chunk slot r) ⌝ }
 {
     let mut slots = u64::MAX;
     let mut rest = slot;

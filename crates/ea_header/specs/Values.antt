@@ -1,8 +1,7 @@
 -- What the code's values stand for.
 use Prim.Native.Nat.{ℕ, _^_, _≤_}
 use mathlib.Core.List.{List}
-use Rattle.refusal.specs.declared.Checked.{Checked}
-use Rattle.refusal.specs.declared.Checked.the-variants.{Passed, Refused}
+use Rattle.refusal.specs.Outcome.{Outcome, refused, accepted, _yields_}
 use Rattle.ea_header.specs.declared.ExtensibleArrayHeader.{ExtensibleArrayHeader}
 use Rattle.ea_header.specs.declared.Parameters.{Parameters}
 use Rattle.ea_header.specs.declared.Parsed.{Parsed}
@@ -11,13 +10,14 @@ use mathlib.Core.Path.{_≡_}
 use Rattle.ea_header.specs.Log.{log2}
 use Rattle.ea_header.specs.Header.{headerAt, headerTest}
 
--- the header, after its test
-unfoldable pub parsedAfter : Checked → ExtensibleArrayHeader → Parsed
-parsedAfter Passed h = Header h
-parsedAfter (Refused r) h = ParsedRefused r
+-- What reading a header answers. Refused: the refusal's number and figures. Accepted: number 0, and the header.
+unfoldable pub parsedOf : Outcome ExtensibleArrayHeader → Parsed
+parsedOf (refused r) = ParsedRefused r
+parsedOf (accepted h) = Header h
 
-unfoldable pub parsedAt : (List ℕ → ℕ) → List ℕ → ℕ → ℕ → ℕ → Parsed
-parsedAt sum f pos o l = parsedAfter (headerTest sum f pos o l) (headerAt f pos o l)
+-- the header at pos, after its test
+unfoldable pub parsedAt : (List ℕ → ℕ) → List ℕ → ℕ → ℕ → ℕ → Outcome ExtensibleArrayHeader
+parsedAt sum f pos o l = headerTest sum f pos o l yields accepted (headerAt f pos o l)
 
 -- what served parameters keep to, as facts, for functions that are called on them only
 pub record Served (h : Parameters) : Type 0 where

@@ -8,7 +8,7 @@ ghost use Rattle.refusal.specs.Refusals.{figure};
 ghost use Rattle.fields.specs.Fields.{isWidth};
 ghost use Rattle.checksum.specs.Lookup3.{lookup3};
 ghost use Rattle.ea_header.specs.Header.{headerBytes, parametersAt, headerAt, headerTest};
-ghost use Rattle.ea_header.specs.Values.{parsedAt};
+ghost use Rattle.ea_header.specs.Values.{parsedAt, parsedOf};
 ghost use Rattle.ea_header.specs.Log.{log2};
 ghost use Rattle.ea_header.specs.Served.{served, servedTest};
 use fields::bytes::read_address;
@@ -58,7 +58,7 @@ impl ExtensibleArrayHeader {
     // Reads the header at an address of a file. In this order it is refused: 20 where it does not lie in the file with the sizes as
     // given, 21 and 22 for its signature and version, 2 and 1 for the sizes, 26 for its checksum.
     pub fn parse(file: &[u8], address: u64, offset_size: u64, length_size: u64) -> Parsed
-        ensures { λ r. ⌜ r ≡ parsedAt lookup3 (now (file .entry)) address «offset_size» «length_size» ⌝ }
+        ensures { λ r. ⌜ r ≡ parsedOf (parsedAt lookup3 (now (file .entry)) address «offset_size» «length_size») ⌝ }
     {
         match header_test(file, address, offset_size, length_size) {
             Checked::Passed => Parsed::Header(read_header(

@@ -1,6 +1,7 @@
 -- The program's answer, from what its steps give. Assumes nothing.
 use mathlib.Core.Path.{_≡_, refl}
 use mathlib.Core.List.{List}
+use mathlib.Core.Option.{none, some}
 use Prim.Native.Nat.{ℕ, _≤_}
 use lib.ListN.{length}
 use lib.Seq.{length-sets}
@@ -13,11 +14,10 @@ use Rattle.questions.specs.Line.{fileOf, questionOf, numbersStored}
 use Rattle.list_text.specs.Printed.{Put}
 use Rattle.eals.specs.Program.{listingOf, countedText, unreadableText, parsedText, programText}
 use Rattle.questions.specs.declared.Question.{Question}
-use Rattle.questions.specs.declared.Parsed.the-variants.{Asked, Unreadable}
 
 module _ (input numbers list : List ℕ) where
   -- a question is answered
-  pub asked : (q : Question) → questionOf input ≡ Asked q → (stored file content : List ℕ) (counted : Counted)
+  pub asked : (q : Question) → questionOf input ≡ some q → (stored file content : List ℕ) (counted : Counted)
       → stored ≡ numbersStored input numbers → file ≡ fileOf input
       → counted ≡ countedOf (listingOf q stored file (length list)) → content ≡ listContent (listingOf q stored file (length list)) list
       → countedText (q .rank) counted content ≡ programText input numbers list
@@ -25,7 +25,7 @@ module _ (input numbers list : List ℕ) where
   asked q r stored file content counted s f k l = rw (r, ← s, ← f, ← l, ← k) refl
 
   -- the line is unreadable
-  pub unread : questionOf input ≡ Unreadable → unreadableText ≡ programText input numbers list
+  pub unread : questionOf input ≡ none → unreadableText ≡ programText input numbers list
   unfolding programText parsedText
   unread r = rw r refl
 

@@ -1,6 +1,7 @@
 -- The program: what it prints of an input.
 use Prim.Native.Nat.{ℕ, _+_, _*_, _/_}
 use mathlib.Core.List.{List, [], _∷_}
+use mathlib.Core.Option.{Option, none, some}
 use lib.ListN.{length, take, drop}
 use Rattle.refusal.specs.declared.Counted.{Counted}
 use Rattle.refusal.specs.declared.Counted.the-variants.{Count, Refused}
@@ -12,8 +13,6 @@ use Rattle.questions.specs.Line.{fileOf, questionOf, numbersStored}
 use Rattle.records.specs.Records.{recordLength, listContent, recordsIn}
 use Rattle.list_text.specs.Printed.{listText, refusalText}
 use Rattle.questions.specs.declared.Question.{Question}
-use Rattle.questions.specs.declared.Parsed.{Parsed}
-use Rattle.questions.specs.declared.Parsed.the-variants.{Asked, Unreadable}
 
 -- Behind the line's first six numbers stand the chunk's, the present and the maximum lengths, 8 bytes each.
 unfoldable pub shapeAt : ℕ → ℕ → List ℕ → List ℕ
@@ -41,9 +40,9 @@ abbrev pub unreadableText : List ℕ
 unreadableText = 117 ∷ 110 ∷ 114 ∷ 101 ∷ 97 ∷ 100 ∷ 97 ∷ 98 ∷ 108 ∷ 101 ∷ 10 ∷ []
 
 -- what a line comes to, with the numbers that are stored of it
-unfoldable pub parsedText : Parsed → List ℕ → List ℕ → List ℕ → List ℕ
-parsedText Unreadable numbers file list = unreadableText
-parsedText (Asked q) numbers file list =
+unfoldable pub parsedText : Option Question → List ℕ → List ℕ → List ℕ → List ℕ
+parsedText none numbers file list = unreadableText
+parsedText (some q) numbers file list =
     let a = listingOf q numbers file (length list) in
     countedText (q .rank) (countedOf a) (listContent a list)
 

@@ -22,7 +22,7 @@ use Rattle.fields.specs.Fields.{sizeTest}
 use Rattle.fields.proofs.LittleEndian.{le-small}
 use Rattle.chunk_grid.specs.declared.Offsets.the-variants.{Inside}
 use Rattle.chunk_grid.specs.Grid.{Grid}
-use Rattle.chunk_grid.specs.Values.{inExtent}
+use Rattle.chunk_grid.specs.Values.{inExtent, offsetsOf}
 use Rattle.chunk_slots.specs.AllInside.{allInside}
 use Rattle.chunk_slots.proofs.AllInside.{all-inside}
 use Rattle.element_form.specs.declared.Form.{Form}
@@ -77,25 +77,25 @@ module _ (es : Elements) (bytes : (i : ℕ) → getD (es .file) i 0 < 256) (t : 
         rw e (small-size _ (omega arith))
 
     -- a defined element inside the extents
-    chunk-is : (pos s : ℕ) → inExtent (es .grid) s ≡ Inside → undefinedElement es pos ≡ false → element es pos s ≡ accepted (some (recordHere es pos s))
+    chunk-is : (pos s : ℕ) → offsetsOf (inExtent (es .grid) s) ≡ Inside → undefinedElement es pos ≡ false → element es pos s ≡ accepted (some (recordHere es pos s))
     chunk-is pos s i u = chunk-here es pos s t i u (passes-by (filtered (es .form)) refl pos)
 
     module _ (rest : Listing) where
-      defined-one : (pos j s k : ℕ) → inExtent (es .grid) s ≡ Inside → s < es .count → undefinedElement es pos ≡ false
+      defined-one : (pos j s k : ℕ) → offsetsOf (inExtent (es .grid) s) ≡ Inside → s < es .count → undefinedElement es pos ≡ false
           → plus k (elementsFrom es pos (suc j) s rest) ≡ plus (k + 1) (elementsFrom es (pos + stride (es .form)) j (s + 1) rest)
       unfolding elementsFrom alsoElement
       defined-one pos j s k h l u = rw (lt-leb (es .count) s l, chunk-is pos s h u) (plus-also k _ _)
 
       -- a run of slots inside the extents
-      pub inside-counted : (pos j s k : ℕ) → ((i : ℕ) → i < j → inExtent (es .grid) (s + i) ≡ Inside) → s + j ≤ es .count
+      pub inside-counted : (pos j s k : ℕ) → ((i : ℕ) → i < j → offsetsOf (inExtent (es .grid) (s + i)) ≡ Inside) → s + j ≤ es .count
           → plus k (elementsFrom es pos j s rest) ≡ plus (k + definedCount (es .file) pos j (stride (es .form)) (es .form .«offset_size»)) rest
       unfolding definedCount elementsFrom
       inside-counted pos zero s k h l = ap (λ (m : ℕ). plus m rest) (omega arith)
       inside-counted pos (suc j) s k h l =
           let from = pos + stride (es .form) in
           let d = definedCount (es .file) from j (stride (es .form)) (es .form .«offset_size») in
-          let here : inExtent (es .grid) s ≡ Inside = (let e : s + 0 ≡ s = omega arith in rw e at (h 0 (omega arith))) in
-          let others : (i : ℕ) → i < j → inExtent (es .grid) (s + 1 + i) ≡ Inside = λ i b. (let e : s + 1 + i ≡ s + suc i = omega arith in rw e (h (suc i) (omega arith))) in
+          let here : offsetsOf (inExtent (es .grid) s) ≡ Inside = (let e : s + 0 ≡ s = omega arith in rw e at (h 0 (omega arith))) in
+          let others : (i : ℕ) → i < j → offsetsOf (inExtent (es .grid) (s + 1 + i)) ≡ Inside = λ i b. (let e : s + 1 + i ≡ s + suc i = omega arith in rw e (h (suc i) (omega arith))) in
           let later : (m : ℕ) → plus m (elementsFrom es from j (s + 1) rest) ≡ plus (m + d) rest = λ m. inside-counted from j (s + 1) m others (omega arith) in
           by-cond (λ (m : ℕ). plus k (elementsFrom es pos (suc j) s rest) ≡ plus (k + (m + d)) rest) (undefinedElement es pos)
           (λ u. ap (plus k) (skip-one es t rest pos j s (omega arith) u) ∙ later k ∙ ap (λ (m : ℕ). plus m rest) (omega arith))

@@ -13,7 +13,7 @@ use Rattle.refusal.specs.Outcome.{accepted}
 use Rattle.refusal.specs.Values.{plus, countedOf}
 use Rattle.refusal.proofs.Counts.{plus-zero, plus-none, plus-also}
 use Rattle.chunk_grid.specs.Grid.{offsets}
-use Rattle.chunk_grid.specs.Values.{inExtent}
+use Rattle.chunk_grid.specs.Values.{inExtent, offsetsOf}
 use Rattle.chunk_grid.specs.declared.Offsets.the-variants.{Inside}
 use Rattle.element_form.specs.Form.{stride, elementSizeTest}
 use Rattle.index.specs.declared.Entry.{Entry}
@@ -74,7 +74,7 @@ module _ {es : Elements} {pos n slot at i count : ℕ} (k : Counting es pos n sl
 
       -- m elements more, whose slots all lie in the extents, where no size is refused: those that are defined are counted
       pub counting-inside : ((j : ℕ) → getD (es .file) j 0 < 256) → sizesFit (es .form) (es .grid) (es .elementBytes) ≡ true
-          → (m : ℕ) → i + m ≤ n → ((j : ℕ) → j < m → inExtent (es .grid) (slot + i + j) ≡ Inside)
+          → (m : ℕ) → i + m ≤ n → ((j : ℕ) → j < m → offsetsOf (inExtent (es .grid) (slot + i + j)) ≡ Inside)
           → (d : ℕ) → d ≡ definedCount (es .file) at m (stride (es .form)) (es .form .«offset_size»)
           → Counting es pos n slot (at + m * stride (es .form)) (i + m) (count + d)
       counting-inside bytes fits m g inside d q =

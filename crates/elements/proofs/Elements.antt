@@ -1,7 +1,7 @@
 -- What an element that isn't refused says of its slot. Assumes nothing.
 use Prim.Native.Nat.{ℕ}
 use mathlib.Core.Path.{_≡_, refl, ap, _∙_}
-use mathlib.Core.Bool.{Bool, true, false, not, cond}
+use mathlib.Core.Bool.{Bool, false, not, cond}
 use mathlib.Core.List.{List}
 use mathlib.Core.Option.{Option, none, some}
 use native.Mathlib.Omega.{arith}
@@ -11,11 +11,11 @@ use Rattle.refusal.specs.declared.Checked.the-variants.{Passed, Refused}
 use Rattle.refusal.specs.Outcome.{Outcome, accepted, _yields_}
 use Rattle.refusal.proofs.Tests.{by-cond, then-inv, refuse-inv}
 use Rattle.refusal.proofs.Outcomes.{never, yields-inv, yields-passed}
-use Rattle.chunk_grid.specs.Grid.{Grid, offsets, offsetsTest, below, numbersNothing}
-use Rattle.chunk_grid.specs.Values.{insideOr, inExtent}
+use Rattle.chunk_grid.specs.Grid.{offsets, offsetsTest, below}
+use Rattle.chunk_grid.specs.Values.{inExtent, offsetsOf}
 use Rattle.chunk_grid.specs.Chunks.{chunkAt}
-use Rattle.chunk_grid.specs.declared.Offsets.{Offsets}
-use Rattle.chunk_grid.specs.declared.Offsets.the-variants.{Inside, Dropped, Refused as OffsetsRefused}
+use Rattle.chunk_grid.specs.declared.Offsets.the-variants.{Inside}
+use Rattle.chunk_grid.proofs.Slots.{passed-inside}
 use Rattle.element_form.specs.Form.{elementSizeTest}
 use Rattle.index.specs.declared.Entry.{Entry}
 use Rattle.index.specs.Index.{Rec, Listing}
@@ -25,6 +25,7 @@ use Rattle.elements.specs.declared.Found.the-variants.{Chunk}
 use Rattle.elements.specs.Runs.{alsoElement}
 use Rattle.elements.specs.Values.{foundOf}
 use Rattle.elements.proofs.Answers.{found-chunk}
+use Rattle.elements.proofs.Sized.{element-inside}
 
 pub some-is : (x y : Option Rec) → _≡_ {A = Outcome (Option Rec)} (accepted x) (accepted y) → x ≡ y
 some-is x y h = cc
@@ -60,13 +61,6 @@ unfolding _yields_ alsoElement
 yields-listed Passed e a l h = refl
 yields-listed (Refused r) e a l h = absurd (never r l h)
 
--- a slot inside the extents has offsets that pass their test and lie below them
-inside-or : (t : Checked) (b : Bool) → insideOr t b ≡ Inside → (t ≡ Passed) × (b ≡ true)
-unfolding insideOr
-inside-or (Refused r) b h = let z : _≡_ {A = ℕ} 0 1 = cc in absurd (omega arith)
-inside-or Passed true h = (refl, refl)
-inside-or Passed false h = let z : _≡_ {A = ℕ} 0 1 = cc in absurd (omega arith)
-
 none-some : (r : Rec) → _≡_ {A = Outcome (Option Rec)} (accepted none) (accepted (some r)) → ⊥
 none-some r h = let z : _≡_ {A = ℕ} 0 1 = cc in omega arith
 
@@ -77,8 +71,8 @@ module _ (es : Elements) (pos s : ℕ) where
 
   -- what an element that holds a chunk has passed, and what it holds
   pub chunk-inv : (x : Rec) → element es pos s ≡ accepted (some x)
-      → (elementSizeTest (es .form) ≡ Passed) × (inExtent (es .grid) s ≡ Inside) × (entryTest es pos ≡ Passed) × (x ≡ recordHere es pos s)
-  unfolding element inExtent insideOr
+      → (elementSizeTest (es .form) ≡ Passed) × (offsetsOf (inExtent (es .grid) s) ≡ Inside) × (entryTest es pos ≡ Passed) × (x ≡ recordHere es pos s)
+  unfolding element
   chunk-inv x h =
       let g = yields-inv _ _ _ h in
       by-cond P (undefinedElement es pos) (λ u k. absurd (none-some x k))
@@ -87,20 +81,17 @@ module _ (es : Elements) (pos s : ℕ) where
       by-cond P (not (inside es s)) (λ b m. absurd (none-some x m))
       (λ b m.
       let e = yields-inv _ _ _ m in
-      (g .0, rw (o .0, not-false (inside es s) b) refl, e .0, cc)) (o .1))
+      (g .0, passed-inside _ s (o .0) (not-false (inside es s) b), e .0, cc)) (o .1))
       (g .1)
     where
       P : Outcome (Option Rec) → Type 0
       P a = a ≡ accepted (some x)
-          → (elementSizeTest (es .form) ≡ Passed) × (inExtent (es .grid) s ≡ Inside) × (entryTest es pos ≡ Passed) × (x ≡ recordHere es pos s)
+          → (elementSizeTest (es .form) ≡ Passed) × (offsetsOf (inExtent (es .grid) s) ≡ Inside) × (entryTest es pos ≡ Passed) × (x ≡ recordHere es pos s)
 
   -- and back
-  pub chunk-here : elementSizeTest (es .form) ≡ Passed → inExtent (es .grid) s ≡ Inside → undefinedElement es pos ≡ false → entryTest es pos ≡ Passed
+  pub chunk-here : elementSizeTest (es .form) ≡ Passed → offsetsOf (inExtent (es .grid) s) ≡ Inside → undefinedElement es pos ≡ false → entryTest es pos ≡ Passed
       → element es pos s ≡ accepted (some (recordHere es pos s))
-  unfolding element inExtent
-  chunk-here t i u e =
-      let o = inside-or _ _ i in
-      yields-passed _ _ t ∙ rw u (yields-passed _ _ (o .0) ∙ rw (o .1) (yields-passed _ _ e))
+  chunk-here t i u e = element-inside es pos s t u i ∙ yields-passed _ _ e
 
   -- a chunk that is found, with its corner
   pub chunk-found : (x : Entry) → foundOf (element es pos s) ≡ Chunk x → element es pos s ≡ accepted (some (record { entry = x; corner = offsets (es .grid) s }))

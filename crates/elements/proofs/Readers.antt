@@ -5,7 +5,7 @@ use mathlib.Core.List.{List}
 use native.Mathlib.Omega.{arith}
 use lib.ListN.{length, take}
 use Rattle.chunk_grid.specs.Grid.{Grid, offsets}
-use Rattle.chunk_grid.specs.Values.{inExtent}
+use Rattle.chunk_grid.specs.Values.{inExtent, offsetsOf}
 use Rattle.chunk_grid.specs.declared.Offsets.the-variants.{Inside}
 use Rattle.chunk_grid.proofs.Grids.{accepted as grid-accepted, length-offsets}
 use Rattle.chunk_slots.specs.Values.{handed}
@@ -21,7 +21,7 @@ module _ {r : ElementReader} {chunk bound down : List ℕ} {grid : Grid} {n : �
   corner-rank s = length-offsets grid (grid-accepted grid (q .numbered .built)) s ∙ sym (q .numbered .ranked)
 
   -- the corner of a slot's chunk begins a lent array that its offsets are handed over in
-  pub inside-corner : (s : ℕ) → inExtent grid s ≡ Inside → (l l′ : List ℕ) → length l ≡ 32 → l′ ≡ handed grid s l → take (r .rank) l′ ≡ offsets grid s
+  pub inside-corner : (s : ℕ) → offsetsOf (inExtent grid s) ≡ Inside → (l l′ : List ℕ) → length l ≡ 32 → l′ ≡ handed grid s l → take (r .rank) l′ ≡ offsets grid s
   inside-corner s h l l′ k e =
       let fits : r .rank ≤ length l = omega (arith, k, reads-rank) in
       rw (e, q .numbered .ranked) (handed-corner grid s (q .numbered .built) h l (rw (q .numbered .ranked) at fits))

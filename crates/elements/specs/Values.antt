@@ -3,37 +3,27 @@ use Prim.Native.Nat.{ℕ}
 use mathlib.Core.Path.{_≡_}
 use mathlib.Core.List.{List}
 use mathlib.Core.Option.{Option, none, some}
-use Rattle.refusal.specs.declared.Checked.{Checked}
-use Rattle.refusal.specs.declared.Checked.the-variants.{Passed, Refused}
 use Rattle.refusal.specs.Refusals.{figure}
 use Rattle.refusal.specs.Outcome.{Outcome, refused, accepted}
-use Rattle.chunk_grid.specs.declared.Offsets.{Offsets}
-use Rattle.chunk_grid.specs.declared.Offsets.the-variants.{Inside, Dropped, Refused as OffsetsRefused}
 use Rattle.chunk_grid.specs.Grid.{Grid}
 use Rattle.chunk_grid.specs.Values.{GridNumbers, Extents}
+use Rattle.index.specs.declared.Entry.{Entry}
 use Rattle.index.specs.Index.{Rec}
 use Rattle.elements.specs.declared.Found.{Found}
 use Rattle.elements.specs.declared.Found.the-variants.{Absent, Chunk, Refused as FoundRefused}
 use Rattle.elements.specs.declared.ElementReader.{ElementReader}
 use Rattle.elements.specs.Elements.{Elements, chunkBytes}
 
--- What reading an element and looking up a chunk find. The record's corner is the one of the slot that was asked for.
+-- What reading an element and looking up a chunk answer. Refused: the refusal's number and figures. Accepted: number 0, and
+-- that there is no chunk or the chunk's entry; the record's corner is the one of the slot that was asked for.
 unfoldable pub foundOf : Outcome (Option Rec) → Found
 foundOf (refused r) = FoundRefused r
 foundOf (accepted none) = Absent
 foundOf (accepted (some x)) = Chunk (x .entry)
 
--- first the test: what follows counts only where it is passed
-infixr 5 _gives_
-unfoldable pub _gives_ : Checked → Found → Found
-Passed gives x = x
-Refused r gives x = FoundRefused r
-
--- 32, 33, dropped; what follows counts only inside the extents
-unfoldable pub insideOnly : Offsets → Found → Found
-insideOnly Inside x = x
-insideOnly Dropped x = Absent
-insideOnly (OffsetsRefused r) x = FoundRefused r
+-- the chunk with this corner and entry
+abbrev pub recorded : List ℕ → Entry → Outcome (Option Rec)
+recorded corner e = accepted (some (record { entry = e; corner = corner }))
 
 -- The elements that a file and a reader stand for, of a dataset with this grid and element size.
 abbrev pub elementsOf : List ℕ → ElementReader → Grid → ℕ → Elements

@@ -5,7 +5,7 @@ ghost use Prim.Native.Nat.{ℕ, _*_, _≤_};
 ghost use lib.ListN.{length, take};
 ghost use Rattle.refusal.specs.Refusals.{figure};
 ghost use Rattle.chunk_grid.specs.Grid.{Grid};
-ghost use Rattle.chunk_grid.specs.Values.{GridNumbers, Extents, inExtent};
+ghost use Rattle.chunk_grid.specs.Values.{GridNumbers, Extents, inExtent, offsetsOf};
 ghost use Rattle.chunk_slots.specs.Values.{handed};
 ghost use Rattle.elements.specs.Elements.{product};
 ghost use Rattle.elements.specs.Values.{Reads};
@@ -74,7 +74,8 @@ impl ElementReader {
     ) -> Offsets
         requires { ⌜ ((grid : Grid) × (n : ℕ) × Reads self (now chunk) (now bound) (now down) grid n) ⌝ }
         ensures { λ r. ⌜ ((grid : Grid) (n : ℕ) → Reads self (now (chunk .entry)) (now (bound .entry)) (now (down .entry)) grid n
-            → (r ≡ inExtent grid slot) × (now (offsets .exit) ≡ handed grid slot (now (offsets .entry)))) ⌝ }
+            → (r ≡ offsetsOf (inExtent grid slot))
+            × (now (offsets .exit) ≡ handed grid slot (now (offsets .entry)))) ⌝ }
     {
         let rank = self.rank as usize;
         let rotated = self.rotated as usize;

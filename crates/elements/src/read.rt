@@ -1,18 +1,19 @@
 // One element of an index: its tests, and what it holds.
 ghost use mathlib.Core.Path.{_≡_};
 ghost use mathlib.Core.Bool.{false};
+ghost use mathlib.Core.List.{List};
 ghost use Prim.Native.Nat.{ℕ, _+_, _≤_};
 ghost use lib.ListN.{length};
 ghost use Rattle.refusal.specs.declared.Checked.the-variants.{Passed};
 ghost use Rattle.refusal.specs.Refusals.{figure};
+ghost use Rattle.refusal.specs.Outcome.{_yields_};
 ghost use Rattle.fields.specs.Fields.{addressAt, undefinedAt, sizeTest};
 ghost use Rattle.chunk_grid.specs.declared.Offsets.the-variants.{Inside};
 ghost use Rattle.chunk_grid.specs.Grid.{Grid};
-ghost use Rattle.chunk_grid.specs.Values.{inExtent};
+ghost use Rattle.chunk_grid.specs.Values.{inExtent, offsetsOf};
 ghost use Rattle.element_form.specs.Form.{stride, elementSizeTest};
-ghost use Rattle.elements.specs.declared.Found.the-variants.{Chunk};
 ghost use Rattle.elements.specs.Elements.{chunkBytes, entryAt, entryTest, element};
-ghost use Rattle.elements.specs.Values.{foundOf, _gives_, elementsOf, Reads};
+ghost use Rattle.elements.specs.Values.{foundOf, recorded, elementsOf, Reads};
 use crate::ElementReader;
 use crate::Found;
 use chunk_grid::Offsets;
@@ -64,7 +65,8 @@ pub fn read_defined_element(
 ) -> Found
     requires { ⌜ (elementSizeTest (reader .form) ≡ Passed) × (pos + stride (reader .form) ≤ length (now file))
         × (undefinedAt (now file) pos (reader .form .«offset_size») ≡ false) ⌝ }
-    ensures { λ r. ⌜ ((grid : Grid) (n s : ℕ) → reader .«chunk_bytes» ≡ figure (chunkBytes grid n) → reached ≡ inExtent grid s
+    ensures { λ r. ⌜ ((grid : Grid) (n s : ℕ) → reader .«chunk_bytes» ≡ figure (chunkBytes grid n)
+        → reached ≡ offsetsOf (inExtent grid s)
         → r ≡ foundOf (element (elementsOf (now (file .entry)) reader grid n) pos s)) ⌝ }
 {
     match reached {
@@ -77,7 +79,8 @@ pub fn read_defined_element(
 // The element at pos of a slot that lies in the present extents, where the size of elements has passed its test.
 pub fn read_inside_element(file: &[u8], pos: usize, reader: ElementReader) -> Found
     requires { ⌜ (elementSizeTest (reader .form) ≡ Passed) × (pos + stride (reader .form) ≤ length (now file)) ⌝ }
-    ensures { λ r. ⌜ ((grid : Grid) (n s : ℕ) → reader .«chunk_bytes» ≡ figure (chunkBytes grid n) → inExtent grid s ≡ Inside
+    ensures { λ r. ⌜ ((grid : Grid) (n s : ℕ) → reader .«chunk_bytes» ≡ figure (chunkBytes grid n)
+        → offsetsOf (inExtent grid s) ≡ Inside
         → r ≡ foundOf (element (elementsOf (now (file .entry)) reader grid n) pos s)) ⌝ }
 {
     let width = reader.form.offset_size;
@@ -92,8 +95,9 @@ pub fn read_inside_element(file: &[u8], pos: usize, reader: ElementReader) -> Fo
 fn read_entry(file: &[u8], pos: usize, reader: ElementReader, address: u64) -> Found
     requires { ⌜ (elementSizeTest (reader .form) ≡ Passed) × (pos + stride (reader .form) ≤ length (now file))
         × (address ≡ addressAt (now file) pos (reader .form .«offset_size»)) ⌝ }
-    ensures { λ r. ⌜ ((grid : Grid) (n : ℕ) → reader .«chunk_bytes» ≡ figure (chunkBytes grid n)
-        → (let e = elementsOf (now (file .entry)) reader grid n in r ≡ (entryTest e pos gives Chunk (entryAt e pos)))) ⌝ }
+    ensures { λ r. ⌜ ((grid : Grid) (n : ℕ) (corner : List ℕ) → reader .«chunk_bytes» ≡ figure (chunkBytes grid n)
+        → (let e = elementsOf (now (file .entry)) reader grid n in
+        r ≡ foundOf (entryTest e pos yields recorded corner (entryAt e pos)))) ⌝ }
 {
     let form = reader.form;
     if !form.is_filtered() {
@@ -111,7 +115,8 @@ fn read_entry(file: &[u8], pos: usize, reader: ElementReader, address: u64) -> F
 
 // The entry of these numbers: 30 where 32 bits don't hold the size.
 fn entry_of(address: u64, size: u64, mask: u32) -> Found
-    ensures { λ r. ⌜ r ≡ (sizeTest size gives Chunk (record { address = address; size = size; mask = mask })) ⌝ }
+    ensures { λ r. ⌜ ((corner : List ℕ)
+        → r ≡ foundOf (sizeTest size yields recorded corner (record { address = address; size = size; mask = mask }))) ⌝ }
 {
     match u32_from(size) {
         Narrowed::Value(size) => Found::Chunk(Entry {

@@ -1,7 +1,8 @@
 -- Laws of a field's test and of what it holds. Assumes nothing.
 use mathlib.Core.Path.{_≡_, refl, ap, sym}
-use mathlib.Core.Bool.{Bool, true, false, not}
+use mathlib.Core.Bool.{true, false, not}
 use mathlib.Core.List.{List}
+use mathlib.Core.Option.{Option, none, some}
 use mathlib.Core.Logic.{⊎-elim}
 use Prim.Native.Nat.{ℕ, _+_, _^_, _<_, _≤_}
 use native.Mathlib.Omega.{arith}
@@ -11,10 +12,11 @@ use Rattle.refusal.specs.declared.Refusal.{Refusal}
 use Rattle.refusal.specs.declared.Checked.{Checked}
 use Rattle.refusal.specs.declared.Checked.the-variants.{Passed, Refused}
 use Rattle.refusal.specs.Refusals.{figure, largest64}
+use Rattle.refusal.specs.Outcome.{accepted, _yields_}
 use Rattle.fields.specs.declared.bytes.Field.the-variants.{Value, Refused as FieldRefused}
 use Rattle.fields.specs.declared.bytes.OptionalOffset.the-variants.{Undefined, At, Refused as OptionalRefused}
 use Rattle.fields.specs.Fields.{isWidth, widthTest, inFile, undefined, addressAt, undefinedAt}
-use Rattle.fields.specs.Values.{fieldTest, sizeFieldTest, fieldAfter, optionalAfter, offsetField, optionalOffsetField}
+use Rattle.fields.specs.Values.{fieldTest, sizeFieldTest, fieldOf, optionalOf, offsetField, optionalOffsetField}
 use Rattle.refusal.proofs.Tests.{lt-or-ge, refuse-false, refuse-true, refuse-inv, then-second, then-first, then-inv}
 
 module _ (s : List ℕ) (pos len : ℕ) where
@@ -61,54 +63,52 @@ module _ (s : List ℕ) (pos w : ℕ) where
 
 -- what a field holds, from its test and back
 module _ (t : Checked) (n : ℕ) where
-  pub value-after : Passed ≡ t → Value n ≡ fieldAfter t n
-  unfolding fieldAfter
-  value-after e = ap (λ (x : Checked). fieldAfter x n) e
+  pub value-after : Passed ≡ t → Value n ≡ fieldOf (t yields accepted n)
+  unfolding fieldOf _yields_
+  value-after e = ap (λ (x : Checked). fieldOf (x yields accepted n)) e
 
-  pub refused-after : {r : Refusal} → Refused r ≡ t → FieldRefused r ≡ fieldAfter t n
-  unfolding fieldAfter
-  refused-after e = ap (λ (x : Checked). fieldAfter x n) e
+  pub refused-after : {r : Refusal} → Refused r ≡ t → FieldRefused r ≡ fieldOf (t yields accepted n)
+  unfolding fieldOf _yields_
+  refused-after e = ap (λ (x : Checked). fieldOf (x yields accepted n)) e
 
-pub value-is : (t : Checked) (n v : ℕ) → Value v ≡ fieldAfter t n → (Passed ≡ t) × (v ≡ n)
-unfolding fieldAfter
+pub value-is : (t : Checked) (n v : ℕ) → Value v ≡ fieldOf (t yields accepted n) → (Passed ≡ t) × (v ≡ n)
+unfolding fieldOf _yields_
 value-is Passed n v h = (refl, cc)
 value-is (Refused r) n v h = (cc, cc)
 
-pub refused-is : (t : Checked) (n : ℕ) (r : Refusal) → FieldRefused r ≡ fieldAfter t n → Refused r ≡ t
-unfolding fieldAfter
+pub refused-is : (t : Checked) (n : ℕ) (r : Refusal) → FieldRefused r ≡ fieldOf (t yields accepted n) → Refused r ≡ t
+unfolding fieldOf _yields_
 refused-is Passed n r h = cc
 refused-is (Refused q) n r h = cc
 
-module _ (t : Checked) (b : Bool) (a : ℕ) where
-  pub undefined-after : Passed ≡ t → b ≡ true → Undefined ≡ optionalAfter t b a
-  unfolding optionalAfter
-  undefined-after e u = rw u (ap (λ (x : Checked). optionalAfter x true a) e)
+module _ (t : Checked) (x : Option ℕ) where
+  optional-after : Passed ≡ t → optionalOf (accepted x) ≡ optionalOf (t yields accepted x)
+  unfolding _yields_
+  optional-after e = ap (λ (y : Checked). optionalOf (y yields accepted x)) e
 
-  pub at-after : Passed ≡ t → b ≡ false → At a ≡ optionalAfter t b a
-  unfolding optionalAfter
-  at-after e u = rw u (ap (λ (x : Checked). optionalAfter x false a) e)
-
-  pub optional-refused : {r : Refusal} → Refused r ≡ t → OptionalRefused r ≡ optionalAfter t b a
-  unfolding optionalAfter
-  optional-refused e = ap (λ (x : Checked). optionalAfter x b a) e
+  optional-refused : {r : Refusal} → Refused r ≡ t → OptionalRefused r ≡ optionalOf (t yields accepted x)
+  unfolding optionalOf _yields_
+  optional-refused e = ap (λ (y : Checked). optionalOf (y yields accepted x)) e
 
 -- an address that may be undefined, from the address that is read
 module _ (s : List ℕ) (pos o : ℕ) where
-  pub offset-undefined : (v : ℕ) → Value v ≡ offsetField s pos o → undefined o v ≡ true → Undefined ≡ optionalOffsetField s pos o
-  unfolding offsetField optionalOffsetField undefinedAt
+  pub offset-undefined : (v : ℕ) → Value v ≡ fieldOf (offsetField s pos o) → undefined o v ≡ true → Undefined ≡ optionalOf (optionalOffsetField s pos o)
+  unfolding offsetField optionalOffsetField undefinedAt optionalOf
   offset-undefined v e u =
       let i = value-is (fieldTest 1 s pos o) (addressAt s pos o) v e in
-      undefined-after _ _ _ (i .0) (rw (i .1) at u)
+      let d : undefined o (addressAt s pos o) ≡ true = rw (i .1) at u in
+      rw d (optional-after (fieldTest 1 s pos o) none (i .0))
 
-  pub offset-defined : (v : ℕ) → Value v ≡ offsetField s pos o → undefined o v ≡ false → At v ≡ optionalOffsetField s pos o
-  unfolding offsetField optionalOffsetField undefinedAt
+  pub offset-defined : (v : ℕ) → Value v ≡ fieldOf (offsetField s pos o) → undefined o v ≡ false → At v ≡ optionalOf (optionalOffsetField s pos o)
+  unfolding offsetField optionalOffsetField undefinedAt optionalOf
   offset-defined v e u =
       let i = value-is (fieldTest 1 s pos o) (addressAt s pos o) v e in
-      rw (i .1) (at-after _ _ _ (i .0) (rw (i .1) at u))
+      let d : undefined o (addressAt s pos o) ≡ false = rw (i .1) at u in
+      rw (i .1, d) (optional-after (fieldTest 1 s pos o) (some (addressAt s pos o)) (i .0))
 
-  pub offset-refused : (r : Refusal) → FieldRefused r ≡ offsetField s pos o → OptionalRefused r ≡ optionalOffsetField s pos o
+  pub offset-refused : (r : Refusal) → FieldRefused r ≡ fieldOf (offsetField s pos o) → OptionalRefused r ≡ optionalOf (optionalOffsetField s pos o)
   unfolding offsetField optionalOffsetField
-  offset-refused r e = optional-refused _ _ _ (refused-is (fieldTest 1 s pos o) (addressAt s pos o) r e)
+  offset-refused r e = optional-refused _ _ (refused-is (fieldTest 1 s pos o) (addressAt s pos o) r e)
 
 -- another width has no undefined address
 pub no-undefined : (o a : ℕ) → isWidth o ≡ false → false ≡ undefined o a

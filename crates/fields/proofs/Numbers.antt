@@ -11,9 +11,10 @@ use Rattle.refusal.specs.declared.Refusal.{Refusal}
 use Rattle.refusal.specs.declared.Checked.{Checked}
 use Rattle.refusal.specs.declared.Checked.the-variants.{Passed, Refused}
 use Rattle.refusal.specs.Refusals.{refuse, figure, largest64}
+use Rattle.refusal.specs.Outcome.{accepted, _yields_}
 use Rattle.fields.specs.declared.convert.Exact.the-variants.{Fits, Overflows}
 use Rattle.fields.specs.declared.convert.Narrowed.the-variants.{Value, Refused as NarrowedRefused}
-use Rattle.fields.specs.Values.{exact, narrowedAfter, narrowed}
+use Rattle.fields.specs.Values.{exact, narrowed, narrowedOf}
 use Rattle.fields.specs.Fields.{sizeTest}
 
 pub fits : (n : ℕ) → n ≤ largest64 → Fits n ≡ exact n
@@ -50,21 +51,21 @@ unfolding figure
 figure-overflows n h = omega (arith, overflows-is n h)
 
 -- a number in 32 bits, from its test and back
-pub narrow : (n : ℕ) → n ≤ 2 ^ 32 - 1 → Value n ≡ narrowed n
-unfolding narrowed narrowedAfter sizeTest refuse
+pub narrow : (n : ℕ) → n ≤ 2 ^ 32 - 1 → Value n ≡ narrowedOf (narrowed n)
+unfolding narrowed narrowedOf sizeTest refuse _yields_
 narrow n h = simp (le-ltb (2 ^ 32 - 1) n h)
 
-pub too-wide : (n : ℕ) → 2 ^ 32 - 1 < n → n ≤ largest64 → NarrowedRefused (record { number = 30; first = n; second = 0 }) ≡ narrowed n
-unfolding narrowed narrowedAfter sizeTest refuse figure
+pub too-wide : (n : ℕ) → 2 ^ 32 - 1 < n → n ≤ largest64 → NarrowedRefused (record { number = 30; first = n; second = 0 }) ≡ narrowedOf (narrowed n)
+unfolding narrowed narrowedOf sizeTest refuse _yields_ figure
 too-wide n h fit = let e : figure n ≡ n = omega arith in simp (lt-ltb (2 ^ 32 - 1) n h, e)
 
-pub narrow-is : (t : Checked) (n v : ℕ) → Value v ≡ narrowedAfter t n → (Passed ≡ t) × (v ≡ n)
-unfolding narrowedAfter
+pub narrow-is : (t : Checked) (n v : ℕ) → Value v ≡ narrowedOf (t yields accepted n) → (Passed ≡ t) × (v ≡ n)
+unfolding narrowedOf _yields_
 narrow-is Passed n v h = (refl, cc)
 narrow-is (Refused r) n v h = (cc, cc)
 
-pub too-wide-is : (t : Checked) (n : ℕ) (r : Refusal) → NarrowedRefused r ≡ narrowedAfter t n → Refused r ≡ t
-unfolding narrowedAfter
+pub too-wide-is : (t : Checked) (n : ℕ) (r : Refusal) → NarrowedRefused r ≡ narrowedOf (t yields accepted n) → Refused r ≡ t
+unfolding narrowedOf _yields_
 too-wide-is Passed n r h = cc
 too-wide-is (Refused q) n r h = cc
 

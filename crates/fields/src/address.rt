@@ -9,11 +9,13 @@ pub struct Address {
 
 impl Address {
     // The undefined address of each width: all bits set.
-    pub const UNDEFINED_2: u64 = 0xFFFF;
+    pub const UNDEFINED_2: Address = Address { value: 0xFFFF };
 
-    pub const UNDEFINED_4: u64 = 0xFFFF_FFFF;
+    pub const UNDEFINED_4: Address = Address { value: 0xFFFF_FFFF };
 
-    pub const UNDEFINED_8: u64 = 0xFFFF_FFFF_FFFF_FFFF;
+    pub const UNDEFINED_8: Address = Address {
+        value: 0xFFFF_FFFF_FFFF_FFFF,
+    };
 }
 
 // Whether an address that is stored in `width` bytes is undefined.
@@ -26,5 +28,5 @@ pub fn is_undefined_addr(addr: Address, width: u64) -> bool
         8 => Address::UNDEFINED_8,
         _ => return false,
     };
-    addr.value == undefined
+    addr.value == undefined.value
 }

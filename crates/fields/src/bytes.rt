@@ -7,6 +7,7 @@ ghost use lib.Seq.{sets};
 ghost use Rattle.fields.specs.LittleEndian.{leAt, leBytes};
 ghost use Rattle.fields.specs.Fields.{isWidth, widthTest, inFile, addressAt};
 ghost use Rattle.fields.specs.Values.{fieldTest, offsetField, optionalOffsetField, lengthField, sizeField};
+ghost use Rattle.fields.specs.Values.{fieldOf, optionalOf};
 use crate::address::Address;
 use crate::address::is_undefined_addr;
 use crate::convert::Exact;
@@ -81,7 +82,7 @@ fn ensure_field(s: &[u8], pos: u64, width: u64, number: u64) -> Checked
 
 // The address in the `width` bytes of s from pos on: 1 where no offset is so wide, 20 past the end.
 pub fn read_offset(s: &[u8], pos: u64, width: u64) -> Field
-    ensures { λ r. ⌜ r ≡ offsetField (now (s .entry)) pos width ⌝ }
+    ensures { λ r. ⌜ r ≡ fieldOf (offsetField (now (s .entry)) pos width) ⌝ }
 {
     match ensure_field(s, pos, width, Refusal::OFFSET_SIZE) {
         Checked::Passed => {
@@ -94,7 +95,7 @@ pub fn read_offset(s: &[u8], pos: u64, width: u64) -> Field
 
 // The same, where the address may be undefined.
 pub fn read_optional_offset(s: &[u8], pos: u64, width: u64) -> OptionalOffset
-    ensures { λ r. ⌜ r ≡ optionalOffsetField (now (s .entry)) pos width ⌝ }
+    ensures { λ r. ⌜ r ≡ optionalOf (optionalOffsetField (now (s .entry)) pos width) ⌝ }
 {
     match read_offset(s, pos, width) {
         Field::Value(value) => {
@@ -110,7 +111,7 @@ pub fn read_optional_offset(s: &[u8], pos: u64, width: u64) -> OptionalOffset
 
 // The length in the `width` bytes of s from pos on: 2 where no length is so wide, 20 past the end.
 pub fn read_length(s: &[u8], pos: u64, width: u64) -> Field
-    ensures { λ r. ⌜ r ≡ lengthField (now (s .entry)) pos width ⌝ }
+    ensures { λ r. ⌜ r ≡ fieldOf (lengthField (now (s .entry)) pos width) ⌝ }
 {
     match ensure_field(s, pos, width, Refusal::LENGTH_SIZE) {
         Checked::Passed => Field::Value(read_le(s, pos as usize, width as usize)),
@@ -120,7 +121,7 @@ pub fn read_length(s: &[u8], pos: u64, width: u64) -> Field
 
 // The size in the `width` bytes of s from pos on: 29 over 8 bytes, 20 past the end.
 pub fn read_variable_length(s: &[u8], pos: u64, width: u64) -> Field
-    ensures { λ r. ⌜ r ≡ sizeField (now (s .entry)) pos width ⌝ }
+    ensures { λ r. ⌜ r ≡ fieldOf (sizeField (now (s .entry)) pos width) ⌝ }
 {
     if 8 < width {
         return Field::Refused(Refusal::plain(Refusal::SIZE_FIELD));

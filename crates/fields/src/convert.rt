@@ -2,7 +2,7 @@
 ghost use mathlib.Core.Path.{_≡_};
 ghost use Prim.Native.Nat.{ℕ, _+_, _*_};
 ghost use Rattle.refusal.specs.Refusals.{figure};
-ghost use Rattle.fields.specs.Values.{exact, narrowed};
+ghost use Rattle.fields.specs.Values.{exact, narrowed, narrowedOf};
 use refusal::Refusal;
 
 // A sum or product where 64 bits hold it.
@@ -64,7 +64,7 @@ pub fn saturating_mul(a: u64, b: u64) -> u64
 
 // The value in 32 bits: over 2^32 - 1 it is 30.
 pub fn u32_from(value: u64) -> Narrowed
-    ensures { λ r. ⌜ r ≡ narrowed value ⌝ }
+    ensures { λ r. ⌜ r ≡ narrowedOf (narrowed value) ⌝ }
 {
     if value <= 0xFFFF_FFFF {
         return Narrowed::Value(value as u32);

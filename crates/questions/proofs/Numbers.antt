@@ -2,6 +2,7 @@
 use mathlib.Core.Path.{_≡_, refl}
 use mathlib.Core.Bool.{cond, _&&_, and-false}
 use mathlib.Core.List.{List, [], _∷_}
+use mathlib.Core.Option.{Option, none, some}
 use Prim.Native.Nat.{ℕ, suc, _+_, _-_, _*_, _≤_, _<_}
 use native.Mathlib.Omega.{arith}
 use lib.ListN.{length, getD, drop, drop-of-length-le}
@@ -9,12 +10,10 @@ use lib.Seq.{drop-cons}
 use lib.Dec.{leb}
 use borrow.Author.Tests.{lt-ltb, le-leb, lt-leb}
 use Rattle.questions.specs.Text.{isDigit, digitsOnly, valueFrom, valueOf, isNumber, numberOf}
-use Rattle.questions.specs.declared.text.Number.{Number}
-use Rattle.questions.specs.declared.text.Number.the-variants.{Value, NoNumber}
 
 -- what the digits w come to behind digits of the value v
-unfoldable pub numberFrom : ℕ → ℕ → List ℕ → Number
-numberFrom largest v w = cond (digitsOnly w && leb (valueFrom v w) largest) (Value (valueFrom v w)) NoNumber
+unfoldable pub numberFrom : ℕ → ℕ → List ℕ → Option ℕ
+numberFrom largest v w = cond (digitsOnly w && leb (valueFrom v w) largest) (some (valueFrom v w)) none
 
 -- further digits make no number less
 value-grows : (v : ℕ) (w : List ℕ) → v ≤ valueFrom v w
@@ -23,7 +22,7 @@ value-grows v [] = omega arith
 value-grows v (b ∷ w) = omega (arith, value-grows (v * 10 + (b - 48)) w)
 
 module _ (largest : ℕ) (w : List ℕ) where
-  pub number-empty : length w ≡ 0 → NoNumber ≡ numberOf largest w
+  pub number-empty : length w ≡ 0 → none ≡ numberOf largest w
   unfolding numberOf isNumber
   number-empty e = rw e refl
 
@@ -32,7 +31,7 @@ module _ (largest : ℕ) (w : List ℕ) where
   number-start h = rw (lt-ltb 0 (length w) h) refl
 
   module _ (v i : ℕ) where
-    pub number-end : length w ≤ i → numberFrom largest v (drop i w) ≡ cond (leb v largest) (Value v) NoNumber
+    pub number-end : length w ≤ i → numberFrom largest v (drop i w) ≡ cond (leb v largest) (some v) none
     unfolding numberFrom digitsOnly valueFrom
     number-end h = rw (drop-of-length-le w {i = i} h) refl
 
@@ -45,16 +44,16 @@ module _ (largest : ℕ) (w : List ℕ) where
         rw (next, drop-cons w i 0 h, le-leb 48 (getD w i 0) a, le-leb (getD w i 0) 57 z) refl
 
     -- another byte
-    pub number-below : i < length w → getD w i 0 < 48 → NoNumber ≡ numberFrom largest v (drop i w)
+    pub number-below : i < length w → getD w i 0 < 48 → none ≡ numberFrom largest v (drop i w)
     unfolding numberFrom digitsOnly isDigit
     number-below h a = rw (drop-cons w i 0 h, lt-leb 48 (getD w i 0) a) refl
 
-    pub number-above : i < length w → 57 < getD w i 0 → NoNumber ≡ numberFrom largest v (drop i w)
+    pub number-above : i < length w → 57 < getD w i 0 → none ≡ numberFrom largest v (drop i w)
     unfolding numberFrom digitsOnly isDigit
     number-above h z = rw (drop-cons w i 0 h, le-leb 48 (getD w i 0) (omega arith), lt-leb (getD w i 0) 57 z) refl
 
     -- a digit that makes the number too large
-    pub number-over : i < length w → largest < v * 10 + (getD w i 0 - 48) → NoNumber ≡ numberFrom largest v (drop i w)
+    pub number-over : i < length w → largest < v * 10 + (getD w i 0 - 48) → none ≡ numberFrom largest v (drop i w)
     unfolding numberFrom valueFrom
     number-over h z =
         let more = v * 10 + (getD w i 0 - 48) in

@@ -2,10 +2,9 @@
 use Prim.Native.Nat.{ℕ, zero, suc, _+_, _-_, _*_, _/_, _%_}
 use mathlib.Core.Bool.{Bool, true, cond, _&&_}
 use mathlib.Core.List.{List, [], _∷_, _++_}
+use mathlib.Core.Option.{Option, none, some}
 use lib.Dec.{eqb, leb, ltb}
 use lib.ListN.{length, getD}
-use Rattle.questions.specs.declared.text.Number.{Number}
-use Rattle.questions.specs.declared.text.Number.the-variants.{Value, NoNumber}
 
 -- the bytes before the first b, or all where there is none
 unfoldable pub before : ℕ → List ℕ → List ℕ
@@ -45,5 +44,5 @@ valueOf w = valueFrom 0 w
 unfoldable pub isNumber : ℕ → List ℕ → Bool
 isNumber largest w = ltb 0 (length w) && digitsOnly w && leb (valueOf w) largest
 
-unfoldable pub numberOf : ℕ → List ℕ → Number
-numberOf largest w = cond (isNumber largest w) (Value (valueOf w)) NoNumber
+unfoldable pub numberOf : ℕ → List ℕ → Option ℕ
+numberOf largest w = cond (isNumber largest w) (some (valueOf w)) none

@@ -6,6 +6,7 @@ ghost use lib.ListN.{length};
 ghost use Rattle.questions.specs.Text.{words};
 ghost use Rattle.questions.specs.Line.{orderNumber, wordNumber, noQuestion, withNumber, lineQuestion, lineStored};
 ghost use Rattle.questions.specs.Line.{fileOf, questionOf, numbersStored};
+ghost use Rattle.questions.specs.Values.{wordOf, parsedOf};
 use fields::bytes::put_le;
 use text::Number;
 use text::is_only;
@@ -59,6 +60,7 @@ fn chosen(first: bool, a: u64, b: u64) -> u64
     if first { a } else { b }
 }
 
+// What a line comes to.
 pub enum Parsed {
     Asked(Question),
     Unreadable,
@@ -66,7 +68,7 @@ pub enum Parsed {
 
 // The order that a word names.
 fn parse_order(word: &[u8]) -> Number
-    ensures { λ r. ⌜ r ≡ orderNumber (now (word .entry)) ⌝ }
+    ensures { λ r. ⌜ r ≡ wordOf (orderNumber (now (word .entry))) ⌝ }
 {
     if is_only(word, b'R') {
         return Number::Value(0);
@@ -79,7 +81,7 @@ fn parse_order(word: &[u8]) -> Number
 
 // The number of word i.
 fn parse_word(word: &[u8], i: usize, rank: u64) -> Number
-    ensures { λ r. ⌜ r ≡ wordNumber rank i (now (word .entry)) ⌝ }
+    ensures { λ r. ⌜ r ≡ wordOf (wordNumber rank i (now (word .entry))) ⌝ }
 {
     if i < 2 {
         return parse_number(word, 255);
@@ -100,7 +102,7 @@ fn parse_word(word: &[u8], i: usize, rank: u64) -> Number
 // Reads a line, and stores its numbers up to the first word that has none.
 fn parse_line(numbers: &mut [u8], line: &[u8]) -> Parsed
     requires { ⌜ (length (now line) ≤ 4095) × (32768 ≤ length (now numbers)) ⌝ }
-    ensures { λ r. ⌜ r ≡ lineQuestion (words (now (line .entry))) ⌝ }
+    ensures { λ r. ⌜ r ≡ parsedOf (lineQuestion (words (now (line .entry)))) ⌝ }
     ensures { λ _. ⌜ now (numbers .exit) ≡ lineStored (words (now (line .entry))) (now (numbers .entry)) ⌝ }
 {
     let mut question = Question::none();
@@ -142,7 +144,7 @@ pub fn file_of(input: &[u8]) -> &[u8]
 // Reads the line in front of a file, and stores its numbers.
 pub fn parse(numbers: &mut [u8], input: &[u8]) -> Parsed
     requires { ⌜ 32768 ≤ length (now numbers) ⌝ }
-    ensures { λ r. ⌜ r ≡ questionOf (now (input .entry)) ⌝ }
+    ensures { λ r. ⌜ r ≡ parsedOf (questionOf (now (input .entry))) ⌝ }
     ensures { λ _. ⌜ now (numbers .exit) ≡ numbersStored (now (input .entry)) (now (numbers .entry)) ⌝ }
 {
     let line = until(input, 0, b'\n');

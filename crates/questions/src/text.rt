@@ -3,6 +3,7 @@ ghost use mathlib.Core.Path.{_≡_};
 ghost use Prim.Native.Nat.{_+_, _≤_};
 ghost use lib.ListN.{length, drop};
 ghost use Rattle.questions.specs.Text.{before, isOnly, numberOf};
+ghost use Rattle.questions.specs.Values.{wordOf};
 use bytes::scan;
 
 // What a word stands for.
@@ -36,7 +37,7 @@ fn wide(b: u8) -> u64
 
 // The number that a word's digits write, where it is `largest` at most.
 pub fn parse_number(word: &[u8], largest: u64) -> Number
-    ensures { λ r. ⌜ r ≡ numberOf largest (now (word .entry)) ⌝ }
+    ensures { λ r. ⌜ r ≡ wordOf (numberOf largest (now (word .entry))) ⌝ }
 {
     if word.len() == 0 {
         return Number::NoNumber;

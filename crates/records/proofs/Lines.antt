@@ -7,7 +7,7 @@ use lib.ListN.{length, getD, take, set, length-take}
 use Rattle.refusal.specs.Refusals.{figure}
 use Rattle.refusal.specs.Outcome.{accepted}
 use Rattle.chunk_grid.specs.Grid.{Grid, offsets}
-use Rattle.chunk_grid.specs.Values.{inExtent}
+use Rattle.chunk_grid.specs.Values.{inExtent, offsetsOf}
 use Rattle.chunk_grid.specs.declared.Offsets.{Offsets}
 use Rattle.chunk_grid.specs.declared.Offsets.the-variants.{Inside}
 use Rattle.chunk_slots.specs.Values.{handed}
@@ -23,8 +23,8 @@ use Rattle.records.specs.Values.{ReadsLine}
 
 -- the line of a slot inside the extents, whose offsets are handed over in a lent array
 pub reads-line : {r : ElementReader} {chunk bound down : List ℕ} {grid : Grid} {n : ℕ} → Reads r chunk bound down grid n
-    → (s : ℕ) (a : List ℕ) {o : Offsets} {a′ : List ℕ} → (o ≡ inExtent grid s) × (a′ ≡ handed grid s a) → length a ≡ 32 → o ≡ Inside
-    → {line : Line} → (inExtent grid s ≡ Inside → InLine grid chunk s line) → ReadsLine r a′ line chunk grid n s
+    → (s : ℕ) (a : List ℕ) {o : Offsets} {a′ : List ℕ} → (o ≡ offsetsOf (inExtent grid s)) × (a′ ≡ handed grid s a) → length a ≡ 32 → o ≡ Inside
+    → {line : Line} → (offsetsOf (inExtent grid s) ≡ Inside → InLine grid chunk s line) → ReadsLine r a′ line chunk grid n s
 reads-line {bound = bound} {down = down} q s a {a′ = a′} told array inside lies =
     let e = sym (told .0) ∙ inside in
     record { bound = bound; down = down; reads = q; begins = inside-corner q s e a a′ array (told .1); lies = lies e }
@@ -63,7 +63,7 @@ pub record Lined (file : List ℕ) (r : ElementReader) (corner : List ℕ) (dim 
   pub chunked : r .«chunk_bytes» ≡ figure (chunkBytes grid m)
   pub is : elementsFrom (elementsOf file r grid m) pos n s (accepted []) ≡ accepted l
   pub below : s + n ≤ r .count
-  pub inside : (i : ℕ) → i < n → inExtent grid (s + i) ≡ Inside
+  pub inside : (i : ℕ) → i < n → offsetsOf (inExtent grid (s + i)) ≡ Inside
   pub corners : (i : ℕ) → i < n → set (take (r .rank) corner) dim (first + i * step) ≡ offsets grid (s + i)
 
 pub lined : {file : List ℕ} {r : ElementReader} {chunk corner : List ℕ} {line : Line} {pos n : ℕ} → n ≤ line .slots → {grid : Grid} {m s : ℕ} {l : List Rec}

@@ -1,9 +1,9 @@
 -- Records read back from their bytes, and elements whose records fit their bytes. Assumes nothing.
 use Prim.Native.Nat.{ℕ, _+_, _-_, _*_, _^_, _<_, _≤_}
 use mathlib.Core.Path.{_≡_, refl, sym, ap, subst, _∙_}
-use mathlib.Core.Bool.{Bool, false}
+use mathlib.Core.Bool.{false}
 use mathlib.Core.List.{List, [], _∷_, _++_, append-assoc}
-use mathlib.Core.Option.{none, some}
+use mathlib.Core.Option.{some}
 use native.Mathlib.Nat.{mod-eq-of-lt}
 use native.Mathlib.Omega.{arith}
 use borrow.Author.Tests.{ltb-false}
@@ -11,27 +11,24 @@ use lib.Dec.{ltb}
 use lib.ListN.{length, getD, drop, length-append}
 use lib.Pow.{pow-mono}
 use lib.Seq.{sets, sets-eq, take-at, drop-at}
-use Rattle.refusal.specs.declared.Checked.{Checked}
-use Rattle.refusal.specs.declared.Checked.the-variants.{Passed, Refused}
+use Rattle.refusal.specs.declared.Checked.the-variants.{Passed}
 use Rattle.refusal.specs.Refusals.{largest64}
 use Rattle.refusal.specs.Outcome.{accepted}
 use Rattle.refusal.proofs.Tests.{by-cond, refuse-inv, then-inv, neither}
-use Rattle.refusal.proofs.Outcomes.{never}
 use Rattle.fields.specs.LittleEndian.{leAt, leBytes}
 use Rattle.fields.specs.Fields.{addressAt, sizeTest}
 use Rattle.fields.proofs.Stored.{length-bytes, value-bytes}
 use Rattle.fields.proofs.LittleEndian.{le-small}
 use Rattle.fields.proofs.Widths.{width-le}
-use Rattle.chunk_grid.specs.Grid.{any, offsets, overflows, offsetsTest}
-use Rattle.chunk_grid.specs.Values.{insideOr, inExtent}
+use Rattle.chunk_grid.specs.Grid.{any, offsets, overflows}
+use Rattle.chunk_grid.specs.Values.{inExtent, offsetsOf}
 use Rattle.shapes.specs.Shapes.{numbersIn}
 use Rattle.chunk_grid.specs.declared.Offsets.the-variants.{Inside}
+use Rattle.chunk_grid.proofs.Slots.{inside-inv}
 use Rattle.element_form.specs.Form.{filtered, elementSizeTest}
 use Rattle.element_form.proofs.Forms.{sized-width}
-use Rattle.index.specs.declared.Entry.{Entry}
 use Rattle.index.specs.Index.{Rec}
 use Rattle.index.proofs.All.{All}
-use Rattle.index.proofs.Records.{none-some}
 use Rattle.elements.specs.Elements.{Elements, sizeAt, maskAt, entryAt, entryTest, element}
 use Rattle.elements.proofs.Elements.{chunk-inv}
 use Rattle.records.specs.Records.{recordLength, offsetBytes, recordBytes, listBytes, recordIn, recordsIn}
@@ -116,19 +113,14 @@ pub list-back : (rank : ℕ) (l : List Rec) (out : List ℕ) → Ranked rank l �
 list-back rank l out k f le = ap (recordsIn rank (length l)) (sets-eq (listBytes l) out 0 (omega arith)) ∙ records-back rank l (drop (0 + length (listBytes l)) out) k f
 
 -- an element that holds a chunk has such a record
-or-passed : (t : Checked) (b : Bool) → insideOr t b ≡ Inside → t ≡ Passed
-unfolding insideOr
-or-passed Passed b h = refl
-or-passed (Refused r) b h = let z : _≡_ {A = ℕ} 0 1 = cc in absurd (omega arith)
-
 module _ (es : Elements) (bytes : (i : ℕ) → getD (es .file) i 0 < 256) (pos s : ℕ) where
   mask-small : maskAt es pos < 2 ^ 32
   unfolding maskAt
   mask-small = by-cond (λ (n : ℕ). n < 2 ^ 32) (filtered (es .form)) (λ t. le-small (es .file) bytes 4 _) (λ t. omega arith)
 
-  entry-fits : elementSizeTest (es .form) ≡ Passed → inExtent (es .grid) s ≡ Inside → entryTest es pos ≡ Passed
+  entry-fits : elementSizeTest (es .form) ≡ Passed → offsetsOf (inExtent (es .grid) s) ≡ Inside → entryTest es pos ≡ Passed
       → Fits (record { entry = entryAt es pos; corner = offsets (es .grid) s })
-  unfolding entryAt inExtent offsetsTest entryTest sizeTest addressAt
+  unfolding entryAt entryTest sizeTest addressAt
   entry-fits t i e =
       let o = es .form .«offset_size» in
       let w = width-le _ (sized-width (es .form) t) in
@@ -138,7 +130,7 @@ module _ (es : Elements) (bytes : (i : ℕ) → getD (es .file) i 0 < 256) (pos 
         address = omega (arith, big, le-small (es .file) bytes o pos);
         size = omega (arith, n);
         mask = mask-small;
-        corner = refuse-inv _ _ _ _ (then-inv _ _ (or-passed _ _ i) .1);
+        corner = inside-inv _ s i .1;
       }
 
   pub element-fits : (r : Rec) → element es pos s ≡ accepted (some r) → Fits r

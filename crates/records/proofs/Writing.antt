@@ -11,7 +11,7 @@ use Rattle.refusal.specs.declared.Checked.the-variants.{Passed}
 use Rattle.refusal.specs.Outcome.{Outcome, refused, accepted}
 use Rattle.refusal.proofs.Outcomes.{never, also-inv}
 use Rattle.chunk_grid.specs.Grid.{offsets}
-use Rattle.chunk_grid.specs.Values.{inExtent}
+use Rattle.chunk_grid.specs.Values.{inExtent, offsetsOf}
 use Rattle.chunk_grid.specs.declared.Offsets.the-variants.{Inside}
 use Rattle.element_form.specs.Form.{stride, elementSizeTest}
 use Rattle.index.specs.declared.Entry.{Entry}
@@ -109,7 +109,7 @@ module _ {es : Elements} {n slot from i : ℕ} {out : List ℕ} {to : ℕ} {W : 
     pub left-other : ((x : Entry) → foundOf (element es from (slot + i)) ≡ Chunk x → ⊥) → Left es n slot (from + stride (es .form)) (i + 1) out to W end
     left-other not = record { records = w .records; is = other-inv _ _ _ next not; makes = w .makes; ends = w .ends }
 
-    pub left-outside : (inExtent (es .grid) (slot + i) ≡ Inside → ⊥) → Left es n slot (from + stride (es .form)) (i + 1) out to W end
+    pub left-outside : (offsetsOf (inExtent (es .grid) (slot + i)) ≡ Inside → ⊥) → Left es n slot (from + stride (es .form)) (i + 1) out to W end
     left-outside not = left-other (λ x f. not (chunk-inv es from (slot + i) _ (chunk-found es from (slot + i) x f) .1))
 
     -- a chunk: its record is written

@@ -3,8 +3,9 @@ ghost use mathlib.Core.Path.{_≡_};
 ghost use Prim.Native.Nat.{_<_};
 ghost use Rattle.refusal.specs.declared.Checked.the-variants.{Refused};
 ghost use Rattle.refusal.specs.Refusals.{_then_};
+ghost use Rattle.refusal.specs.Outcome.{accepted, _yields_};
 ghost use Rattle.ea_header.specs.Header.{headerAt};
-ghost use Rattle.ea_header.specs.Values.{parsedAfter};
+ghost use Rattle.ea_header.specs.Values.{parsedOf};
 ghost use Rattle.ea_geometry.specs.Bounded.{Bounded};
 ghost use Rattle.ea_geometry.specs.Sizes.{superBlocks};
 ghost use Rattle.ea_blocks.specs.Values.{arrayOf};
@@ -53,7 +54,8 @@ fn refuse_span(span: Span) -> Checked
 // Reads the header at an address: 31, then its own refusals, then 27.
 pub fn parse_served(file: &[u8], address: u64, offset_size: u64, length_size: u64) -> Parsed
     ensures { λ r. ⌜ (let f = now (file .entry) in
-        r ≡ parsedAfter (headTest f address «offset_size» «length_size») (headerAt f address «offset_size» «length_size»)) ⌝ }
+        r ≡ parsedOf (headTest f address «offset_size» «length_size»
+        yields accepted (headerAt f address «offset_size» «length_size»))) ⌝ }
 {
     if let Checked::Refused(r) = test_header_span(address, offset_size, length_size) {
         return Parsed::Refused(r);

@@ -5,6 +5,7 @@ use Prim.Native.Nat.{ℕ}
 use native.Mathlib.Omega.{arith}
 use lib.ListN.{length}
 use Rattle.questions.specs.Line.{lineOf, questionOf, numbersStored}
+use Rattle.questions.specs.Values.{parsedOf}
 use Rattle.questions.proofs.Inputs.{line-within, line-unended, line-long, file-long, input-fits}
 use borrow.Author.Needs.{needs}
 use Rattle.questions.proofs.parse.Statement.{statement}
@@ -16,19 +17,19 @@ unfolding lineOf
 line c = ap (λ (l : List ℕ). length l) (c .until .ensures .0)
 
 returns : tie.Need-returns
-unfolding questionOf numbersStored
+unfolding questionOf numbersStored parsedOf
 returns c =
     let input = c .before .before .before .before .before .args .input .now in
     rw (line-unended input (omega (arith, line (c .before .before), c .if1 .taken))) (refl, refl)
 
 returns-2 : tie.Need-returns-2
-unfolding questionOf numbersStored
+unfolding questionOf numbersStored parsedOf
 returns-2 c =
     let input = c .before .before .before .before .before .before .args .input .now in
     rw (line-long input (omega (arith, line (c .before .before .before), c .if2 .taken))) (refl, refl)
 
 returns-3 : tie.Need-returns-3
-unfolding questionOf numbersStored
+unfolding questionOf numbersStored parsedOf
 returns-3 c =
     let input = c .before .before .before .before .before .before .before .args .input .now in
     let told = ap (λ (l : List ℕ). length l) (c .before .before .before .file-of .ensures) in

@@ -7,6 +7,7 @@ use borrow.Author.Tests.{eq-eqb, ne-eqb}
 use lib.ListN.{length}
 use Rattle.questions.specs.Text.{words}
 use Rattle.questions.specs.Line.{lineQuestion, lineStored}
+use Rattle.questions.specs.Values.{parsedOf}
 use Rattle.questions.specs.declared.Parsed.the-variants.{Unreadable}
 use Rattle.questions.proofs.Questions.{Parsing, parsing-first, parsing-on, parsing-refused, parsing-end}
 use Rattle.questions.proofs.parse_line.Statement.{statement}
@@ -39,13 +40,15 @@ loop-again c =
 unread : (c : tie.After-loop Inv-loop μ-loop)
     → let l = c .before .loop in
     let a = c .before .before .before .before .before .args in
-    (l .i ≡ 6 + 3 * l .question .rank → ⊥) → (Unreadable ≡ lineQuestion (words (a .line .now))) × (l .numbers ≡ lineStored (words (a .line .now)) (a .numbers .now))
+    (l .i ≡ 6 + 3 * l .question .rank → ⊥) → (Unreadable ≡ parsedOf (lineQuestion (words (a .line .now)))) × (l .numbers ≡ lineStored (words (a .line .now)) (a .numbers .now))
+unfolding parsedOf
 unread c n =
     let l = c .before .loop in
     let end = parsing-end (l .inv) (c .loop-test .left) in
     (rw (ne-eqb (l .i) (6 + 3 * l .question .rank) n) at (end .0), end .1)
 
 returns-2 : tie.Need-returns-2 Inv-loop μ-loop
+unfolding parsedOf
 returns-2 c =
     let l = c .before .before .before .loop in
     let end = parsing-end (l .inv) (c .before .before .loop-test .left) in

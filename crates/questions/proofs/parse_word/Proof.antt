@@ -6,6 +6,7 @@ use native.Mathlib.Omega.{arith}
 use borrow.Author.Needs.{needs}
 use borrow.Author.Tests.{lt-ltb, le-ltb, le-leb, lt-leb, eq-eqb, ne-eqb}
 use Rattle.questions.specs.Line.{wordNumber}
+use Rattle.questions.specs.Values.{wordOf}
 use Rattle.questions.proofs.parse_word.Statement.{statement}
 use Rattle.questions.proofs.parse_word.Tie as tie
 
@@ -20,7 +21,7 @@ returns-2 c =
     rw (le-ltb i 2 (c .before .before .if1 .left), eq-eqb i 4 (c .before .if2 .taken)) (c .parse-order .ensures)
 
 returns-3 : tie.Need-returns-3
-unfolding wordNumber
+unfolding wordNumber wordOf
 returns-3 c =
     let a = c .before .before .before .before .before .before .before .args in
     rw (le-ltb (a .i) 2 (c .before .before .before .before .before .if1 .left), ne-eqb (a .i) 4 (c .before .before .before .before .if2 .left), le-leb (6 + 2 * a .rank) (a .i) (omega arith), sym (c .before .is-only .ensures) ∙ c .if5 .taken) refl

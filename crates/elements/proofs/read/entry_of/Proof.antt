@@ -6,10 +6,10 @@ use Rattle.elements.proofs.read.entry_of.Statement.{statement}
 use Rattle.elements.proofs.read.entry_of.Tie as tie
 
 returns : tie.Need-returns
-returns c = entry-narrow _ _ _ _ (sym (c .before .size .given .1) ∙ c .before .before .before .u32-from .ensures)
+returns c = λ corner. entry-narrow _ _ _ corner _ (sym (c .before .size .given .1) ∙ c .before .before .before .u32-from .ensures)
 
 returns-2 : tie.Need-returns-2
-returns-2 c = entry-too-wide _ _ _ _ (sym (c .before .r .given .1) ∙ c .before .before .before .u32-from .ensures)
+returns-2 c = λ corner. entry-too-wide _ _ _ corner _ (sym (c .before .r .given .1) ∙ c .before .before .before .u32-from .ensures)
 
 pub entry-of-spec : {M : Type 1} → statement M
 entry-of-spec = tie.close (tie.spec (search needs) (search needs) (search needs) returns returns-2)

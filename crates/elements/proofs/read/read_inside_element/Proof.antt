@@ -3,8 +3,8 @@ use mathlib.Core.Path.{sym, ap, _∙_}
 use native.Mathlib.Omega.{arith}
 use borrow.Author.Needs.{needs}
 use Rattle.element_form.proofs.Forms.{sized-width, sized-stride}
-use Rattle.elements.specs.Values.{foundOf, insideOnly}
-use Rattle.elements.proofs.Sized.{tested, element-undefined, element-defined}
+use Rattle.elements.specs.Values.{foundOf}
+use Rattle.elements.proofs.Sized.{tested, element-undefined, element-inside}
 use Rattle.elements.proofs.read.read_inside_element.Statement.{statement}
 use Rattle.elements.proofs.read.read_inside_element.Tie as tie
 
@@ -21,12 +21,11 @@ returns c = λ grid n s e i.
     sym (ap foundOf (element-undefined _ _ s (a .before .before .pre .0) u))
 
 returns-2 : tie.Need-returns-2
-unfolding insideOnly
 returns-2 c = λ grid n s e i.
     let u = c .before .before in
     let a = u .before in
-    c .read-entry .ensures grid n e
-    ∙ element-defined _ _ s (a .before .before .pre .0) (tested _ _ _ _ _ (a .read-address .ensures) (u .is-undefined-addr .ensures) ∙ c .before .if1 .left) _ (sym i)
+    let d = tested _ _ _ _ _ (a .read-address .ensures) (u .is-undefined-addr .ensures) ∙ c .before .if1 .left in
+    c .read-entry .ensures grid n _ e ∙ sym (ap foundOf (element-inside _ _ s (a .before .before .pre .0) d i))
 
 pub read-inside-element-spec : {M : Type 1} → statement M
 read-inside-element-spec =

@@ -16,7 +16,7 @@ unfolding undefined isWidth
 returns-2 c =
     ⊎-elim (λ w. rw (w .1, w .0 .keys1))
     (λ p. ⊎-elim (λ w. rw (w .1, w .0 .keys2)) (λ w. rw (w .1, w .0 .keys3)) p)
-    (c .before .match .came)
+    (c .before .before .match .came)
 
 pub is-undefined-addr-spec : {M : Type 1} → statement M
 is-undefined-addr-spec = tie.close (tie.spec returns returns-2)

@@ -1,6 +1,7 @@
 -- `questions::text::parse_number` meets its contract: what the digits left come to behind those read is the word's number. Assumes nothing.
 use mathlib.Core.Bool.{cond}
-use mathlib.Core.Path.{_≡_, sym, _∙_}
+use mathlib.Core.Option.{none, some}
+use mathlib.Core.Path.{_≡_, sym, ap, _∙_}
 use Prim.Native.Nat.{_-_, _≤_}
 use native.Mathlib.Omega.{arith}
 use borrow.Author.Needs.{needs}
@@ -8,7 +9,7 @@ use borrow.Author.Tests.{le-leb, lt-leb}
 use lib.Dec.{leb}
 use lib.ListN.{length, drop}
 use Rattle.questions.specs.Text.{numberOf}
-use Rattle.questions.specs.declared.text.Number.the-variants.{Value, NoNumber}
+use Rattle.questions.specs.Values.{wordOf}
 use Rattle.questions.proofs.Numbers.{numberFrom, number-empty, number-start, number-end, number-on, number-below, number-above, number-over}
 use Rattle.questions.proofs.text.parse_number.Statement.{statement}
 use Rattle.questions.proofs.text.parse_number.Tie as tie
@@ -20,28 +21,32 @@ abbrev μ-loop : tie.MeasureT-loop
 μ-loop word largest value₀ i₀ value i = length word - i
 
 returns : tie.Need-returns Inv-loop μ-loop
-returns c = number-empty _ _ (c .if1 .taken)
+unfolding wordOf
+returns c = ap wordOf (number-empty _ _ (c .if1 .taken))
 
 loop-holds : tie.Need-loop-holds Inv-loop μ-loop
 loop-holds c = (omega arith, number-start _ _ (omega (arith, c .if1 .left)))
 
 returns-2 : tie.Need-returns-2 Inv-loop μ-loop
+unfolding wordOf
 returns-2 c =
     let l = c .before .before .before .before .loop in
     let low = rw (c .before .wide .ensures .0) at (c .if2 .taken) in
-    number-below _ _ _ _ (c .before .before .before .loop-test .taken) low ∙ l .inv .1
+    ap wordOf (number-below _ _ _ _ (c .before .before .before .loop-test .taken) low ∙ l .inv .1)
 
 returns-3 : tie.Need-returns-3 Inv-loop μ-loop
+unfolding wordOf
 returns-3 c =
     let l = c .before .before .before .before .before .loop in
     let high = rw (c .before .before .wide .ensures .0) at (c .if3 .taken) in
-    number-above _ _ _ _ (c .before .before .before .before .loop-test .taken) high ∙ l .inv .1
+    ap wordOf (number-above _ _ _ _ (c .before .before .before .before .loop-test .taken) high ∙ l .inv .1)
 
 returns-4 : tie.Need-returns-4 Inv-loop μ-loop
+unfolding wordOf
 returns-4 c =
     let l = c .before .before .before .before .before .before .loop in
     let byte = c .before .before .before .wide .ensures .0 in
-    number-over _ _ _ _ (c .before .before .before .before .before .loop-test .taken) (omega (arith, byte)) ∙ l .inv .1
+    ap wordOf (number-over _ _ _ _ (c .before .before .before .before .before .loop-test .taken) (omega (arith, byte)) ∙ l .inv .1)
 
 loop-again : tie.Need-loop-again Inv-loop μ-loop
 loop-again c =
@@ -54,13 +59,15 @@ loop-again c =
 -- all digits are read
 ended : (c : tie.After-loop Inv-loop μ-loop)
     → let a = c .before .before .before .before .args in
-    cond (leb (c .before .loop .value) (a .largest)) (Value (c .before .loop .value)) NoNumber ≡ numberOf (a .largest) (a .word .now)
-ended c = sym (number-end _ _ _ _ (c .loop-test .left)) ∙ c .before .loop .inv .1
+    wordOf (cond (leb (c .before .loop .value) (a .largest)) (some (c .before .loop .value)) none) ≡ wordOf (numberOf (a .largest) (a .word .now))
+ended c = ap wordOf (sym (number-end _ _ _ _ (c .loop-test .left)) ∙ c .before .loop .inv .1)
 
 returns-5 : tie.Need-returns-5 Inv-loop μ-loop
+unfolding wordOf
 returns-5 c = rw (lt-leb _ _ (c .if5 .taken)) at (ended (c .before))
 
 returns-6 : tie.Need-returns-6 Inv-loop μ-loop
+unfolding wordOf
 returns-6 c = rw (le-leb _ _ (c .if5 .left)) at (ended (c .before))
 
 pub parse-number-spec : {M : Type 1} → statement M
