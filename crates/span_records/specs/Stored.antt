@@ -14,10 +14,11 @@ use Rattle.span_walk.specs.declared.Span.{Span}
 use Rattle.span_walk.specs.Walk.{Spanning, spans}
 use Rattle.ea_spans.specs.SpanList.{roomOf}
 
--- the first n records hold the addresses and the lengths, and the others are as they were
+-- span i, whose address and length two lists hold
 abbrev pub spanAt : List ℕ → List ℕ → ℕ → Span
 spanAt addresses lengths i = record { address = getD addresses i 0; length = getD lengths i 0 }
 
+-- the first n records are the first n of these spans, and the others are as they were
 abbrev pub stored : ℕ → List ℕ → List ℕ → List Span → List Span
 stored zero addresses lengths spans = spans
 stored (suc n) addresses lengths spans = set (stored n addresses lengths spans) n (spanAt addresses lengths n)
@@ -30,6 +31,7 @@ recordRoom addresses lengths spans = min (roomOf addresses lengths) (length span
 unfoldable pub roomTest : ℕ → ℕ → Checked
 roomTest n room = refuse 9 n 0 (ltb room n)
 
+-- the test that three lists hold n spans
 abbrev pub storeTest : ℕ → List ℕ → List ℕ → List Span → Checked
 storeTest n addresses lengths spans = roomTest n (recordRoom addresses lengths spans)
 
@@ -38,6 +40,7 @@ unfoldable pub storedNumber : Checked → ℕ → ℕ
 storedNumber Passed n = n
 storedNumber (Refused r) n = 0
 
+-- the records then
 abbrev pub storedWhere : ℕ → List ℕ → List ℕ → List Span → List Span
 storedWhere n addresses lengths spans =
     stored (storedNumber (storeTest n addresses lengths spans) n) addresses lengths spans
