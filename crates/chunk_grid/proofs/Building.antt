@@ -1,5 +1,5 @@
 -- What the loops that build a grid have at each turn. Assumes nothing.
-use Prim.Native.Nat.{ℕ, zero, suc, _+_, _-_, _*_, _/_, _%_, _<_, _≤_, max}
+use Prim.Native.Nat.{ℕ, zero, suc, _+_, _-_, _*_, _/_, _%_, _<_, _≤_, min, max}
 use mathlib.Core.Path.{_≡_, refl, sym, ap, _∙_}
 use mathlib.Core.Bool.{Bool, true, false, not, cond, _&&_, _||_}
 use mathlib.Core.List.{List, [], _∷_}
@@ -7,11 +7,12 @@ use native.Mathlib.Decide.{ℕ-discrete}
 use native.Mathlib.Nat.{mul-comm, pos-of-ne-zero, div-add-mod', mod-lt, mul-le-mul-left}
 use native.Mathlib.Numerals.{add-one}
 use native.Mathlib.Omega.{arith}
-use borrow.Author.Tests.{eq-eqb, ne-eqb, eqb-false, lt-ltb, le-ltb}
+use borrow.Author.Tests.{eq-eqb, ne-eqb, eqb-false, lt-ltb, le-ltb, ltb-false}
 use lib.Arith.{digits-div}
 use lib.Dec.{eqb, ltb, leb·suc-suc}
 use lib.ListN.{length, getD, take, drop, set, length-set, drop-of-length-le}
 use lib.Seq.{drop-cons, drop-drop, take-all, getD-set-same, getD-set-other, ext-getD}
+use Rattle.refusal.proofs.Tests.{refuse-passed, then-passed}
 use Rattle.refusal.specs.declared.Refusal.{Refusal}
 use Rattle.refusal.specs.declared.Checked.the-variants.{Passed, Refused}
 use Rattle.refusal.specs.Refusals.{largest64, refuse, _then_}
@@ -137,6 +138,30 @@ module _ (p i : ℕ) (l : List ℕ) where
     unfolding productTest refuse _then_
     product-on n k = rw (drop-cons l i 0 h, ne-eqb (getD l i 0) largest64 n, le-ltb largest64 (p * getD l i 0) k, add-one) refl
 
+-- the counts from one place earlier on, and the multiplier in front of them
+module _ (cs : List ℕ) (i : ℕ) (low : 0 < i) (high : i ≤ length cs) where
+  abbrev pub count : ℕ
+  count = getD cs (i - 1) 0
+
+  before : drop (i - 1) cs ≡ count ∷ drop i cs
+  before = let e : suc (i - 1) ≡ i = omega arith in drop-cons cs (i - 1) 0 (omega arith) ∙ ap (λ (k : ℕ). count ∷ drop k cs) e
+
+  multiplier-before : multiplier (drop i cs) * max count 1 ≡ multiplier (drop (i - 1) cs)
+  unfolding multiplier
+  multiplier-before = rw before (mul-comm (multiplier (drop i cs)) (max count 1))
+
+-- What the test of the multipliers has where the counts cs from place i on are done.
+pub record Tested (cs : List ℕ) (i m : ℕ) : Type 0 where
+  pub within : (min 1 (length cs) ≤ i) × (i ≤ length cs)
+  pub tested : multiplierTest (drop i cs) ≡ Passed
+  pub front : m ≡ multiplier (drop i cs)
+
+pub tested-none : (cs : List ℕ) → Tested cs (length cs) 1
+unfolding multiplierTest multiplier
+tested-none cs =
+    let e = drop-of-length-le cs {i = length cs} (omega arith) in
+    record { within = (omega arith, omega arith); tested = rw e refl; front = rw e refl }
+
 -- a refusal behind is one in front
 pub refused-front : (k : ℕ) (cs : List ℕ) (r : Refusal) → multiplierTest (drop k cs) ≡ Refused r → multiplierTest cs ≡ Refused r
 unfolding multiplierTest _then_
@@ -144,22 +169,71 @@ refused-front zero cs r h = h
 refused-front (suc k) [] r h = h
 refused-front (suc k) (c ∷ cs) r h = rw (refused-front k cs r h) refl
 
+module _ (cs : List ℕ) (i m : ℕ) (t : Tested cs i m) (more : 1 < i) where
+  abbrev pub next : ℕ
+  next = m * max (getD cs (i - 1) 0) 1
+
+  next-is : next ≡ multiplier (drop (i - 1) cs)
+  next-is = rw (t .front) (multiplier-before cs i (omega arith) (t .within .1))
+
+  test-here : multiplierTest (drop (i - 1) cs) ≡ refuse 7 0 0 (eqb (getD cs (i - 1) 0) largest64) then refuse 8 0 0 (ltb largest64 next)
+  unfolding multiplierTest _then_
+  test-here =
+      let b = before cs i (omega arith) (t .within .1) in
+      ap multiplierTest b ∙ rw (t .tested) (ap (λ (k : ℕ). refuse 7 0 0 (eqb (getD cs (i - 1) 0) largest64) then refuse 8 0 0 (ltb largest64 k)) (ap multiplier (sym b) ∙ sym next-is))
+
+  -- a refusal here is the whole test's
+  refused-here : (r : Refusal) → multiplierTest (drop (i - 1) cs) ≡ Refused r → multiplierTest (drop 1 cs) ≡ Refused r
+  refused-here r h =
+      let e : 1 + (i - 1 - 1) ≡ i - 1 = omega arith in
+      refused-front (i - 1 - 1) (drop 1 cs) r (ap multiplierTest (drop-drop (i - 1 - 1) 1 cs ∙ ap (λ (k : ℕ). drop k cs) e) ∙ h)
+
+  pub tested-unlimited : getD cs (i - 1) 0 ≡ largest64 → multiplierTest (drop 1 cs) ≡ Refused (record { number = 7; first = 0; second = 0 })
+  unfolding refuse _then_
+  tested-unlimited e = refused-here _ (test-here ∙ rw (eq-eqb (getD cs (i - 1) 0) largest64 e) refl)
+
+  module _ (limited : getD cs (i - 1) 0 ≡ largest64 → ⊥) where
+    pub tested-over : largest64 < next → multiplierTest (drop 1 cs) ≡ Refused (record { number = 8; first = 0; second = 0 })
+    unfolding refuse _then_
+    tested-over h = refused-here _ (test-here ∙ rw (ne-eqb (getD cs (i - 1) 0) largest64 limited, lt-ltb largest64 next h) refl)
+
+    pub tested-more : next ≤ largest64 → Tested cs (i - 1) next
+    unfolding refuse _then_
+    tested-more h = record {
+      within = (omega arith, omega (arith, t .within));
+      tested = test-here ∙ rw (ne-eqb (getD cs (i - 1) 0) largest64 limited, le-ltb largest64 next h) refl;
+      front = next-is;
+    }
+
+pub tested-all : (cs : List ℕ) (i m : ℕ) → Tested cs i m → i ≤ 1 → multiplierTest (drop 1 cs) ≡ Passed
+unfolding multiplierTest
+tested-all [] i m t low = refl
+tested-all (c ∷ cs) i m t low =
+    let e : 1 ≡ i = omega (arith, t .within) in
+    ap (λ (k : ℕ). multiplierTest (drop k (c ∷ cs))) e ∙ t .tested
+
+-- multipliers that pass fit 64 bits
+pub multiplier-fits : (k : ℕ) (cs : List ℕ) → multiplierTest cs ≡ Passed → multiplier (drop k cs) ≤ largest64
+unfolding multiplierTest multiplier
+multiplier-fits zero [] h = omega arith
+multiplier-fits zero (c ∷ cs) h = ltb-false largest64 _ (refuse-passed _ _ _ _ (then-passed _ _ (then-passed _ _ (sym h) .1) .1))
+multiplier-fits (suc k) [] h = omega arith
+multiplier-fits (suc k) (c ∷ cs) h = multiplier-fits k cs (sym (then-passed _ _ (sym h) .0))
+
 -- What the loop of the multipliers has where the counts cs from place i on are done.
 pub record Behind (cs : List ℕ) (i : ℕ) (numbers : Bool) (down : List ℕ) : Type 0 where
   pub within : (0 < i) × (i ≤ length cs)
   pub size : length down ≡ length cs
-  pub tested : multiplierTest (drop i cs) ≡ Passed
   pub numbering : numbers ≡ not (hasZero (drop i cs))
   pub each : (j : ℕ) → i ≤ suc j → j < length cs → getD down j 0 ≡ multiplier (drop (suc j) cs)
 
 pub made-none : (cs down : List ℕ) → 0 < length cs → length down ≡ length cs → Behind cs (length cs) true (set down (length cs - 1) 1)
-unfolding multiplierTest hasZero any multiplier
+unfolding hasZero any multiplier
 made-none cs down pos size =
     let e = drop-of-length-le cs {i = length cs} (omega arith) in
     record {
       within = (pos, omega arith);
       size = length-set down (length cs - 1) 1 ∙ size;
-      tested = rw e refl;
       numbering = rw e refl;
       each = λ j h k.
           let f : j ≡ length cs - 1 = omega arith in
@@ -168,48 +242,26 @@ made-none cs down pos size =
     }
 
 module _ (cs : List ℕ) (i : ℕ) (numbers : Bool) (down : List ℕ) (m : Behind cs i numbers down) (more : 1 < i) where
-  abbrev pub count : ℕ
-  count = getD cs (i - 1) 0
+  abbrev pub product : ℕ
+  product = getD down (i - 1) 0 * max (getD cs (i - 1) 0) 1
 
-  abbrev pub next : ℕ
-  next = getD down (i - 1) 0 * max count 1
-
-  here : drop (i - 1) cs ≡ count ∷ drop i cs
-  here = let e : suc (i - 1) ≡ i = omega arith in drop-cons cs (i - 1) 0 (omega (arith, m .within)) ∙ ap (λ (k : ℕ). count ∷ drop k cs) e
-
-  next-is : next ≡ multiplier (drop (i - 1) cs)
-  unfolding multiplier
-  next-is =
+  product-is : product ≡ multiplier (drop (i - 1) cs)
+  product-is =
       let e : suc (i - 1) ≡ i = omega arith in
-      rw here (ap (λ (k : ℕ). k * max count 1) (m .each (i - 1) (omega arith) (omega (arith, m .within)) ∙ ap (λ (k : ℕ). multiplier (drop k cs)) e)
-      ∙ mul-comm (multiplier (drop i cs)) (max count 1))
+      ap (λ (k : ℕ). k * max (getD cs (i - 1) 0) 1) (m .each (i - 1) (omega arith) (omega (arith, m .within)) ∙ ap (λ (k : ℕ). multiplier (drop k cs)) e)
+      ∙ multiplier-before cs i (omega arith) (m .within .1)
 
-  test-here : multiplierTest (drop (i - 1) cs) ≡ refuse 7 0 0 (eqb count largest64) then refuse 8 0 0 (ltb largest64 next)
-  unfolding multiplierTest _then_
-  test-here =
-      ap multiplierTest here ∙ rw (m .tested) (ap (λ (k : ℕ). refuse 7 0 0 (eqb count largest64) then refuse 8 0 0 (ltb largest64 k)) (ap multiplier (sym here) ∙ sym next-is))
-
-  -- a refusal here is the whole test's
-  refused-here : (r : Refusal) → multiplierTest (drop (i - 1) cs) ≡ Refused r → multiplierTest (drop 1 cs) ≡ Refused r
-  refused-here r h =
+  pub made-fits : multiplierTest (drop 1 cs) ≡ Passed → product ≤ largest64
+  made-fits t =
       let e : 1 + (i - 1 - 1) ≡ i - 1 = omega arith in
-      refused-front (i - 1 - 1) (drop 1 cs) r (ap multiplierTest (drop-drop (i - 1 - 1) 1 cs ∙ ap (λ (k : ℕ). drop k cs) e) ∙ h)
+      rw (product-is ∙ ap multiplier (sym (drop-drop (i - 1 - 1) 1 cs ∙ ap (λ (k : ℕ). drop k cs) e))) (multiplier-fits (i - 1 - 1) (drop 1 cs) t)
 
-  pub made-unlimited : count ≡ largest64 → multiplierTest (drop 1 cs) ≡ Refused (record { number = 7; first = 0; second = 0 })
-  unfolding refuse _then_
-  made-unlimited e = refused-here _ (test-here ∙ rw (eq-eqb count largest64 e) refl)
-
-  pub made-over : (count ≡ largest64 → ⊥) → largest64 < next → multiplierTest (drop 1 cs) ≡ Refused (record { number = 8; first = 0; second = 0 })
-  unfolding refuse _then_
-  made-over n h = refused-here _ (test-here ∙ rw (ne-eqb count largest64 n, lt-ltb largest64 next h) refl)
-
-  pub made-more : (count ≡ largest64 → ⊥) → next ≤ largest64 → Behind cs (i - 1) (numbers && not (eqb count 0)) (set down (i - 1 - 1) next)
-  unfolding refuse _then_ hasZero any
-  made-more n h = record {
+  pub made-more : Behind cs (i - 1) (numbers && not (eqb (getD cs (i - 1) 0) 0)) (set down (i - 1 - 1) product)
+  unfolding hasZero any
+  made-more = record {
     within = (omega arith, omega (arith, m .within));
-    size = length-set down (i - 1 - 1) next ∙ m .size;
-    tested = test-here ∙ rw (ne-eqb count largest64 n, le-ltb largest64 next h) refl;
-    numbering = rw (m .numbering, here) (de-morgan (hasZero (drop i cs)) (eqb count 0));
+    size = length-set down (i - 1 - 1) product ∙ m .size;
+    numbering = rw (m .numbering, before cs i (omega arith) (m .within .1)) (de-morgan (hasZero (drop i cs)) (eqb (getD cs (i - 1) 0) 0));
     each = at;
   }
     where
@@ -219,23 +271,22 @@ module _ (cs : List ℕ) (i : ℕ) (numbers : Bool) (down : List ℕ) (m : Behin
       de-morgan false true = refl
       de-morgan false false = refl
 
-      at : (j : ℕ) → i - 1 ≤ suc j → j < length cs → getD (set down (i - 1 - 1) next) j 0 ≡ multiplier (drop (suc j) cs)
+      at : (j : ℕ) → i - 1 ≤ suc j → j < length cs → getD (set down (i - 1 - 1) product) j 0 ≡ multiplier (drop (suc j) cs)
       at j low high = go (ℕ-discrete j (i - 1 - 1))
         where
-          go : Dec (j ≡ i - 1 - 1) → getD (set down (i - 1 - 1) next) j 0 ≡ multiplier (drop (suc j) cs)
+          go : Dec (j ≡ i - 1 - 1) → getD (set down (i - 1 - 1) product) j 0 ≡ multiplier (drop (suc j) cs)
           go (yes e) =
               let f : suc j ≡ i - 1 = omega arith in
-              ap (λ (k : ℕ). getD (set down (i - 1 - 1) next) k 0) e
-              ∙ getD-set-same down (i - 1 - 1) next 0 (omega (arith, m .within, m .size)) ∙ next-is ∙ ap (λ (k : ℕ). multiplier (drop k cs)) (sym f)
-          go (no d) = getD-set-other down (i - 1 - 1) j next 0 d ∙ m .each j (omega arith) high
+              ap (λ (k : ℕ). getD (set down (i - 1 - 1) product) k 0) e
+              ∙ getD-set-same down (i - 1 - 1) product 0 (omega (arith, m .within, m .size)) ∙ product-is ∙ ap (λ (k : ℕ). multiplier (drop k cs)) (sym f)
+          go (no d) = getD-set-other down (i - 1 - 1) j product 0 d ∙ m .each j (omega arith) high
 
 -- all of them
 pub made-all : (cs : List ℕ) (i : ℕ) (numbers : Bool) (down : List ℕ) → Behind cs i numbers down → i ≤ 1
-    → (multiplierTest (drop 1 cs) ≡ Passed) × (numbers ≡ not (hasZero (drop 1 cs))) × (down ≡ multipliers cs)
+    → (numbers ≡ not (hasZero (drop 1 cs))) × (down ≡ multipliers cs)
 made-all cs i numbers down m low =
     let e : 1 ≡ i = omega (arith, m .within) in
     let s = m .size in (
-      ap (λ (k : ℕ). multiplierTest (drop k cs)) e ∙ m .tested,
       m .numbering ∙ ap (λ (k : ℕ). not (hasZero (drop k cs))) (sym e),
       ext-getD 0 down (multipliers cs) (s ∙ sym (length-multipliers cs)) (λ j h.
           let k : j < length cs = omega arith in
@@ -243,8 +294,8 @@ made-all cs i numbers down m low =
     )
 
 pub made-empty : (u : ℕ) (counts down : List ℕ) → length counts ≡ 0 → length down ≡ length counts
-    → (Passed ≡ multiplierTest (drop 1 (toFront u counts))) × (true ≡ not (hasZero (drop 1 (toFront u counts)))) × (down ≡ multipliers (toFront u counts))
-unfolding multiplierTest hasZero any multipliers
-made-empty u [] [] h k = rw (front-nil u) (refl, refl, refl)
+    → (true ≡ not (hasZero (drop 1 (toFront u counts)))) × (down ≡ multipliers (toFront u counts))
+unfolding hasZero any multipliers
+made-empty u [] [] h k = rw (front-nil u) (refl, refl)
 made-empty u [] (x ∷ down) h k = absurd (omega arith)
 made-empty u (c ∷ counts) down h k = absurd (omega arith)

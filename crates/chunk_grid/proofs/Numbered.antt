@@ -6,8 +6,8 @@ use mathlib.Core.List.{List, [], _∷_, _++_}
 use native.Mathlib.Omega.{arith}
 use borrow.Author.Tests.{le-ltb}
 use lib.ListN.{length, getD, take, drop}
-use lib.Seq.{length-take-le, take-all, take-at}
-use Rattle.refusal.proofs.Tests.{refused-passed, then-passed}
+use lib.Seq.{length-take-le, take-all, take-at, drop-at}
+use Rattle.refusal.proofs.Tests.{refuse-passed, then-passed}
 use Rattle.refusal.specs.declared.Refusal.{Refusal}
 use Rattle.refusal.specs.declared.Checked.{Checked}
 use Rattle.refusal.specs.declared.Checked.the-variants.{Passed, Refused}
@@ -15,8 +15,8 @@ use Rattle.refusal.specs.Refusals.{largest64, refuse, _then_}
 use Rattle.chunk_grid.specs.declared.ChunkGrid.{ChunkGrid}
 use Rattle.chunk_grid.specs.declared.GridOrder.{GridOrder}
 use Rattle.chunk_grid.specs.Grid.{Grid, pairwise, any, ceilDiv, countOf, counts, leadingIn, leading, toFront, ordered, multipliers, hasZero, numbersNothing, overflows, shapesTest, multiplierTest, productTest, gridTest, isUnlimitedFirst, given}
-use Rattle.chunk_grid.specs.Values.{gridOf, numberingTest, Made, GridNumbers, GridCounts, Extents}
-use Rattle.chunk_grid.proofs.Grids.{shaped}
+use Rattle.chunk_grid.specs.Values.{gridOf, numberingTest, countsTest, Made, GridNumbers, GridCounts, Extents}
+use Rattle.chunk_grid.proofs.Grids.{shaped, accepted}
 use Rattle.chunk_grid.proofs.Building.{rank-over, shapes-agree}
 
 cond-cond : (b : Bool) (n : ℕ) (m p : List ℕ) → cond b (cond b (take n m) []) (take n p) ≡ take n (cond b m p)
@@ -62,38 +62,44 @@ limitsOf g = cond (g .hasMaximum) (g .maximum) (g .present)
 
 -- behind the tests of the shapes
 pub tests : (g : Grid) → shapesTest g ≡ Passed → gridTest g ≡ numberingTest (g .unlimitedFirst) (limitsOf g) (g .chunk)
-unfolding gridTest numberingTest ordered leading counts _then_
+unfolding gridTest numberingTest countsTest ordered leading counts _then_
 tests g e = rw e refl
 
-zero-length : (b : Bool) (limits chunk : List ℕ) → hasZero chunk ≡ true → Refused (record { number = 6; first = 0; second = 0 }) ≡ numberingTest b limits chunk
-unfolding numberingTest refuse _then_
-zero-length b limits chunk z = rw z refl
+-- the counts' tests, from each one's answer
+pub counts-tested : (b : Bool) (counts : List ℕ) (rotated : ℕ) (behind product checked : Checked) → rotated ≡ leadingIn b counts
+    → behind ≡ multiplierTest (drop 1 (toFront rotated counts)) → product ≡ productTest 1 counts → checked ≡ behind then product → checked ≡ countsTest b counts
+unfolding countsTest
+counts-tested b counts rotated behind product checked u t p w = w ∙ rw (t, p, u) refl
 
-pub zero-refused : (b : Bool) (limits present chunk counts bound down : List ℕ) (rotated : ℕ) (numbers : Bool) (checked : Checked) → hasZero chunk ≡ true
-    → checked ≡ Refused (record { number = 6; first = 0; second = 0 })
-    → (checked ≡ numberingTest b limits chunk) × (checked ≡ Passed → Made b limits present chunk rotated numbers counts bound down)
-zero-refused b limits present chunk counts bound down rotated numbers checked z e = (e ∙ zero-length b limits chunk z, λ p. absurd (refused-passed _ (sym e ∙ p)))
+module _ (b : Bool) (limits chunk : List ℕ) where
+  pub zero-length : hasZero chunk ≡ true → Refused (record { number = 6; first = 0; second = 0 }) ≡ numberingTest b limits chunk
+  unfolding numberingTest refuse _then_
+  zero-length z = rw z refl
+
+  pub no-zero-length : hasZero chunk ≡ false → (counts : List ℕ) → counts ≡ pairwise countOf limits chunk → countsTest b counts ≡ numberingTest b limits chunk
+  unfolding numberingTest refuse _then_
+  no-zero-length z counts c = rw (z, c) refl
+
+  module _ (passed : numberingTest b limits chunk ≡ Passed) where
+    pub no-zero : hasZero chunk ≡ false
+    unfolding numberingTest
+    no-zero = refuse-passed _ _ _ _ (then-passed _ _ (sym passed) .0)
+
+    pub multipliers-pass : (counts : List ℕ) (rotated : ℕ) → counts ≡ pairwise countOf limits chunk → rotated ≡ leadingIn b counts → multiplierTest (drop 1 (toFront rotated counts)) ≡ Passed
+    unfolding numberingTest countsTest
+    multipliers-pass counts rotated c u = rw (u, c) (sym (then-passed _ _ (then-passed _ _ (sym passed) .1) .0))
 
 -- each number from the one before, all from the counts
-module _ (b : Bool) (limits present chunk counts bound down : List ℕ) (rotated : ℕ) (numbers : Bool) (behind product checked : Checked)
-    (z : hasZero chunk ≡ false) (c : counts ≡ pairwise countOf limits chunk) (d : bound ≡ pairwise ceilDiv present chunk) (u : rotated ≡ leadingIn b counts)
-    (t : behind ≡ multiplierTest (drop 1 (toFront rotated counts)))
-    (m : behind ≡ Passed → (numbers ≡ not (hasZero (drop 1 (toFront rotated counts)))) × (down ≡ multipliers (toFront rotated counts)))
-    (p : product ≡ productTest 1 counts) (w : checked ≡ behind then product) where
-  pub made : (checked ≡ numberingTest b limits chunk) × (checked ≡ Passed → Made b limits present chunk rotated numbers counts bound down)
-  unfolding numberingTest refuse _then_
-  made = (
-    w ∙ rw (t, p, u, c, z) refl,
-    λ e.
-        let n = m (sym (then-passed behind product (sym e ∙ w) .0)) in
-        record {
-          leads = u ∙ ap (leadingIn b) c;
-          numbering = n .0 ∙ ap (λ (l : List ℕ). not (hasZero (drop 1 (toFront rotated l)))) c;
-          counted = c;
-          bounds = d;
-          downs = n .1 ∙ ap (λ (l : List ℕ). multipliers (toFront rotated l)) c;
-        },
-  )
+pub made : (b : Bool) (limits present chunk counts bound down : List ℕ) (rotated : ℕ) (numbers : Bool) → counts ≡ pairwise countOf limits chunk → bound ≡ pairwise ceilDiv present chunk
+    → rotated ≡ leadingIn b counts → (numbers ≡ not (hasZero (drop 1 (toFront rotated counts)))) × (down ≡ multipliers (toFront rotated counts))
+    → Made b limits present chunk rotated numbers counts bound down
+made b limits present chunk counts bound down rotated numbers c d u m = record {
+  leads = u ∙ ap (leadingIn b) c;
+  numbering = m .0 ∙ ap (λ (l : List ℕ). not (hasZero (drop 1 (toFront rotated l)))) c;
+  counted = c;
+  bounds = d;
+  downs = m .1 ∙ ap (λ (l : List ℕ). multipliers (toFront rotated l)) c;
+}
 
 -- what is made of a grid, in arrays
 pub numbered : (g : Grid) (chunk counted bound down : List ℕ) (rotated : ℕ) (numbers : Bool) → gridTest g ≡ Passed → take (g .rank) chunk ≡ g .chunk → overflows (g .present) ≡ false
@@ -111,6 +117,10 @@ pub over-32 : (k : ChunkGrid) → 32 < k .rank → Refused (record { number = 3;
 unfolding gridOf
 over-32 k h = refused-shapes (gridOf k) _ (rank-over (k .rank) (take (k .rank) (k .chunk)) (take (k .rank) (k .present)) (take (k .rank) (k .maximum)) (k .order) (k .«has_maximum») h)
 
+pub rank-small : (k : ChunkGrid) → gridTest (gridOf k) ≡ Passed → k .rank ≤ 32
+unfolding gridOf given
+rank-small k t = accepted (gridOf k) t .small
+
 -- .. else its arrays are shapes of one rank.
 module _ (k : ChunkGrid) (small : k .rank ≤ 32) (sizes : (length (k .chunk) ≡ 32) × (length (k .present) ≡ 32) × (length (k .maximum) ≡ 32)) where
   shapes-pass : shapesTest (gridOf k) ≡ Passed
@@ -123,22 +133,23 @@ module _ (k : ChunkGrid) (small : k .rank ≤ 32) (sizes : (length (k .chunk) �
   unfolding gridOf given
   limits-are = cond-cond (k .«has_maximum») (k .rank) (k .maximum) (k .present)
 
-  -- what is made, at the beginning of longer lists
-  pub numbering-is : (a b d x y z : List ℕ) (rotated : ℕ) (numbers : Bool) (checked : Checked) → length a ≡ k .rank → length b ≡ k .rank → length d ≡ k .rank
-      → overflows (take (k .rank) (k .present)) ≡ false
-      → (checked ≡ numberingTest (isUnlimitedFirst (k .order)) (take (k .rank) (cond (k .«has_maximum») (k .maximum) (k .present))) (take (k .rank) (k .chunk)))
-      → (checked ≡ Passed
-      → Made (isUnlimitedFirst (k .order)) (take (k .rank) (cond (k .«has_maximum») (k .maximum) (k .present))) (take (k .rank) (k .present)) (take (k .rank) (k .chunk)) rotated numbers a b d)
-      → (checked ≡ gridTest (gridOf k))
-      × (checked ≡ Passed
-      → (GridNumbers (k .rank) rotated (k .chunk) (d ++ z) (gridOf k)) × (GridCounts (k .rank) (a ++ x) (gridOf k)) × (Extents (k .rank) numbers (b ++ y) (gridOf k)))
+  -- the test behind those of the shapes
+  pub tests-of : numberingTest (isUnlimitedFirst (k .order)) (take (k .rank) (cond (k .«has_maximum») (k .maximum) (k .present))) (take (k .rank) (k .chunk)) ≡ gridTest (gridOf k)
   unfolding gridOf given
-  numbering-is a b d x y z rotated numbers checked la lb ld fit c m =
-      let e : checked ≡ gridTest (gridOf k) = c ∙ rw (← limits-are) (sym (tests (gridOf k) shapes-pass)) in (
-        e,
-        λ p. numbered (gridOf k) (k .chunk) (a ++ x) (b ++ y) (d ++ z) rotated numbers (sym e ∙ p) refl fit
-            (rw (take-at a x (k .rank) la, take-at b y (k .rank) lb, take-at d z (k .rank) ld) (rw (← limits-are) at (m p))),
-      )
+  tests-of = rw (← limits-are) (sym (tests (gridOf k) shapes-pass))
+
+  -- what is made, at the beginning of longer lists
+  pub numbering-is : gridTest (gridOf k) ≡ Passed → (a b d x y z : List ℕ) (rotated : ℕ) (numbers : Bool) → length a ≡ k .rank → length b ≡ k .rank → length d ≡ k .rank
+      → overflows (take (k .rank) (k .present)) ≡ false
+      → Made (isUnlimitedFirst (k .order)) (take (k .rank) (cond (k .«has_maximum») (k .maximum) (k .present))) (take (k .rank) (k .present)) (take (k .rank) (k .chunk)) rotated numbers a b d
+      → ((GridNumbers (k .rank) rotated (k .chunk) (d ++ z) (gridOf k)) × (GridCounts (k .rank) (a ++ x) (gridOf k)) × (Extents (k .rank) numbers (b ++ y) (gridOf k)))
+      × ((drop (k .rank) (a ++ x) ≡ x) × (drop (k .rank) (b ++ y) ≡ y) × (drop (k .rank) (d ++ z) ≡ z))
+  unfolding gridOf given
+  numbering-is passed a b d x y z rotated numbers la lb ld fit m = (
+    numbered (gridOf k) (k .chunk) (a ++ x) (b ++ y) (d ++ z) rotated numbers passed refl fit
+        (rw (take-at a x (k .rank) la, take-at b y (k .rank) lb, take-at d z (k .rank) ld) (rw (← limits-are) at m)),
+    (drop-at a x (k .rank) la, drop-at b y (k .rank) lb, drop-at d z (k .rank) ld),
+  )
 
 -- For the shapes that are given.
 pub given-lengths : (rank : ℕ) (chunk present maximum : List ℕ) (has : Bool) (o : GridOrder) → Passed ≡ shapesTest (given rank chunk present has maximum o)

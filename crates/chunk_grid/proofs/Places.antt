@@ -66,6 +66,9 @@ front-at u i l k h =
     ap (λ (j : ℕ). getD (take u l ++ drop (suc u) l) j 0) e ∙ getD-append-add (take u l) (drop (suc u) l) (i - u) 0
     ∙ getD-drop (suc u) l (i - u) 0 ∙ ap (λ (j : ℕ). getD l j 0) f) i h
 
+pub read-at : (u i d : ℕ) (l : List ℕ) → u < length l → i < length l → d ≡ dimAt u i → (d < length l) × (getD l d 0 ≡ getD (toFront u l) i 0)
+read-at u i d l k h e = rw e (dim-lt u (length l) i k h, sym (front-at u i l k h))
+
 pub back-at : (u i : ℕ) (l : List ℕ) → u < length l → i < length l → getD (fromFront u l) (dimAt u i) 0 ≡ getD l i 0
 back-at u i l k h =
     let e = length-back u l (omega arith) in

@@ -34,11 +34,13 @@ unfoldable pub dimAt : ℕ → ℕ → ℕ
 dimAt u zero = u
 dimAt u (suc i) = cond (ltb i u) i (suc i)
 
+-- the tests of the counts
+unfoldable pub countsTest : Bool → List ℕ → Checked
+countsTest unlimitedFirst cs = multiplierTest (drop 1 (toFront (leadingIn unlimitedFirst cs) cs)) then productTest 1 cs
+
 -- the tests behind those of the shapes, over the extents that the counts are taken from
 unfoldable pub numberingTest : Bool → List ℕ → List ℕ → Checked
-numberingTest unlimitedFirst limits chunk =
-    let cs = pairwise countOf limits chunk in
-    refuse 6 0 0 (hasZero chunk) then multiplierTest (drop 1 (toFront (leadingIn unlimitedFirst cs) cs)) then productTest 1 cs
+numberingTest unlimitedFirst limits chunk = refuse 6 0 0 (hasZero chunk) then countsTest unlimitedFirst (pairwise countOf limits chunk)
 
 -- what is made where these have passed
 pub record Made (unlimitedFirst : Bool) (limits present chunk : List ℕ) (rotated : ℕ) (numbers : Bool) (counts bound down : List ℕ) : Type 0 where

@@ -7,7 +7,7 @@ ghost use Rattle.refusal.specs.declared.Checked.the-variants.{Passed, Refused};
 ghost use Rattle.refusal.specs.Refusals.{_then_};
 ghost use Rattle.chunk_grid.specs.Grid.{pairwise, ceilDiv, countOf, leadingIn, toFront, multipliers, hasZero, isUnlimitedFirst, given};
 ghost use Rattle.chunk_grid.specs.Grid.{shapesTest, multiplierTest, productTest, gridTest};
-ghost use Rattle.chunk_grid.specs.Values.{gridOf, whereTested, placeOf, dimAt, numberingTest, Made};
+ghost use Rattle.chunk_grid.specs.Values.{gridOf, whereTested, placeOf, dimAt, numberingTest, countsTest, Made};
 ghost use Rattle.chunk_grid.specs.Values.{GridNumbers, GridCounts, Extents};
 use fields::convert::Exact;
 use fields::convert::checked_mul;
@@ -33,14 +33,8 @@ pub struct ChunkGrid {
 // What a grid's slots are numbered by, beside the lists of numbers that are lent: the dimension in front, and whether any slot is
 // numbered at all.
 pub struct Numbering {
-    pub checked: Checked,
     pub rotated: u64,
     pub numbers: bool,
-}
-
-struct Multipliers {
-    checked: Checked,
-    numbers: bool,
 }
 
 // What a slot's offsets come to.
@@ -84,9 +78,9 @@ impl ChunkGrid {
             return refused_grid(r);
         }
         let checked = if has_maximum {
-            numbering_test(maximum, present, chunk, order)
+            numbering_test(maximum, chunk, order)
         } else {
-            numbering_test(present, present, chunk, order)
+            numbering_test(present, chunk, order)
         };
         if let Checked::Refused(r) = checked {
             return refused_grid(r);
@@ -105,19 +99,32 @@ impl ChunkGrid {
         Built { checked, grid }
     }
 
-    // What the grid's slots are numbered by: for each dimension its count, and how many chunks its present extent reaches into; and the
-    // multipliers, in the grid's order.
-    pub fn numbering(self, counts: &mut [u64], bound: &mut [u64], down: &mut [u64]) -> Numbering
-        requires { ⌜ (32 ≤ length (now counts)) × (32 ≤ length (now bound)) × (32 ≤ length (now down)) ⌝ }
-        ensures checked { λ r. ⌜ r .checked ≡ gridTest (gridOf self) ⌝ }
-        ensures numbers { λ r. ⌜ (r .checked ≡ Passed
-            → (GridNumbers (self .rank) (r .rotated) (self .chunk) (now (down .exit)) (gridOf self))
-            × (GridCounts (self .rank) (now (counts .exit)) (gridOf self))
-            × (Extents (self .rank) (r .numbers) (now (bound .exit)) (gridOf self))) ⌝ }
+    // Tests a grid; one that `new` has built passes.
+    pub fn test(self) -> Checked
+        ensures { λ r. ⌜ r ≡ gridTest (gridOf self) ⌝ }
     {
         if 32 < self.rank {
-            return refused_numbering(Refusal::RANK);
+            return refused(Refusal::RANK);
         }
+        let rank = self.rank as usize;
+        let chunk = self.chunk;
+        let limits = self.limits();
+        let order = self.order;
+        numbering_test(&limits[..rank], &chunk[..rank], order)
+    }
+
+    // What the grid's slots are numbered by: for each dimension its count, and how many chunks its present extent reaches into; and the
+    // multipliers, in the grid's order. The members behind these `rank` numbers are left as they were.
+    pub fn numbering(self, counts: &mut [u64], bound: &mut [u64], down: &mut [u64]) -> Numbering
+        requires { ⌜ (gridTest (gridOf self) ≡ Passed)
+            × (32 ≤ length (now counts)) × (32 ≤ length (now bound)) × (32 ≤ length (now down)) ⌝ }
+        ensures numbers { λ r. ⌜ GridNumbers (self .rank) (r .rotated) (self .chunk) (now (down .exit)) (gridOf self)
+            × GridCounts (self .rank) (now (counts .exit)) (gridOf self)
+            × Extents (self .rank) (r .numbers) (now (bound .exit)) (gridOf self) ⌝ }
+        ensures kept { λ _. ⌜ (drop (self .rank) (now (counts .exit)) ≡ drop (self .rank) (now (counts .entry)))
+            × (drop (self .rank) (now (bound .exit)) ≡ drop (self .rank) (now (bound .entry)))
+            × (drop (self .rank) (now (down .exit)) ≡ drop (self .rank) (now (down .entry))) ⌝ }
+    {
         let rank = self.rank as usize;
         let chunk = self.chunk;
         let present = self.present;
@@ -168,16 +175,6 @@ pub fn refused_grid(r: Refusal) -> Built
     Built {
         checked: Checked::Refused(r),
         grid,
-    }
-}
-
-fn refused_numbering(number: u64) -> Numbering
-    ensures { λ r. ⌜ r .checked ≡ Refused (record { number = number; first = 0; second = 0 }) ⌝ }
-{
-    Numbering {
-        checked: refused(number),
-        rotated: 0,
-        numbers: false,
     }
 }
 
@@ -232,20 +229,30 @@ fn count_of(extent: u64, length: u64) -> u64
     }
 }
 
-// Every dimension's chunk count, and how many chunks its present extent reaches into.
-fn counts_of(counts: &mut [u64], bound: &mut [u64], limits: &[u64], present: &[u64], chunk: &[u64])
-    requires { ⌜ (length (now counts) ≡ length (now chunk)) × (length (now bound) ≡ length (now chunk))
-        × (length (now limits) ≡ length (now chunk)) × (length (now present) ≡ length (now chunk))
+// Every dimension's chunk count.
+fn counts_of(counts: &mut [u64], limits: &[u64], chunk: &[u64])
+    requires { ⌜ (length (now counts) ≡ length (now chunk)) × (length (now limits) ≡ length (now chunk))
         × (hasZero (now chunk) ≡ false) ⌝ }
-    ensures { λ _. ⌜ (now (counts .exit) ≡ pairwise countOf (now (limits .entry)) (now (chunk .entry)))
-        × (now (bound .exit) ≡ pairwise ceilDiv (now (present .entry)) (now (chunk .entry))) ⌝ }
+    ensures { λ _. ⌜ now (counts .exit) ≡ pairwise countOf (now (limits .entry)) (now (chunk .entry)) ⌝ }
+{
+    let mut i = 0;
+    // The first i dimensions' counts are stored.
+    while i < chunk.len() {
+        counts[i] = count_of(limits[i], chunk[i]);
+        i += 1;
+    }
+}
+
+// How many chunks every dimension's present extent reaches into.
+fn bounds_of(bound: &mut [u64], present: &[u64], chunk: &[u64])
+    requires { ⌜ (length (now bound) ≡ length (now chunk)) × (length (now present) ≡ length (now chunk))
+        × (hasZero (now chunk) ≡ false) ⌝ }
+    ensures { λ _. ⌜ now (bound .exit) ≡ pairwise ceilDiv (now (present .entry)) (now (chunk .entry)) ⌝ }
 {
     let mut i = 0;
     // The first i dimensions' numbers are stored.
     while i < chunk.len() {
-        let length = chunk[i];
-        counts[i] = count_of(limits[i], length);
-        bound[i] = ceil_div(present[i], length);
+        bound[i] = ceil_div(present[i], chunk[i]);
         i += 1;
     }
 }
@@ -270,45 +277,49 @@ fn at_least_one(n: u64) -> u64
 }
 
 // The multipliers from the last dimension forward: the last is 1, each earlier one the next one times the following count.
-fn multipliers_of(down: &mut [u64], counts: &[u64], rotated: usize) -> Multipliers
-    requires { ⌜ (length (now down) ≡ length (now counts)) × (rotated ≤ length (now counts) - 1) ⌝ }
-    ensures checked { λ r. ⌜ r .checked ≡ multiplierTest (drop 1 (toFront rotated (now (counts .entry)))) ⌝ }
-    ensures made { λ r. ⌜ (r .checked ≡ Passed
-        → (r .numbers ≡ not (hasZero (drop 1 (toFront rotated (now (counts .entry))))))
-        × (now (down .exit) ≡ multipliers (toFront rotated (now (counts .entry))))) ⌝ }
+// Answers whether none of these counts is 0.
+fn multipliers_of(down: &mut [u64], counts: &[u64], rotated: usize) -> bool
+    requires { ⌜ (length (now down) ≡ length (now counts)) × (rotated ≤ length (now counts) - 1)
+        × (multiplierTest (drop 1 (toFront rotated (now counts))) ≡ Passed) ⌝ }
+    ensures { λ r. ⌜ (r ≡ not (hasZero (drop 1 (toFront rotated (now (counts .entry))))))
+        × (now (down .exit) ≡ multipliers (toFront rotated (now (counts .entry)))) ⌝ }
 {
     let mut numbers = true;
     let mut i = counts.len();
     if i == 0 {
-        return Multipliers {
-            checked: Checked::Passed,
-            numbers,
-        };
+        return numbers;
     }
     down[i - 1] = 1;
     // The multipliers from place i - 1 on are stored; `numbers` says whether the counts from place i on are all above 0.
     while 1 < i {
         i -= 1;
         let count = counts[dim_at(i, rotated)];
-        if count == u64::MAX {
-            return Multipliers {
-                checked: refused(Refusal::UNLIMITED),
-                numbers,
-            };
-        }
-        let Exact::Fits(next) = checked_mul(down[i], at_least_one(count)) else {
-            return Multipliers {
-                checked: refused(Refusal::TOO_MANY_CHUNKS),
-                numbers,
-            };
-        };
-        down[i - 1] = next;
+        down[i - 1] = down[i] * at_least_one(count);
         numbers = numbers & (count != 0);
     }
-    Multipliers {
-        checked: Checked::Passed,
-        numbers,
+    numbers
+}
+
+// Tests the multipliers, from the last dimension forward.
+fn multiplier_test(counts: &[u64], rotated: usize) -> Checked
+    requires { ⌜ rotated ≤ length (now counts) - 1 ⌝ }
+    ensures { λ r. ⌜ r ≡ multiplierTest (drop 1 (toFront rotated (now (counts .entry)))) ⌝ }
+{
+    let mut multiplier = 1u64;
+    let mut i = counts.len();
+    // The counts from place i on pass, and `multiplier` is the one in front of them.
+    while 1 < i {
+        i -= 1;
+        let count = counts[dim_at(i, rotated)];
+        if count == u64::MAX {
+            return refused(Refusal::UNLIMITED);
+        }
+        let Exact::Fits(next) = checked_mul(multiplier, at_least_one(count)) else {
+            return refused(Refusal::TOO_MANY_CHUNKS);
+        };
+        multiplier = next;
     }
+    Checked::Passed
 }
 
 // Tests the product of all counts in dimension order, up to an unlimited one.
@@ -332,7 +343,7 @@ fn product_test(counts: &[u64]) -> Checked
     Checked::Passed
 }
 
-// Makes every number of a grid whose shapes have one rank; where a test refuses, the lent lists hold some of them.
+// Makes every number of a grid whose shapes have one rank and that passes its tests.
 fn number(
     counts: &mut [u64],
     bound: &mut [u64],
@@ -344,25 +355,18 @@ fn number(
 ) -> Numbering
     requires { ⌜ (length (now counts) ≡ length (now chunk)) × (length (now bound) ≡ length (now chunk))
         × (length (now down) ≡ length (now chunk)) × (length (now limits) ≡ length (now chunk))
-        × (length (now present) ≡ length (now chunk)) ⌝ }
-    ensures checked { λ r. ⌜ r .checked
-        ≡ numberingTest (isUnlimitedFirst order) (now (limits .entry)) (now (chunk .entry)) ⌝ }
-    ensures numbers { λ r. ⌜ (r .checked ≡ Passed
-        → Made (isUnlimitedFirst order) (now (limits .entry)) (now (present .entry)) (now (chunk .entry)) (r .rotated)
-        (r .numbers) (now (counts .exit)) (now (bound .exit)) (now (down .exit))) ⌝ }
+        × (length (now present) ≡ length (now chunk))
+        × (numberingTest (isUnlimitedFirst order) (now limits) (now chunk) ≡ Passed) ⌝ }
+    ensures { λ r. ⌜ Made (isUnlimitedFirst order) (now (limits .entry)) (now (present .entry)) (now (chunk .entry))
+        (r .rotated) (r .numbers) (now (counts .exit)) (now (bound .exit)) (now (down .exit)) ⌝ }
 {
-    if has_zero(chunk) {
-        return refused_numbering(Refusal::CHUNK_LENGTH);
-    }
-    counts_of(counts, bound, limits, present, chunk);
+    counts_of(counts, limits, chunk);
+    bounds_of(bound, present, chunk);
     let rotated = leading(order, counts);
-    let made = multipliers_of(down, counts, rotated);
-    let behind = made.checked;
-    let checked = and_then(behind, product_test(counts));
+    let numbers = multipliers_of(down, counts, rotated);
     Numbering {
-        checked,
         rotated: rotated as u64,
-        numbers: made.numbers,
+        numbers,
     }
 }
 
@@ -406,25 +410,25 @@ fn shapes_test(
 }
 
 // The tests of a grid whose shapes have one rank.
-fn numbering_test(limits: &[u64], present: &[u64], chunk: &[u64], order: GridOrder) -> Checked
-    requires { ⌜ (length (now limits) ≡ length (now chunk)) × (length (now present) ≡ length (now chunk))
-        × (length (now chunk) ≤ 32) ⌝ }
+fn numbering_test(limits: &[u64], chunk: &[u64], order: GridOrder) -> Checked
+    requires { ⌜ (length (now limits) ≡ length (now chunk)) × (length (now chunk) ≤ 32) ⌝ }
     ensures { λ r. ⌜ r ≡ numberingTest (isUnlimitedFirst order) (now (limits .entry)) (now (chunk .entry)) ⌝ }
 {
+    if has_zero(chunk) {
+        return refused(Refusal::CHUNK_LENGTH);
+    }
     let mut counts = [0u64; 32];
-    let mut bound = [0u64; 32];
-    let mut down = [0u64; 32];
     let n = chunk.len();
-    let numbering = number(
-        &mut counts[..n],
-        &mut bound[..n],
-        &mut down[..n],
-        limits,
-        present,
-        chunk,
-        order,
-    );
-    numbering.checked
+    counts_of(&mut counts[..n], limits, chunk);
+    counts_test(&counts[..n], order)
+}
+
+// The tests of a grid's counts: the multipliers, then the product.
+fn counts_test(counts: &[u64], order: GridOrder) -> Checked
+    ensures { λ r. ⌜ r ≡ countsTest (isUnlimitedFirst order) (now (counts .entry)) ⌝ }
+{
+    let rotated = leading(order, counts);
+    and_then(multiplier_test(counts, rotated), product_test(counts))
 }
 
 // The numbers of s in an array, up to 32 of them.

@@ -149,15 +149,14 @@ fn print_built(built: Built, from: u64, to: u64, corner: &[u64]) {
         return;
     }
     let grid = built.grid;
+    if let Checked::Refused(r) = grid.test() {
+        print_refusal(r);
+        return;
+    }
     let mut counts = [0u64; 32];
     let mut bound = [0u64; 32];
     let mut down = [0u64; 32];
     let numbering = grid.numbering(&mut counts, &mut bound, &mut down);
-    let tested = numbering.checked;
-    if let Checked::Refused(r) = tested {
-        print_refusal(r);
-        return;
-    }
     let chunk = grid.chunk;
     print_numbering(grid.rank, numbering, counts, bound, down);
     print_slots(from, to, grid.rank, numbering, &chunk, &bound, &down);

@@ -47,14 +47,13 @@ pub fn read_extensible_array_chunks(
         × (now (list .exit) ≡ listContent answer (now (list .entry)))
         × ((n : ℕ) → r ≡ Count n → 0 < grid .rank → ExactList (indexOf (located a e)) (recordsIn (grid .rank) n (now (list .exit))) n)) ⌝ }
 {
+    if let Checked::Refused(r) = grid.test() {
+        return Counted::Refused(r);
+    }
     let mut counts = [0u64; 32];
     let mut bound = [0u64; 32];
     let mut down = [0u64; 32];
     let numbering = grid.numbering(&mut counts, &mut bound, &mut down);
-    let checked = numbering.checked;
-    if let Checked::Refused(r) = checked {
-        return Counted::Refused(r);
-    }
     let array = ExtensibleArray::from_header(header, offset_size);
     let form = array.geometry.form();
     let chunk = grid.chunk;

@@ -59,14 +59,13 @@ pub fn lookup_chunk(
         geometry,
         index_at: header.index_block_address,
     };
+    if let Checked::Refused(r) = lookup_test(file, array, grid, corner) {
+        return Found::Refused(r);
+    }
     let mut counts = [0u64; 32];
     let mut bound = [0u64; 32];
     let mut down = [0u64; 32];
     let numbering = grid.numbering(&mut counts, &mut bound, &mut down);
-    let built = numbering.checked;
-    if let Checked::Refused(r) = lookup_test(file, array, grid, built, corner) {
-        return Found::Refused(r);
-    }
     let chunk = grid.chunk;
     let slot = slot_of(corner, numbering.rotated as usize, &chunk, &counts, &down);
     let reader = ElementReader::new(
@@ -80,18 +79,12 @@ pub fn lookup_chunk(
     slot_path(file, array, reader, slot, &chunk, &bound, &down)
 }
 
-// The tests before a path, where `built` is the grid's.
-fn lookup_test(
-    file: &[u8],
-    array: ExtensibleArray,
-    grid: ChunkGrid,
-    built: Checked,
-    corner: &[u64],
-) -> Checked
-    requires { ⌜ built ≡ gridTest (gridOf grid) ⌝ }
+// The tests before a path.
+fn lookup_test(file: &[u8], array: ExtensibleArray, grid: ChunkGrid, corner: &[u64]) -> Checked
     ensures { λ r. ⌜ r ≡ gridTest (gridOf grid) then cornerTest (gridOf grid) (now (corner .entry))
         then arrayTest (arrayOf (now (file .entry)) array) ⌝ }
 {
+    let built = grid.test();
     let Checked::Passed = built else {
         return built;
     };

@@ -8,7 +8,7 @@ use Rattle.refusal.specs.declared.Checked.the-variants.{Passed}
 use Rattle.refusal.specs.Refusals.{largest64}
 use Rattle.refusal.specs.Values.{countedOf}
 use Rattle.chunk_grid.specs.Grid.{gridTest, given}
-use Rattle.chunk_grid.specs.Values.{gridOf, GridNumbers, Extents}
+use Rattle.chunk_grid.specs.Values.{gridOf}
 use Rattle.index.specs.Index.{Listing}
 use Rattle.elements.specs.Elements.{Elements}
 use Rattle.elements.specs.Values.{Reads}
@@ -27,44 +27,38 @@ abbrev elements : tie.Start → Elements
 elements c = elementsIn (c .args .file .now) (c .args .header) (c .args .offset-size) (gridOf (c .args .grid)) (c .args .element-bytes)
 
 -- where the function begins
-abbrev start : tie.After-numbering → tie.Start
-start n = n .before .before .before .before .before .before
+abbrev start : tie.After-test → tie.Start
+start c = c .before .before .before
 
 returns : tie.Need-returns
 unfolding gridOf given
 returns c =
-    let n = c .before .before .before .before .before .before in
+    let n = c .before .before .before in
     let s = start n in
-    let p = into-refused (array s) (elements s) _ _ _ (sym (n .numbering .ensures .0) ∙ c .before .checked .given .1) in
+    let p = into-refused (array s) (elements s) _ _ _ (sym (n .test .ensures) ∙ c .before .r .given .1) in
     (p .0, p .1, λ n h. absurd (refused-count _ n h))
 
-abbrev numbering : tie.After-enum-told → tie.After-numbering
-numbering c = c .before .before .before .before .before
+passed : (c : tie.After-enum-told) → gridTest (gridOf (start (c .before .before) .args .grid)) ≡ Passed
+passed c = sym (c .before .before .test .ensures) ∙ c .enum-told .given .1
 
-passed : (c : tie.After-enum-told) → gridTest (gridOf (start (numbering c) .args .grid)) ≡ Passed
-passed c = sym (numbering c .numbering .ensures .0) ∙ c .enum-told .given .1
-
--- what the grid's slots are numbered by
-numbered : (c : tie.After-enum-told)
-    → let n = numbering c in
-    let g = start n .args .grid in
-    let r = n .numbering in
-    GridNumbers (g .rank) (r .result .rotated) (g .chunk) (r .last .1 .1 .1 .0) (gridOf g) × Extents (g .rank) (r .result .numbers) (r .last .1 .1 .0) (gridOf g)
-numbered c = let x = numbering c .numbering .ensures .1 (c .enum-told .given .1) in (x .0, x .2)
+numbering-requires : tie.Need-numbering-requires
+numbering-requires c κs = (passed (c .before .before .before), omega arith, omega arith, omega arith)
 
 new-requires : tie.Need-new-requires
-new-requires c κs = (_, _, numbered (c .before .before .before .before) .0)
+new-requires c κs = (_, _, c .before .before .before .before .before .before .before .numbering .ensures .0 .0)
+
+abbrev numbering : tie.After-new → tie.After-numbering
+numbering c = c .before .before .before .before .before .before .before .before
 
 abbrev told : tie.After-new → tie.After-enum-told
-told c = c .before .before .before .before .before
+told c = numbering c .before .before .before .before
 
 -- the reader reads the array's elements
 reads : (c : tie.After-new)
-    → let n = numbering (told c) in
-    let a = start n .args in
-    let r = n .numbering in
+    → let a = start (told c .before .before) .args in
+    let r = numbering c .numbering in
     Reads (c .new .result) (a .grid .chunk) (r .last .1 .1 .0) (r .last .1 .1 .1 .0) (gridOf (a .grid)) (a .element-bytes)
-reads c = let x = numbered (told c) in c .new .ensures .2 _ _ _ (x .0) (x .1)
+reads c = let x = numbering c .numbering .ensures .0 in c .new .ensures .2 _ _ _ (x .0) (x .2)
 
 formed : (c : tie.After-new)
     → let a = c .before .before .before .before .from-header .result in
@@ -88,17 +82,17 @@ unfolding gridOf given
 returns-2 c =
     let l = c .before .before in
     let n = l .before .before .before .before .before in
-    let m = numbering (told n) in
-    let s = start m in
+    let t = told n .before .before in
+    let s = start t in
     let e = l .list-walk .ensures _ _ (reads n) in
     let i = into-read (s .args .file .now) (s .args .header) (s .args .offset-size) _ (n .new .result) (gridOf (s .args .grid)) (s .args .element-bytes) (length (s .args .list .now))
     (n .before .before .before .before .from-header .ensures) (formed n) (n .new .ensures .1) (reads n .numbered .ranked) (passed (told n)) in
     let counted = e .0 ∙ ap countedOf i in
     let content = e .1 ∙ ap (λ (x : Listing). listContent x (s .args .list .now)) i in
-    (counted, content, λ k h ranked. into-exact (array s) (elements s) refl (bytes (m .before .before .before .before .before)) ranked (fits s) (s .args .list .now) _ _ counted content k h)
+    (counted, content, λ k h ranked. into-exact (array s) (elements s) refl (bytes (t .before .before)) ranked (fits s) (s .args .list .now) _ _ counted content k h)
 
 pub read-extensible-array-chunks-spec : {M : Type 1} → statement M
 read-extensible-array-chunks-spec =
     tie.close
-    (tie.spec (search needs) (search needs) (search needs) (λ c κs. search needs) (search needs)
-    returns (search needs) (λ c κs. search needs) (λ c κs. search needs) new-requires list-walk-requires (search needs) returns-2)
+    (tie.spec (λ c κs. search needs) (search needs) returns (search needs) (search needs) (search needs) (search needs) numbering-requires
+    (λ c κs. search needs) (λ c κs. search needs) new-requires list-walk-requires (search needs) returns-2)

@@ -1,11 +1,12 @@
 -- `ea_lookup::lookup_chunk` meets its contract. Assumes nothing.
 use Prim.Native.Nat.{ℕ, _≤_}
 use mathlib.Core.Path.{_≡_, refl, sym, ap, subst, _∙_}
+use native.Mathlib.Omega.{arith}
 use lib.ListN.{length}
 use Rattle.refusal.specs.declared.Checked.the-variants.{Passed}
 use Rattle.refusal.specs.Refusals.{largest64}
 use Rattle.chunk_grid.specs.Grid.{gridTest}
-use Rattle.chunk_grid.specs.Values.{gridOf, GridNumbers, GridCounts, Extents}
+use Rattle.chunk_grid.specs.Values.{gridOf, GridNumbers, GridCounts}
 use Rattle.elements.specs.Elements.{Elements}
 use Rattle.elements.specs.Values.{Reads, foundOf}
 use Rattle.located.specs.Located.{slotPath}
@@ -25,11 +26,8 @@ abbrev elements : tie.Start → Elements
 elements c = elementsIn (c .args .file .now) (c .args .header) (c .args .offset-size) (gridOf (c .args .grid)) (c .args .element-bytes)
 
 -- where the function begins
-abbrev start : tie.After-numbering → tie.Start
-start n = n .before .before .before .before .before .before .before
-
 abbrev begin : tie.After-lookup-test → tie.Start
-begin c = start (c .before .before .before .before)
+begin c = c .before .before .before .before
 
 made : (c : tie.After-lookup-test) → c .lookup-test .result ≡ tests (array (begin c)) (elements (begin c)) (begin c .args .corner .now)
 made c = c .lookup-test .ensures
@@ -43,62 +41,60 @@ returns c =
     let n = c .before .before .before in
     found-by _ _ _ _ refl (fits (begin n)) (lookup-refused _ _ _ _ (sym (made n) ∙ c .before .r .given .1))
 
-passed : (c : tie.After-enum-told) → let s = begin (c .before .before) in tests (array s) (elements s) (s .args .corner .now) ≡ Passed
+abbrev start : tie.After-enum-told → tie.Start
+start c = begin (c .before .before)
+
+passed : (c : tie.After-enum-told) → tests (array (start c)) (elements (start c)) (start c .args .corner .now) ≡ Passed
 passed c = sym (made (c .before .before)) ∙ c .enum-told .given .1
 
 tested : (c : tie.After-enum-told)
-    → let s = begin (c .before .before) in
-    (gridTest (gridOf (s .args .grid)) ≡ Passed) × (length (s .args .corner .now) ≡ gridOf (s .args .grid) .rank)
-    × (arrayTest (array s) ≡ Passed)
-tested c = let s = begin (c .before .before) in tests-passed (array s) (elements s) (s .args .corner .now) (passed c)
+    → (gridTest (gridOf (start c .args .grid)) ≡ Passed) × (length (start c .args .corner .now) ≡ gridOf (start c .args .grid) .rank)
+    × (arrayTest (array (start c)) ≡ Passed)
+tested c = tests-passed (array (start c)) (elements (start c)) (start c .args .corner .now) (passed c)
 
--- what the grid's slots are numbered by
-numbered : (c : tie.After-enum-told)
-    → let n = c .before .before .before .before .before .before in
-    let g = start n .args .grid in
-    let r = n .numbering in
-    GridNumbers (g .rank) (r .result .rotated) (g .chunk) (r .last .1 .1 .1 .0) (gridOf g)
-    × GridCounts (g .rank) (r .last .1 .0) (gridOf g) × Extents (g .rank) (r .result .numbers) (r .last .1 .1 .0) (gridOf g)
-numbered c = let n = c .before .before .before .before .before .before in n .numbering .ensures .1 (n .numbering .ensures .0 ∙ tested c .0)
+numbering-requires : tie.Need-numbering-requires
+numbering-requires c κs = (tested (c .before .before .before) .0, omega arith, omega arith, omega arith)
+
+abbrev told : tie.After-numbering → tie.After-enum-told
+told n = n .before .before .before .before
 
 -- the corner has the grid's rank
-cornered : (c : tie.After-enum-told)
-    → let n = c .before .before .before .before .before .before in
-    let a = start n .args in
+cornered : (n : tie.After-numbering)
+    → let a = start (told n) .args in
     let r = n .numbering in
     GridNumbers (length (a .corner .now)) (r .result .rotated) (a .grid .chunk) (r .last .1 .1 .1 .0) (gridOf (a .grid))
     × GridCounts (length (a .corner .now)) (r .last .1 .0) (gridOf (a .grid))
-cornered c =
-    let x = numbered c in
-    let e = x .0 .ranked ∙ sym (tested c .1) in
-    let n = c .before .before .before .before .before .before in
-    let g = start n .args .grid in
+cornered n =
+    let x = n .numbering .ensures .0 in
+    let e = x .0 .ranked ∙ sym (tested (told n) .1) in
+    let g = start (told n) .args .grid in
     let r = n .numbering in (
       subst (λ (n : ℕ). GridNumbers n (r .result .rotated) (g .chunk) (r .last .1 .1 .1 .0) (gridOf g)) e (x .0),
       subst (λ (n : ℕ). GridCounts n (r .last .1 .0) (gridOf g)) e (x .1),
     )
 
 slot-of-requires : tie.Need-slot-of-requires
-slot-of-requires c κs = let x = cornered (c .before .before .before .before) in (_, x .0, x .1)
+slot-of-requires c κs = let x = cornered (c .before .before .before .before .before .before .before) in (_, x .0, x .1)
 
 new-requires : tie.Need-new-requires
-new-requires c κs = (_, _, numbered (c .before .before .before .before .before .before .before) .0)
+new-requires c κs = (_, _, c .before .before .before .before .before .before .before .before .before .before .numbering .ensures .0 .0)
+
+abbrev numbering : tie.After-new → tie.After-numbering
+numbering c = c .before .before .before .before .before .before .before .before .before .before .before
 
 -- the reader reads the array's elements
 reads : (c : tie.After-new)
-    → let n = c .before .before .before .before .before .before .before .before .before .before .before .before .before .before in
-    let a = start n .args in
+    → let n = numbering c in
+    let a = start (told n) .args in
     let r = n .numbering in
     Reads (c .new .result) (a .grid .chunk) (r .last .1 .1 .0) (r .last .1 .1 .1 .0) (gridOf (a .grid)) (a .element-bytes)
-reads c =
-    let x = numbered (c .before .before .before .before .before .before .before .before) in
-    c .new .ensures .2 _ _ _ (x .0) (x .2)
+reads c = let x = numbering c .numbering .ensures .0 in c .new .ensures .2 _ _ _ (x .0) (x .2)
 
 slot-path-requires : tie.Need-slot-path-requires
 slot-path-requires c κs =
     let n = c .before .before .before in
     let f = n .before .before in (
-      tested (f .before .before .before .before .before .before) .2,
+      tested (told (numbering n)) .2,
       record { form = sym (n .new .ensures .0 ∙ f .form .ensures); grid = _; elementBytes = _; reads = reads n },
     )
 
@@ -106,9 +102,9 @@ returns-2 : tie.Need-returns-2
 returns-2 c =
     let n = c .before .before .before .before in
     let f = n .before .before in
-    let t = f .before .before .before .before .before .before in
-    let s = begin (t .before .before) in
-    let x = cornered t in
+    let t = told (numbering n) in
+    let s = start t in
+    let x = cornered (numbering n) in
     let a = s .args in
     let e = elements-read (a .file .now) (a .header) (a .offset-size) (n .new .result) (gridOf (a .grid)) (a .element-bytes)
     (n .new .ensures .0 ∙ f .form .ensures) (n .new .ensures .1) in
@@ -119,5 +115,5 @@ returns-2 c =
 pub lookup-chunk-spec : {M : Type 1} → statement M
 lookup-chunk-spec =
     tie.close
-    (tie.spec (search needs) (search needs) (search needs) (search needs) (λ c κs. search needs) (search needs)
-    returns (search needs) slot-of-requires (search needs) new-requires slot-path-requires returns-2)
+    (tie.spec (search needs) (search needs) returns (search needs) (search needs) (search needs) (search needs) numbering-requires
+    slot-of-requires (search needs) new-requires slot-path-requires returns-2)

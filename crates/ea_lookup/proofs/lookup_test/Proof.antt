@@ -9,10 +9,10 @@ use Rattle.ea_lookup.proofs.lookup_test.Statement.{statement}
 use Rattle.ea_lookup.proofs.lookup_test.Tie as tie
 
 returns : tie.Need-returns
-returns c = let e = c .enum-told2 .given .1 in e ∙ then-first _ _ (sym e ∙ c .before .before .before .before .pre)
+returns c = let e = c .enum-told2 .given .1 in e ∙ then-first _ _ (sym e ∙ c .before .before .test .ensures)
 
-built : (c : tie.After-enum-told) → Passed ≡ gridTest (gridOf (c .before .before .before .before .args .grid))
-built c = sym (c .enum-told .given .1) ∙ c .before .before .before .before .pre
+built : (c : tie.After-enum-told) → Passed ≡ gridTest (gridOf (c .before .before .before .before .before .args .grid))
+built c = sym (c .enum-told .given .1) ∙ c .before .before .test .ensures
 
 corner-test-requires : tie.Need-corner-test-requires
 corner-test-requires c κs = sym (built c)
@@ -31,4 +31,4 @@ returns-3 c =
 pub lookup-test-spec : {M : Type 1} → statement M
 lookup-test-spec =
     tie.close
-    (tie.spec (search needs) (search needs) returns corner-test-requires (search needs) (search needs) returns-2 (search needs) returns-3)
+    (tie.spec (search needs) (search needs) (search needs) returns corner-test-requires (search needs) (search needs) returns-2 (search needs) returns-3)

@@ -44,12 +44,12 @@ returns c =
 numbering-test-requires : tie.Need-numbering-test-requires
 numbering-test-requires c κs =
     let l = lengths (c .before) in
-    (l .0 (c .if1 .taken), l .1, l .2)
+    (l .0 (c .if1 .taken), l .2)
 
 numbering-test-requires-2 : tie.Need-numbering-test-requires-2
 numbering-test-requires-2 c κs =
     let l = lengths (c .before) in
-    (l .1, l .1, l .2)
+    (l .1, l .2)
 
 returns-2 : tie.Need-returns-2
 unfolding whereTested

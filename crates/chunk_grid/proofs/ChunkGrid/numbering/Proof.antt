@@ -8,53 +8,56 @@ use mir.Val.{Fits}
 use lib.ListN.{length, getD, take}
 use lib.Seq.{length-take-le}
 use Rattle.refusal.specs.Refusals.{largest64}
-use Rattle.refusal.proofs.Tests.{refused-passed}
-use Rattle.chunk_grid.proofs.Numbered.{none-over, over-32, numbering-is}
+use Rattle.chunk_grid.proofs.Numbered.{none-over, rank-small, tests-of, numbering-is}
 use borrow.Author.Needs.{needs}
 use Rattle.chunk_grid.proofs.ChunkGrid.numbering.Statement.{statement}
 use Rattle.chunk_grid.proofs.ChunkGrid.numbering.Tie as tie
 
-sizes : (c : tie.Else1) → (length (c .before .before .before .before .before .args .self .chunk) ≡ 32) × (length (c .before .before .before .before .before .args .self .present) ≡ 32) × (length (c .before .before .before .before .before .args .self .maximum) ≡ 32)
+small : (c : tie.Start) → c .args .self .rank ≤ 32
+small c = rank-small (c .args .self) (c .pre .0)
+
+sizes : (c : tie.Start) → (length (c .args .self .chunk) ≡ 32) × (length (c .args .self .present) ≡ 32) × (length (c .args .self .maximum) ≡ 32)
 sizes c = (search needs, search needs, search needs)
 
-fit : (c : tie.Else1) (i : ℕ) → getD (c .before .before .before .before .before .args .self .present) i 0 ≤ largest64
-fit c i = let f : Fits w64 (getD (c .before .before .before .before .before .args .self .present) i 0) = search needs in omega arith
+fit : (c : tie.Start) (i : ℕ) → getD (c .args .self .present) i 0 ≤ largest64
+fit c i = let f : Fits w64 (getD (c .args .self .present) i 0) = search needs in omega arith
 
 -- a part of `rank` members has this length
-part : (c : tie.Else1) (l : List ℕ) → 32 ≤ length l → c .before .before .before .before .before .args .self .rank ≡ length (take (c .before .before .before .before .before .args .self .rank) l)
-part c l h = sym (length-take-le _ l (omega arith))
+part : (c : tie.Start) (l : List ℕ) → 32 ≤ length l → c .args .self .rank ≡ length (take (c .args .self .rank) l)
+part c l h = sym (length-take-le _ l (omega (arith, small c)))
 
-returns : tie.Need-returns
-returns c =
-    let e = c .refused-numbering .ensures in
-    (e ∙ over-32 _ (c .before .if1 .taken), λ p. absurd (refused-passed _ (sym e ∙ p)))
+limited : (c : tie.After-limits) → length (c .limits .result) ≡ 32
+limited c = search needs
 
 number-requires : tie.Need-number-requires
 number-requires c κs =
-    let o = c .before .before .before .before .before .before .before .before .before in
-    let p = c .before .before .before .before .before .before .before .before .before .before .before .before .before .before .pre in
-    let n : length (c .before .before .before .before .before .before .limits .result) ≡ 32 = search needs in
-    let e = part o (c .before .before .before .before .before .before .before .before .before .before .before .before .before .before .args .self .chunk) (omega (arith, sizes o)) in
-    (sym (part o _ (p .0)) ∙ e, sym (part o _ (p .1)) ∙ e, sym (part o _ (p .2)) ∙ e, sym (part o _ (omega arith)) ∙ e, sym (part o _ (omega (arith, sizes o))) ∙ e)
+    let s = c .before .before .before .before .before .before .before .before .before .before .before .before in
+    let p = s .pre in
+    let e = part s (s .args .self .chunk) (omega (arith, sizes s)) in
+    (sym (part s _ (p .1)) ∙ e, sym (part s _ (p .2)) ∙ e, sym (part s _ (p .3)) ∙ e, sym (part s _ (omega (arith, limited (c .before .before .before .before .before .before)))) ∙ e, sym (part s _ (omega (arith, sizes s))) ∙ e, rw (c .before .before .before .before .before .before .limits .ensures) (tests-of (s .args .self) (small s) (sizes s) ∙ p .0))
 
-returns-2 : tie.Need-returns-2
-returns-2 c =
-    let o = c .before .before .before .before .before .before .before .before .before .before .before .before .before .before .before .before in
-    let p = c .before .before .before .before .before .before .before .before .before .before .before .before .before .before .before .before .before .before .before .before .before .pre in
-    let k = c .before .before .before .before .before .before .before .before .before .before .before .before .before .before .before .before .before .before .before .before .before .args .self in
-    let n = c .before .before .before .before .before .before .number in
-    let l = c .before .before .before .before .before .before .before .before .before .before .before .before .before .limits .ensures in
-    numbering-is k (o .if1 .left) (sizes o) _ _ _ _ _ _ _ _ _ (n .kept .0 ∙ sym (part o _ (p .0))) (n .kept .1 .0 ∙ sym (part o _ (p .1))) (n .kept .1 .1 .0 ∙ sym (part o _ (p .2)))
-    (none-over (k .present) (k .rank) (fit o)) (rw l at (n .ensures .0)) (rw l at (n .ensures .1))
+returns : tie.Need-returns
+returns c =
+    let n = c .before .before .before .before .before .before in
+    let s = n .before .before .before .before .before .before .before .before .before .before .before .before .before in
+    let p = s .pre in
+    let k = s .args .self in
+    numbering-is k (small s) (sizes s) (p .0) _ _ _ _ _ _ _ _ (n .number .kept .0 ∙ sym (part s _ (p .1))) (n .number .kept .1 .0 ∙ sym (part s _ (p .2))) (n .number .kept .1 .1 .0 ∙ sym (part s _ (p .3)))
+    (none-over (k .present) (k .rank) (fit s)) (rw (n .before .before .before .before .before .before .before .limits .ensures) at (n .number .ensures))
 
 pub numbering-spec : {M : Type 1} → statement M
 numbering-spec =
     tie.close
-    (tie.spec (λ c. omega arith) returns (λ c. omega arith) (λ c. omega arith) (λ c. sym (length-take-le _ _ (omega arith)))
-    (λ c. omega arith) (λ c. sym (length-take-le _ _ (omega arith))) (λ c. omega arith)
-    (λ c. sym (length-take-le _ _ (omega arith))) (λ c. omega arith) (λ c. sym (length-take-le _ _ (search needs)))
-    (λ c. omega (arith, sizes (c .before .before .before .before .before .before .before)))
-    (λ c. sym (length-take-le _ _ (omega (arith, sizes (c .before .before .before .before .before .before .before .before)))))
-    (λ c. omega (arith, sizes (c .before .before .before .before .before .before .before .before)))
-    (λ c. sym (length-take-le _ _ (omega (arith, sizes (c .before .before .before .before .before .before .before .before .before)))))
-    number-requires (λ c. omega arith) (λ c. omega arith) (λ c. omega arith) returns-2)
+    (tie.spec (search needs) (λ c. omega (arith, small (c .before .before .before .before .before .before)))
+    (λ c. part (c .before .before .before .before .before .before .before) _ (omega arith))
+    (λ c. omega (arith, small (c .before .before .before .before .before .before .before)))
+    (λ c. part (c .before .before .before .before .before .before .before .before) _ (omega arith))
+    (λ c. omega (arith, small (c .before .before .before .before .before .before .before .before)))
+    (λ c. part (c .before .before .before .before .before .before .before .before .before) _ (omega arith))
+    (λ c. omega (arith, small (c .before .before .before .before .before .before .before .before .before), limited (c .before .before .before)))
+    (λ c. part (c .before .before .before .before .before .before .before .before .before .before) _ (omega (arith, limited (c .before .before .before .before))))
+    (λ c. omega (arith, small (c .before .before .before .before .before .before .before .before .before .before), sizes (c .before .before .before .before .before .before .before .before .before .before)))
+    (λ c. part (c .before .before .before .before .before .before .before .before .before .before .before) _ (omega (arith, sizes (c .before .before .before .before .before .before .before .before .before .before .before))))
+    (λ c. omega (arith, small (c .before .before .before .before .before .before .before .before .before .before .before), sizes (c .before .before .before .before .before .before .before .before .before .before .before)))
+    (λ c. part (c .before .before .before .before .before .before .before .before .before .before .before .before) _ (omega (arith, sizes (c .before .before .before .before .before .before .before .before .before .before .before .before))))
+    number-requires (λ c. omega arith) (λ c. omega arith) (λ c. omega arith) returns)
