@@ -11,6 +11,7 @@ ghost use Rattle.chunk_grid.specs.declared.Offsets.the-variants.{Inside};
 ghost use Rattle.chunk_grid.specs.Grid.{Grid};
 ghost use Rattle.chunk_grid.specs.Values.{inExtent};
 ghost use Rattle.element_form.specs.Form.{elementSizeTest};
+ghost use Rattle.chunk_slots.specs.Values.{handed};
 ghost use Rattle.elements.specs.Elements.{chunkBytes};
 ghost use Rattle.elements.specs.Runs.{elementsFrom};
 ghost use Rattle.elements.specs.Values.{elementsOf, Reads};
@@ -116,7 +117,8 @@ fn reach_from(
     requires { ⌜ ((grid : Grid) × (m : ℕ) × Reads reader (now chunk) (now bound) (now down) grid m) ⌝ }
     ensures { λ r. ⌜ (r .slots ≤ n) × (0 < r .slots → lines ≡ true)
         × ((grid : Grid) (m : ℕ) → Reads reader (now (chunk .entry)) (now (bound .entry)) (now (down .entry)) grid m
-        → (r .reached ≡ inExtent grid slot) × ((j : ℕ) → j < r .slots → inExtent grid (slot + j) ≡ Inside)) ⌝ }
+        → (r .reached ≡ inExtent grid slot) × ((j : ℕ) → j < r .slots → inExtent grid (slot + j) ≡ Inside)
+        × (now (offsets .exit) ≡ handed grid slot (now (offsets .entry)))) ⌝ }
 {
     let reached = reader.reach(offsets, slot, chunk, bound, down);
     let mut slots = 0;

@@ -24,15 +24,15 @@ returns c =
       λ grid m q.
           let o = e .reach .ensures grid m q .0 in
           let r = l .line-from .ensures grid _ _ (q .numbered) (q .extended) (sym o ∙ l .before .enum-told .given .1) in
-          (o, λ j h. r .inside j (omega (arith, c .below-count .ensures))),
+          (o, λ j h. r .inside j (omega (arith, c .below-count .ensures)), e .reach .ensures grid m q .1),
     )
 
 -- no line
 returns-2 : tie.Need-returns-2
-returns-2 c = (omega arith, λ h. absurd (omega arith), λ grid m q. (c .before .before .reach .ensures grid m q .0, λ j h. absurd (omega arith)))
+returns-2 c = (omega arith, λ h. absurd (omega arith), λ grid m q. let e = c .before .before .reach .ensures grid m q in (e .0, λ j h. absurd (omega arith), e .1))
 
 returns-3 : tie.Need-returns-3
-returns-3 c = (omega arith, λ h. absurd (omega arith), λ grid m q. (c .before .reach .ensures grid m q .0, λ j h. absurd (omega arith)))
+returns-3 c = (omega arith, λ h. absurd (omega arith), λ grid m q. let e = c .before .reach .ensures grid m q in (e .0, λ j h. absurd (omega arith), e .1))
 
 pub reach-from-spec : {M : Type 1} → statement M
 reach-from-spec =
