@@ -58,11 +58,11 @@ page-by-result a u k p at (Refused r) d e w = (d, sym e)
 module _ (a : Array) (u at : ℕ) where
   -- a super block that was stepped into lies where its pointer says
   pub entered-at : EnteredSuper a u (At at) → isDirect a u ≡ false → at ≡ superAt a u
-  entered-at e d = ⊎-elim (λ (t : isDirect a u ≡ true). absurd (false-true (sym d ∙ t))) (λ t. t .3) e
+  entered-at e d = ⊎-elim (λ (t : (isDirect a u ≡ true) × (at ≡ 0)). absurd (false-true (sym d ∙ t .0))) (λ t. t .3) e
 
   pub entered-super-room : EnteredSuper a u (At at) → directSuperBlocks (a .parameters) ≤ u → at + superExtent (a .parameters) (a .offsetSize) u ≤ length (a .file)
   entered-super-room e le =
-      ⊎-elim (λ (d : isDirect a u ≡ true). absurd (false-true (sym (not-direct a u le) ∙ d)))
+      ⊎-elim (λ (d : (isDirect a u ≡ true) × (at ≡ 0)). absurd (false-true (sym (not-direct a u le) ∙ d .0)))
       (λ d. rw (d .3) (super-inside a u (d .2))) e
 
   module _ (k : ℕ) where

@@ -22,12 +22,12 @@ abbrev pub TestedAhead : Array → (ℕ → Structure) → Ahead → Type 0
 TestedAhead a structure Unknown = Unit {0}
 TestedAhead a structure (Known index checked) = checked ≡ testOf a (structure index)
 
--- Super block u: its pointer is undefined, it has passed its test (or the index block names its data blocks, and nothing is said of the
--- position), or its test refuses it.
+-- Super block u: its pointer is undefined, it has passed its test (or the index block names its data blocks, and the position is 0), or
+-- its test refuses it.
 abbrev pub EnteredSuper : Array → ℕ → Entered → Type 0
 EnteredSuper a u Absent = (isDirect a u ≡ false) × (superUndefined a u ≡ true)
 EnteredSuper a u (At at) =
-    (isDirect a u ≡ true)
+    ((isDirect a u ≡ true) × (at ≡ 0))
     ⊎ ((isDirect a u ≡ false) × (superUndefined a u ≡ false) × (testOf a (superBlock u) ≡ Passed) × (at ≡ superAt a u))
 EnteredSuper a u (EnteredRefused r) = (isDirect a u ≡ false) × (superUndefined a u ≡ false) × (testOf a (superBlock u) ≡ Refused r)
 

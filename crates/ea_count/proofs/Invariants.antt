@@ -35,9 +35,9 @@ use Rattle.ea_blocks.specs.Structures.{dataBlock, dataPage, isDirect, superAt, 
 use Rattle.ea_blocks.specs.Values.{PointerInFile, PageBitInFile, arrayOf}
 use Rattle.ea_blocks.specs.Entered.{EnteredSuper, EnteredBlock, EnteredPage, TestedAhead}
 use Rattle.ea_blocks.proofs.StructureTests.{not-direct}
-use Rattle.ea_blocks.proofs.Entering.{entered-super-room, entered-block-room, entered-head-room, entered-page-room}
+use Rattle.ea_blocks.proofs.Entering.{entered-at, entered-super-room, entered-block-room, entered-head-room, entered-page-room}
 use Rattle.ea_count.specs.Values.{WalkFrom}
-use Rattle.ea_count.proofs.WalkStates.{AtSuper, AtBlock, AtPage, BehindBlock, Done, Counts, ends-at, at-first, supers-done, super-ended, super-skip, super-refused, super-in, blocks-done, block-behind, block-ended, block-skip, block-refused, block-run, block-run-refused, block-pages, pages-done, page-skip, page-refused, page-run-refused, page-run-last, page-run-on, slot-few, block-few, entered-at, count-few, page-ends, paged-behind, unpaged-room}
+use Rattle.ea_count.proofs.WalkStates.{AtSuper, AtBlock, AtPage, BehindBlock, Done, Counts, ends-at, at-first, supers-done, super-ended, super-skip, super-refused, super-in, blocks-done, block-behind, block-ended, block-skip, block-refused, block-run, block-run-refused, block-pages, pages-done, page-skip, page-refused, page-run-refused, page-run-last, page-run-on, slot-few, block-few, count-few, page-ends, paged-behind, unpaged-room}
 
 -- a data block is open: the count doesn't end it, or its super block names it
 abbrev pub Open : ℕ → ℕ → ℕ → ℕ → Type 0

@@ -16,7 +16,7 @@ use Rattle.refusal.specs.declared.Counted.{Counted}
 use Rattle.refusal.specs.declared.Counted.the-variants.{Count, Refused as CountedRefused}
 use Rattle.refusal.specs.Outcome.{accepted}
 use Rattle.refusal.specs.Values.{plus, countedOf}
-use Rattle.refusal.proofs.Tests.{lt-or-ge, false-true, both}
+use Rattle.refusal.proofs.Tests.{lt-or-ge, both}
 use Rattle.refusal.proofs.Counts.{plus-none, answered, counted-inv}
 use Rattle.chunk_grid.specs.Grid.{Grid}
 use Rattle.index.specs.Index.{Listing}
@@ -38,7 +38,7 @@ use Rattle.ea_blocks.specs.declared.ExtensibleArray.{ExtensibleArray}
 use Rattle.ea_blocks.specs.declared.enter.Entered.the-variants.{Absent, At, Refused as EnteredRefused}
 use Rattle.ea_blocks.specs.Array.{Array}
 use Rattle.ea_blocks.specs.Values.{arrayOf}
-use Rattle.ea_blocks.specs.Structures.{pagesOf, isDirect, superAt, blockAt, dataPageAt}
+use Rattle.ea_blocks.specs.Structures.{pagesOf, isDirect, blockAt, dataPageAt}
 use Rattle.ea_blocks.specs.Entered.{EnteredSuper, EnteredBlock, EnteredPage}
 use Rattle.ea_blocks.proofs.StructureTests.{is-direct, not-direct}
 use Rattle.ea_walk.specs.Walk.{blocksFrom, supersFrom}
@@ -156,7 +156,7 @@ module _ (f : List ℕ) (array : ExtensibleArray) (r : ElementReader) (first beg
           into : (g : Grid) (n : ℕ) → supersFrom a (es g n) (end - u) u slot (accepted [])
               ≡ blocksFrom a (es g n) u (blocks u - 0) 0 slot (supersFrom a (es g n) (end - (u + 1)) (u + 1) (slot + blocks u * blockElements h u) (accepted []))
           into g n =
-              ⊎-elim (λ (d : isDirect a u ≡ true). turns.supers-direct a (es g n) end u slot (accepted []) lt b d)
+              ⊎-elim (λ (d : (isDirect a u ≡ true) × (super ≡ 0)). turns.supers-direct a (es g n) end u slot (accepted []) lt b (d .0))
               (λ d. turns.supers-tested a (es g n) end u slot (accepted []) lt b (d .0) (d .1) (d .2)) e
 
   -- behind the last data block
@@ -360,9 +360,6 @@ block-few h v small u k lt hk =
     let e = next-slot h u in
     let m = mul-le-mul-right {m = k + 1} {n = blocks u} (blockElements h u) (omega arith) in
     omega arith
-
-pub entered-at : (a : Array) (u super : ℕ) → EnteredSuper a u (At super) → isDirect a u ≡ false → super ≡ superAt a u
-entered-at a u super e d = ⊎-elim (λ (t : isDirect a u ≡ true). absurd (false-true (sym d ∙ t))) (λ t. t .3) e
 
 -- a run counts no more records than it has elements
 pub count-few : (es : Elements) (pos j s m : ℕ) → Count m ≡ countedOf (elementsFrom es pos j s (accepted [])) → m ≤ j

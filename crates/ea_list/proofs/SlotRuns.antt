@@ -120,7 +120,7 @@ module _ (f : List ℕ) (array : ExtensibleArray) (s : ℕ) (t : TestedTo f arra
 
     module _ (super : ℕ) (w : EnteredSuper a u (At super)) where
       ready : Ready a u
-      ready = record { named = ⊎-elim (λ (d : isDirect a u ≡ true). inl d) (λ d. inr (d .0, d .1, d .2)) w }
+      ready = record { named = ⊎-elim (λ (d : (isDirect a u ≡ true) × (super ≡ 0)). inl (d .0)) (λ d. inr (d .0, d .1, d .2)) w }
 
       -- the data block's
       pub block-gap : blockUndefined a u k ≡ true → RunIn a s (Gap (blockElements h u - i))

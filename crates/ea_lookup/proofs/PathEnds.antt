@@ -78,7 +78,7 @@ module _ (a : Array) (v : Served (a .parameters)) (s u k i : ℕ) (b : InBlock (
 
     module _ (super : ℕ) (w : EnteredSuper a u (At super)) where
       ready : Ready a u
-      ready = record { named = ⊎-elim (λ (d : isDirect a u ≡ true). inl d) (λ d. inr (d .0, d .1, d .2)) w }
+      ready = record { named = ⊎-elim (λ (d : (isDirect a u ≡ true) × (super ≡ 0)). inl (d .0)) (λ d. inr (d .0, d .1, d .2)) w }
 
       -- before its data block
       pub block-ends : (x : Entered) → EnteredBlock a u k x → Stopped x → PathEnds a s x

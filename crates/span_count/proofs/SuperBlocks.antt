@@ -2,9 +2,9 @@
 use Prim.Native.Nat.{ℕ}
 use mathlib.Core.Path.{_≡_, sym, _∙_}
 use mathlib.Core.Bool.{true, false}
-use mathlib.Core.Logic.{inr, ⊎-elim}
+use mathlib.Core.Logic.{inr}
 use Rattle.refusal.specs.declared.Checked.the-variants.{Passed}
-use Rattle.refusal.proofs.Tests.{false-true, then-inv}
+use Rattle.refusal.proofs.Tests.{then-inv}
 use Rattle.ea_blocks.specs.declared.enter.Entered.the-variants.{At}
 use Rattle.ea_blocks.specs.declared.pointers.Pointer.{Pointer}
 use Rattle.ea_blocks.specs.declared.pointers.Pointer.the-variants.{Undefined, At as PointsAt}
@@ -13,6 +13,7 @@ use Rattle.ea_blocks.specs.Structures.{superBlock, isDirect, superAt, blockAt, 
 use Rattle.ea_blocks.specs.Values.{pointerOf}
 use Rattle.ea_blocks.specs.Entered.{EnteredSuper}
 use Rattle.ea_blocks.proofs.PointerValues.{pointer-undefined, pointer-at}
+use Rattle.ea_blocks.proofs.Entering.{entered-at}
 use Rattle.span_walk.specs.Spans.{spannedTest}
 
 module _ (a : Array) (u at : ℕ) where
@@ -22,14 +23,11 @@ module _ (a : Array) (u at : ℕ) where
   unfolding spannedTest
   entered-tested d w e t = inr (d, w, then-inv _ _ t .1, e)
 
-  entered-at : EnteredSuper a u (At at) → isDirect a u ≡ false → at ≡ superAt a u
-  entered-at e d = ⊎-elim (λ (x : isDirect a u ≡ true). absurd (false-true (sym d ∙ x))) (λ x. x .3) e
-
   -- the pointer to its data block k, by what was read
   module _ (e : EnteredSuper a u (At at)) (k : ℕ) {p : Pointer}
       (q : (isDirect a u ≡ false → at ≡ superAt a u) → p ≡ pointerOf (blockUndefined a u k) (blockAt a u k)) where
     pub block-undefined : p ≡ Undefined → blockUndefined a u k ≡ true
-    block-undefined r = pointer-undefined _ _ (sym r ∙ q (entered-at e))
+    block-undefined r = pointer-undefined _ _ (sym r ∙ q (entered-at a u at e))
 
     pub block-defined : {x : ℕ} → p ≡ PointsAt x → (blockUndefined a u k ≡ false) × (x ≡ blockAt a u k)
-    block-defined r = pointer-at _ _ _ (sym r ∙ q (entered-at e))
+    block-defined r = pointer-at _ _ _ (sym r ∙ q (entered-at a u at e))

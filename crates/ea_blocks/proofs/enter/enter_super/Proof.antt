@@ -1,5 +1,5 @@
 -- `ea_blocks::enter::enter_super` meets its contract. Assumes nothing.
-use mathlib.Core.Path.{_≡_, sym, subst, _∙_}
+use mathlib.Core.Path.{_≡_, refl, sym, subst, _∙_}
 use mathlib.Core.Bool.{false}
 use mathlib.Core.Logic.{inl}
 use native.Mathlib.Omega.{arith}
@@ -16,7 +16,7 @@ use Rattle.ea_blocks.proofs.enter.enter_super.Tie as tie
 returns : tie.Need-returns
 returns c =
     let d = c .before .direct-super-blocks .ensures in
-    inl (is-direct _ _ (omega arith))
+    inl (is-direct _ _ (omega arith), refl)
 
 -- the index block doesn't name the data blocks
 beyond : (c : tie.Else1)

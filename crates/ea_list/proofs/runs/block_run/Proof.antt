@@ -52,7 +52,7 @@ super c =
     (λ w.
     let q = pointer-at _ _ _ (sym (w .3 .given .1) ∙ w .1 .ensures) in
     super-entered _ _ _ (p .0) _ _ _ (p .1) _ (not-direct _ _ (omega (arith, d, w .0 .taken))) (q .0) (w .5 ∙ q .1))
-    (λ w. inl (is-direct _ _ (omega (arith, d, w .0 .left))))
+    (λ w. inl (is-direct _ _ (omega (arith, d, w .0 .left)), w .1))
     (c .if1 .came)
 
 block-pointer-requires : tie.Need-block-pointer-requires

@@ -1,6 +1,6 @@
 -- `ea_spans::write::write_super` meets its contract. Assumes nothing.
 use Prim.Native.Nat.{_+_}
-use mathlib.Core.Path.{_≡_, sym, _∙_}
+use mathlib.Core.Path.{_≡_, refl, sym, _∙_}
 use mathlib.Core.Bool.{true, false}
 use mathlib.Core.Logic.{inl}
 use native.Mathlib.Omega.{arith}
@@ -49,7 +49,7 @@ write-blocks-requires c κs =
     let t = c .before .before in
     let s = t .before .before .before .before .before in
     let q = direct t in
-    (s .pre .0, s .pre .1, inl (q .0), q .1 .room)
+    (s .pre .0, s .pre .1, inl (q .0, refl), q .1 .room)
 
 returns : tie.Need-returns
 returns c =

@@ -1,5 +1,5 @@
 -- `span_count::count::count_super` meets its contract. Assumes nothing.
-use mathlib.Core.Path.{_≡_, sym, ap, _∙_}
+use mathlib.Core.Path.{_≡_, refl, sym, ap, _∙_}
 use mathlib.Core.Bool.{true, false}
 use mathlib.Core.Logic.{inl}
 use native.Mathlib.Omega.{arith}
@@ -32,7 +32,7 @@ direct c =
     is-direct _ _ (omega arith)
 
 count-blocks-requires : tie.Need-count-blocks-requires
-count-blocks-requires c κs = let s = c .before .before .before in (s .pre .0, s .pre .1, inl (direct c))
+count-blocks-requires c κs = let s = c .before .before .before in (s .pre .0, s .pre .1, inl (direct c, refl))
 
 returns : tie.Need-returns
 unfolding countedOf
