@@ -1,7 +1,7 @@
 -- The run that a slot begins, by its place and by what the pointers to it say. Assumes nothing.
 use Prim.Native.Nat.{ℕ, _+_, _-_, _*_, _/_, _%_, _<_, _≤_}
 use mathlib.Core.Path.{_≡_, refl, sym, ap, subst, _∙_}
-use mathlib.Core.Bool.{true, false}
+use mathlib.Core.Bool.{true, false, not, _&&_}
 use mathlib.Core.List.{List, []}
 use mathlib.Core.Logic.{inl, inr, ⊎-elim}
 use native.Mathlib.Omega.{arith}
@@ -42,7 +42,7 @@ use Rattle.ea_walk.specs.Walk.{located}
 use Rattle.ea_walk.proofs.Paths.{Ready}
 use Rattle.ea_walk.proofs.Slots.{inline-at, block-at, page-at, inline-slots, past-slots, super-slots, undefined-slots, block-slots, page-slots}
 use Rattle.ea_walk.proofs.Passed.{super-passed, block-passed, page-passed}
-use Rattle.ea_list.specs.Values.{TestedTo, RunIn}
+use Rattle.ea_list.specs.Values.{TestedTo, RunIn, blockSlots}
 
 -- n slots from s on: those from slot i on, without elements or with
 module _ (a : Array) (e : Elements) (file : e .file ≡ a .file) (s n i slot : ℕ) (lt : i < n) (q : slot ≡ s + i) where
@@ -65,6 +65,29 @@ run-room a s pos n r =
       count = 0;
     }) refl refl .1 in
     omega arith
+
+-- how many slots a run in a data block has
+module _ (a : Array) (s u k i : ℕ) where
+  pub super-left : isDirect a u ≡ false → superUndefined a u ≡ true → firstSlot (a .parameters) (u + 1) - s ≡ blockSlots a s u k i
+  unfolding blockSlots
+  super-left d w = rw (d, w) refl
+
+  module _ (super : ℕ) (w : EnteredSuper a u (At super)) where
+    defined : not (isDirect a u) && superUndefined a u ≡ false
+    defined = ⊎-elim (λ (d : (isDirect a u ≡ true) × (super ≡ 0)). rw (d .0) refl) (λ d. rw (d .0, d .1) refl) w
+
+    pub gap-left : blockUndefined a u k ≡ true → blockElements (a .parameters) u - i ≡ blockSlots a s u k i
+    unfolding blockSlots
+    gap-left x = rw (defined, x) refl
+
+    module _ (at : ℕ) (x : EnteredBlock a u k (At at)) where
+      pub block-left : inPages (a .parameters) u ≡ false → blockElements (a .parameters) u - i ≡ blockSlots a s u k i
+      unfolding blockSlots
+      block-left q = rw (defined, x .0, q) refl
+
+      pub page-left : inPages (a .parameters) u ≡ true → pageElements (a .parameters) - i % pageElements (a .parameters) ≡ blockSlots a s u k i
+      unfolding blockSlots
+      page-left q = rw (defined, x .0, q) refl
 
 module _ (f : List ℕ) (array : ExtensibleArray) (s : ℕ) (t : TestedTo f array s) where
   abbrev a : Array

@@ -1,9 +1,11 @@
 // Runs of slots: where in the file the elements of a slot and of those that follow it lie.
+ghost use mathlib.Core.Path.{_≡_};
+ghost use Rattle.ea_geometry.specs.Place.{place};
 ghost use Rattle.ea_geometry.specs.Slots.{InBlock};
 ghost use Rattle.ea_blocks.specs.declared.enter.Entered.the-variants.{At};
 ghost use Rattle.ea_blocks.specs.Values.{arrayOf};
 ghost use Rattle.ea_blocks.specs.Entered.{EnteredSuper, EnteredBlock};
-ghost use Rattle.ea_list.specs.Values.{TestedTo, RunIn};
+ghost use Rattle.ea_list.specs.Values.{TestedTo, RunIn, slotsOf, blockSlots, runSlots};
 use ea_blocks::ExtensibleArray;
 use ea_blocks::pointers::Pointer;
 use ea_blocks::pointers::block_pointer;
@@ -15,7 +17,8 @@ use located::Run;
 // The run that a slot begins, where the path to it is accepted.
 pub fn run_of(file: &[u8], array: ExtensibleArray, slot: u64) -> Run
     requires { ⌜ TestedTo (now file) array slot ⌝ }
-    ensures { λ r. ⌜ RunIn (arrayOf (now (file .entry)) array) slot r ⌝ }
+    ensures { λ r. ⌜ (let a = arrayOf (now (file .entry)) array in
+        RunIn a slot r × (slotsOf r ≡ runSlots a slot (place (array .geometry .parameters) slot))) ⌝ }
 {
     match array.geometry.place_of(slot) {
         Place::Inline(i) => Run::Elements {
@@ -42,7 +45,7 @@ pub fn run_of(file: &[u8], array: ExtensibleArray, slot: u64) -> Run
 // where the pointer to its own is undefined.
 fn block_run(file: &[u8], array: ExtensibleArray, slot: u64, u: u64, k: u64, i: u64) -> Run
     requires { ⌜ TestedTo (now file) array slot × InBlock (array .geometry .parameters) slot u k i ⌝ }
-    ensures { λ r. ⌜ RunIn (arrayOf (now (file .entry)) array) slot r ⌝ }
+    ensures { λ r. ⌜ (let a = arrayOf (now (file .entry)) array in RunIn a slot r × (slotsOf r ≡ blockSlots a slot u k i)) ⌝ }
 {
     let geometry = array.geometry;
     let mut super_at = 0;
@@ -72,7 +75,7 @@ fn run_in_block(
 ) -> Run
     requires { ⌜ TestedTo (now file) array slot × InBlock (array .geometry .parameters) slot u k i
         × EnteredSuper (arrayOf (now file) array) u (At «super_at») × EnteredBlock (arrayOf (now file) array) u k (At at) ⌝ }
-    ensures { λ r. ⌜ RunIn (arrayOf (now (file .entry)) array) slot r ⌝ }
+    ensures { λ r. ⌜ (let a = arrayOf (now (file .entry)) array in RunIn a slot r × (slotsOf r ≡ blockSlots a slot u k i)) ⌝ }
 {
     let geometry = array.geometry;
     if !geometry.in_pages(u) {

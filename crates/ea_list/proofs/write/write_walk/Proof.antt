@@ -43,7 +43,7 @@ loopOf c = c .before .before .before
 
 -- the run that was found is the slot's
 found : (c : tie.After-run-of Inv-loop μ-loop) {q : Run} → c .run-of .result ≡ q → (l : List Rec) (w : Before (loopOf c) l) → RunOf (walkedIn w) (loopOf c .loop .slot) q
-found c e l w = subst (RunOf (walkedIn w) (loopOf c .loop .slot)) e (c .run-of .ensures _ refl (w .by .form))
+found c e l w = subst (RunOf (walkedIn w) (loopOf c .loop .slot)) e (c .run-of .ensures .0 _ refl (w .by .form))
 
 loop-less : tie.Need-loop-less Inv-loop μ-loop
 loop-less c =
