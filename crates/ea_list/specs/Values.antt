@@ -46,15 +46,15 @@ unfoldable pub slotsOf : Run → ℕ
 slotsOf (Gap n) = n
 slotsOf (Present pos n) = n
 
--- How many slots the run of slot s has, element i of data block k of super block u: up to the end of a super block that isn't there, else of
--- the page in a data block that is read by pages, else of the data block.
+-- How many slots the run of slot s has, which is element i of data block k of super block u: up to the end of the super
+-- block where that isn't there, else of the page in a data block that is read by pages, else of the data block.
 unfoldable pub blockSlots : Array → ℕ → ℕ → ℕ → ℕ → ℕ
 blockSlots a s u k i =
     let h = a .parameters in
     cond (not (isDirect a u) && superUndefined a u) (firstSlot h (u + 1) - s)
     (cond (not (blockUndefined a u k) && inPages h u) (pageElements h - i % pageElements h) (blockElements h u - i))
 
--- The same by the slot's place: up to the end of the inline elements; behind the last slot all are alike.
+-- The same by the slot's place. An inline slot's run goes up to the last of them; behind the last place there is no end.
 unfoldable pub runSlots : Array → ℕ → Place → ℕ
 runSlots a s (Inline i) = a .parameters .«idx_blk_elmts» - i
 runSlots a s (Block u k i) = blockSlots a s u k i

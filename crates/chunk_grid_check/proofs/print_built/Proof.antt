@@ -1,9 +1,6 @@
 -- `chunk_grid_check::print_built` is safe and ends. Assumes nothing.
-use mathlib.Core.Path.{_≡_, sym, _∙_}
+use mathlib.Core.Path.{sym, _∙_}
 use native.Mathlib.Omega.{arith}
-use Rattle.refusal.specs.declared.Checked.the-variants.{Passed}
-use Rattle.chunk_grid.specs.Grid.{gridTest}
-use Rattle.chunk_grid.specs.Values.{gridOf}
 use borrow.Author.Needs.{needs}
 use Rattle.chunk_grid_check.proofs.print_built.Statement.{statement}
 use Rattle.chunk_grid_check.proofs.print_built.Tie as tie
