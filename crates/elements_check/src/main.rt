@@ -28,15 +28,14 @@ fn print_found(found: Found) {
 // What the element at the beginning of a file holds for the chunk of a slot, in a dataset with elements of so many bytes;
 // nothing where the file is shorter.
 fn print_read(file: &[u8], form: Form, slot: u64, element_bytes: u64, grid: ChunkGrid) {
+    if let Checked::Refused(r) = grid.test() {
+        print_refusal(r);
+        return;
+    }
     let mut counts = [0u64; 32];
     let mut bound = [0u64; 32];
     let mut down = [0u64; 32];
     let numbering = grid.numbering(&mut counts, &mut bound, &mut down);
-    let tested = numbering.checked;
-    if let Checked::Refused(r) = tested {
-        print_refusal(r);
-        return;
-    }
     let chunk = grid.chunk;
     let reader = ElementReader::new(form, 3, grid.rank, &chunk, numbering, element_bytes);
     if form.stride() <= file.len() as u64 {
