@@ -4,7 +4,8 @@ CC = gcc
 CFLAGS = -std=c11 -O2 -Wall -Wextra -Werror
 VERSION = 0.1.0
 
-C_TESTS = test_checksum test_list test_list_call test_lookup test_dataset test_header test_spans test_eals test_hostile test_differences test_stack test_symbols test_fuzz test_example
+C_TESTS = test_checksum test_list test_list_call test_lookup test_dataset test_header test_spans test_eals \
+  test_hostile test_differences test_stack test_symbols test_fuzz test_example
 BENCHES = bench_checksum bench_list bench_lookup bench_worst
 
 # A folder with whole lists of questions and answers, of which tests/data has a part.
@@ -64,7 +65,8 @@ build/test_%: tests/c/test_%.c $(wildcard tests/c/*.h tests/fuzz/*.h) build/libc
 build/test_stack: CFLAGS += -pthread
 
 build/fuzz: $(wildcard tests/fuzz/*) $(wildcard tests/c/*.h) build/libcellumaq.a build/cellumaq.h
-	@$(CC) $(CFLAGS) -g -fsanitize=address,undefined -fno-sanitize-recover=all -Ibuild -Itests/c -o $@ tests/fuzz/fuzz.c build/libcellumaq.a
+	@$(CC) $(CFLAGS) -g -fsanitize=address,undefined -fno-sanitize-recover=all -Ibuild -Itests/c -o $@ \
+	  tests/fuzz/fuzz.c build/libcellumaq.a
 
 # The span listings are called from C in their test only.
 build/libspans_call.a: crates.txt $(shell find crates -name '*.rt' -o -name '*.antt') | tools
@@ -86,7 +88,8 @@ build/test_example: build/example_matcher
 build/demo_%: demo/%.c $(wildcard demo/*.h) build/libcellumaq.a build/cellumaq.h
 	@$(CC) $(CFLAGS) -Ibuild -o $@ $< build/libcellumaq.a
 
-# A dataset of 11 by 13 that the HDF5 library has written: offsets of 8 bytes, the index at 447, elements of 4 bytes, chunks of 4 by 4.
+# A dataset of 11 by 13 that the HDF5 library has written: offsets of 8 bytes, the index at 447, elements of 4 bytes,
+# chunks of 4 by 4.
 DATASET = tests/data/real/edge_ea.bin 8 8 447 4 4,4 11,13 '*,15'
 
 demo: build/demo_checksum build/demo_list build/demo_lookup
@@ -106,7 +109,8 @@ bench: $(BENCHES:%=build/%)
 # Files that the HDF5 library writes, where it is installed.
 test-real: lib
 	@if pkg-config --exists hdf5 2>/dev/null; then \
-	  $(CC) $(CFLAGS) -Ibuild -Itests/c -o build/real tests/real/real.c build/libcellumaq.a $$(pkg-config --cflags --libs hdf5) && build/real build; \
+	  $(CC) $(CFLAGS) -Ibuild -Itests/c -o build/real tests/real/real.c build/libcellumaq.a \
+	    $$(pkg-config --cflags --libs hdf5) && build/real build; \
 	else echo $(NO_HDF5); fi
 
 NO_HDF5 = "skipped: the HDF5 library (Debian: libhdf5-dev) isn't installed, or pkg-config doesn't know it."
@@ -119,8 +123,8 @@ install: lib
 	@cp build/libcellumaq.a $(DESTDIR)$(PREFIX)/lib/libcellumaq.a
 	@cp build/cellumaq.h $(DESTDIR)$(PREFIX)/include/cellumaq.h
 	@printf '%s\n' 'prefix=$(PREFIX)' 'libdir=$${prefix}/lib' 'includedir=$${prefix}/include' '' 'Name: cellumaq' \
-	  'Description: Proved reader of HDF5 extensible array chunk indexes' 'Version: $(VERSION)' 'Libs: -L$${libdir} -lcellumaq' \
-	  'Cflags: -I$${includedir}' >$(DESTDIR)$(PREFIX)/lib/pkgconfig/cellumaq.pc
+	  'Description: Proved reader of HDF5 extensible array chunk indexes' 'Version: $(VERSION)' \
+	  'Libs: -L$${libdir} -lcellumaq' 'Cflags: -I$${includedir}' >$(DESTDIR)$(PREFIX)/lib/pkgconfig/cellumaq.pc
 	@echo "libcellumaq.a, cellumaq.h and cellumaq.pc are in $(DESTDIR)$(PREFIX)."
 
 clean:

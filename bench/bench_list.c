@@ -56,7 +56,8 @@ static uint64_t digest(const uint8_t *list, size_t rank, uint64_t count)
     uint64_t sum = 0;
 
     for (uint64_t i = 0; i < count; i++) {
-        uint64_t of_record = 3 * cellumaq_record_address(list, rank, i) + 5 * (uint64_t)cellumaq_record_chunk_size(list, rank, i) +
+        uint64_t of_record = 3 * cellumaq_record_address(list, rank, i) +
+                             5 * (uint64_t)cellumaq_record_chunk_size(list, rank, i) +
                              7 * (uint64_t)cellumaq_record_mask(list, rank, i);
 
         for (size_t d = 0; d < rank; d++)
@@ -97,8 +98,8 @@ static double rust_seconds(const struct dataset *s, const char *path, uint64_t *
     FILE *text = open_memstream(&command, &length);
     double best = -1;
 
-    fprintf(text, "build/bench/list %s %u %u %zu %" PRIu64 " %" PRIu64 " %d", path, s->array.of.offset_size, s->array.of.length_size, s->array.header,
-            s->grid.element_bytes, s->grid.order, ROUNDS);
+    fprintf(text, "build/bench/list %s %u %u %zu %" PRIu64 " %" PRIu64 " %d", path, s->array.of.offset_size,
+            s->array.of.length_size, s->array.header, s->grid.element_bytes, s->grid.order, ROUNDS);
     print_shape(text, s->grid.chunk, s->grid.rank);
     print_shape(text, s->grid.present, s->grid.rank);
     print_shape(text, s->grid.maximum, s->grid.rank);
@@ -127,7 +128,8 @@ static int measured(const char *name, struct dataset *s, size_t entry_count, int
 
     snprintf(path, sizeof path, "build/bench/%s.bin", name);
     FILE *file = fopen(path, "wb");
-    if (file == NULL || list == NULL || fwrite(s->array.bytes, 1, s->array.length, file) != s->array.length || fclose(file) != 0) {
+    if (file == NULL || list == NULL || fwrite(s->array.bytes, 1, s->array.length, file) != s->array.length ||
+        fclose(file) != 0) {
         printf("cannot write %s\n", path);
         return 1;
     }
@@ -167,7 +169,8 @@ int main(void)
 
     if (rust != NULL)
         fclose(rust);
-    printf("%-8s %10s %10s %16s %12s %10s\n", "list", "bytes", "records", "Cellumaq ns/rec.", "Rust ns/rec.", "of Rust's");
+    printf("%-8s %10s %10s %16s %12s %10s\n", "list", "bytes", "records", "Cellumaq ns/rec.", "Rust ns/rec.",
+           "of Rust's");
 
     s.grid.present[0] = 10 * SLOTS_MOST;
     failed |= measured("dense", &s, dense(), rust != NULL);
@@ -176,13 +179,13 @@ int main(void)
     s.array.of = layouts[1];
     failed |= measured("filtered", &s, with_sizes(), rust != NULL);
 
-    s.grid = (struct grid){.element_bytes = 4, .order = 1, .rank = 3, .chunk = {4, 8, 8}, .present = {4 * 10000, 80, 80}, .has_maximum = 1,
-                           .maximum = {CELLUMAQ_UNLIMITED, 80, 80}};
+    s.grid = (struct grid){.element_bytes = 4, .order = 1, .rank = 3, .chunk = {4, 8, 8},
+                           .present = {4 * 10000, 80, 80}, .has_maximum = 1, .maximum = {CELLUMAQ_UNLIMITED, 80, 80}};
     failed |= measured("sparse", &s, sparse(), rust != NULL);
 
     s.array.of = layouts[0];
-    s.grid = (struct grid){.element_bytes = 4, .order = 1, .rank = 2, .chunk = {10, 10}, .present = {10 * 2494, 4000}, .has_maximum = 1,
-                           .maximum = {CELLUMAQ_UNLIMITED, 4010}};
+    s.grid = (struct grid){.element_bytes = 4, .order = 1, .rank = 2, .chunk = {10, 10}, .present = {10 * 2494, 4000},
+                           .has_maximum = 1, .maximum = {CELLUMAQ_UNLIMITED, 4010}};
     failed |= measured("plane", &s, plane(), rust != NULL);
     return failed;
 }

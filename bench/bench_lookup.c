@@ -71,7 +71,8 @@ static int measured(const char *name, const struct call *c, looked_up *lookup, u
 
 int main(void)
 {
-    struct dataset s = {.array = {.of = layouts[0], .count = SLOTS_MOST, .entries = entries, .entry_count = dense()}, .grid = grids[1]};
+    struct dataset s = {.array = {.of = layouts[0], .count = SLOTS_MOST, .entries = entries, .entry_count = dense()},
+                        .grid = grids[1]};
     int failed = 0;
 
     s.grid.present[0] = 10 * SLOTS_MOST;

@@ -16,8 +16,9 @@ enum shape { NONE_PRESENT, HALF_PRESENT };
 
 static struct cellumaq_dataset described(const struct array *a, enum shape shape, uint64_t rank)
 {
-    struct cellumaq_dataset d = {.file = a->bytes, .file_length = a->length, .offset_size = a->of.offset_size, .length_size = a->of.length_size,
-                                 .element_bytes = 1, .order = CELLUMAQ_UNLIMITED_FIRST, .rank = rank};
+    struct cellumaq_dataset d = {.file = a->bytes, .file_length = a->length, .offset_size = a->of.offset_size,
+                                 .length_size = a->of.length_size, .element_bytes = 1,
+                                 .order = CELLUMAQ_UNLIMITED_FIRST, .rank = rank};
 
     for (size_t i = 0; i < rank; i++) {
         d.chunk[i] = 1;
@@ -67,8 +68,8 @@ static void measure(unsigned u, enum shape shape, uint64_t rank, int whole)
     double checksum = hostile_seconds(u, (uint64_t)1 << u, MEASURED, shape, rank) / MEASURED;
     double elements = hostile_seconds(u, UINT64_MAX, MEASURED, shape, rank) / MEASURED - checksum;
 
-    printf("%10zu %8.0f %10.0f %6" PRIu64 " %12.3f %16.1f %12.2f", a.length, blocks, each, rank, 1e9 * checksum / (2 * each), 1e9 * elements / each,
-           blocks * (checksum + walks * elements));
+    printf("%10zu %8.0f %10.0f %6" PRIu64 " %12.3f %16.1f %12.2f", a.length, blocks, each, rank,
+           1e9 * checksum / (2 * each), 1e9 * elements / each, blocks * (checksum + walks * elements));
     if (whole)
         printf(" %12.2f", hostile_seconds(u, UINT64_MAX, UINT64_MAX, shape, rank));
     printf("\n");
@@ -100,7 +101,8 @@ int main(void)
 {
     static const uint64_t ranks[] = {1, 3, 32};
 
-    printf("%10s %8s %10s %6s %12s %16s %12s %12s\n", "hostile", "blocks", "elements", "rank", "ns per byte", "ns per element", "s computed", "s measured");
+    printf("%10s %8s %10s %6s %12s %16s %12s %12s\n", "hostile", "blocks", "elements", "rank", "ns per byte",
+           "ns per element", "s computed", "s measured");
     for (size_t i = 0; i < sizeof ranks / sizeof *ranks; i++) {
         measure(23, NONE_PRESENT, ranks[i], 1);
         measure(35, NONE_PRESENT, ranks[i], 0);

@@ -19,6 +19,7 @@ int main(int argc, char **argv)
     if (a.count == 0)
         printf("corner %s: no chunk\n", text);
     else
-        printf("corner %s: %" PRIu64 " bytes at %" PRIu64 ", filter mask %" PRIu64 "\n", text, a.size, a.address, a.mask);
+        printf("corner %s: %" PRIu64 " bytes at %" PRIu64 ", filter mask %" PRIu64 "\n", text, a.size, a.address,
+               a.mask);
     return 0;
 }

@@ -97,8 +97,9 @@ static void print_chunk(const struct cellumaq_dataset *d, uint64_t row, uint64_t
     else if (a.count == 0)
         printf("the chunk at row %" PRIu64 ", column %" PRIu64 " was never written\n", row, column);
     else
-        printf("the chunk at row %" PRIu64 ", column %" PRIu64 ": %" PRIu64 " bytes at %" PRIu64 ", filter mask %" PRIu64
-               "\n", row, column, a.size, a.address, a.mask);
+        printf("the chunk at row %" PRIu64 ", column %" PRIu64 ": %" PRIu64 " bytes at %" PRIu64
+               ", filter mask %" PRIu64 "\n",
+               row, column, a.size, a.address, a.mask);
 }
 
 /* All bytes of a file, or NULL. */

@@ -111,7 +111,7 @@ struct cellumaq_dataset {
                              * since an HDF5 file begins otherwise */
     uint64_t element_bytes; /* of one element of the dataset. The size of a chunk that isn't filtered is the product of
                              * the chunk's lengths and this; forgotten: 30 at the first such chunk */
-    uint64_t order;         /* enum cellumaq_order: CELLUMAQ_UNLIMITED_FIRST; forgotten: row-major, which gives the same,
+    uint64_t order; /* enum cellumaq_order: CELLUMAQ_UNLIMITED_FIRST; forgotten: row-major, which gives the same,
                              * or 7 or 8 */
     uint64_t rank;          /* how many dimensions the dataset has, 0 to 32; forgotten: 3, as wherever a shape has a
                              * length behind the rank */
@@ -235,7 +235,8 @@ static inline void cellumaq_put_arguments(struct cellumaq_arguments *a, const st
             a->maximum_length = 0;
 }
 
-/* cellumaq_list() and cellumaq_lookup() of a dataset. A corner has an offset for each dimension; NULL is one without offsets. */
+/* cellumaq_list() and cellumaq_lookup() of a dataset. A corner has an offset for each dimension; NULL is one without
+ * offsets. */
 static inline uint64_t cellumaq_list_dataset(const struct cellumaq_dataset *d, uint8_t *list, size_t list_length,
                                              uint64_t which)
 {

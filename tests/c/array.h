@@ -267,7 +267,8 @@ static inline void array_data_blocks(struct array *a, size_t pointers, size_t bi
 static inline size_t array_super_block(struct array *a, uint64_t u, uint64_t slot)
 {
     size_t head = array_block_head(&a->of), bits = (array_pages(&a->of, u) + 7) / 8 * array_blocks(u);
-    size_t length = head + bits + array_blocks(u) * a->of.offset_size + 4, block = array_structure(a, "EASB", length, slot);
+    size_t length = head + bits + array_blocks(u) * a->of.offset_size + 4,
+           block = array_structure(a, "EASB", length, slot);
 
     array_put(a->bytes + block + array_head(&a->of), slot - a->of.inline_count, head - array_head(&a->of));
     array_data_blocks(a, block + head + bits, block + head, u, slot);
@@ -278,7 +279,8 @@ static inline size_t array_super_block(struct array *a, uint64_t u, uint64_t slo
 static inline size_t array_index_block(struct array *a)
 {
     const struct array_parameters *p = &a->of;
-    size_t length = array_index_block_size(p), block = array_structure(a, "EAIB", length, 0), at = block + array_head(p);
+    size_t length = array_index_block_size(p), block = array_structure(a, "EAIB", length, 0),
+           at = block + array_head(p);
     uint64_t slot = p->inline_count;
 
     array_elements(a, at, 0, p->inline_count);
@@ -318,7 +320,10 @@ static inline void array_build(struct array *a)
 
     array_begin(a);
     array_structure(a, "EAHD", length, 0);
-    memcpy(a->bytes + a->header + 5, (uint8_t[]){p->client, p->element_size, p->max_bits, p->inline_count, p->least, p->minimum, p->page_exponent}, 7);
+    memcpy(
+        a->bytes + a->header + 5,
+        (uint8_t[]){p->client, p->element_size, p->max_bits, p->inline_count, p->least, p->minimum, p->page_exponent},
+        7);
     memset(a->bytes + a->header + 12, 0xab, 6u * p->length_size);
     array_put(a->bytes + a->header + 12 + 4 * p->length_size, a->count, p->length_size);
     size_t index_block = array_index_block(a);

@@ -12,16 +12,16 @@
 
 static inline uint64_t call_list(const struct call *c, uint8_t *list, size_t list_length, uint64_t which)
 {
-    return cellumaq_list(c->file.bytes, c->file.length, c->offset_size, c->length_size, c->address, c->element_bytes, c->order, c->rank, c->chunk.bytes,
-                         c->chunk.length, c->present.bytes, c->present.length, c->has_maximum, c->maximum.bytes, c->maximum.length, list, list_length,
-                         which);
+    return cellumaq_list(c->file.bytes, c->file.length, c->offset_size, c->length_size, c->address, c->element_bytes,
+                         c->order, c->rank, c->chunk.bytes, c->chunk.length, c->present.bytes, c->present.length,
+                         c->has_maximum, c->maximum.bytes, c->maximum.length, list, list_length, which);
 }
 
 static inline uint64_t call_lookup(const struct call *c, const uint8_t *corner, size_t corner_length, uint64_t which)
 {
-    return cellumaq_lookup(c->file.bytes, c->file.length, c->offset_size, c->length_size, c->address, c->element_bytes, c->order, c->rank,
-                           c->chunk.bytes, c->chunk.length, c->present.bytes, c->present.length, c->has_maximum, c->maximum.bytes, c->maximum.length,
-                           corner, corner_length, which);
+    return cellumaq_lookup(c->file.bytes, c->file.length, c->offset_size, c->length_size, c->address, c->element_bytes,
+                           c->order, c->rank, c->chunk.bytes, c->chunk.length, c->present.bytes, c->present.length,
+                           c->has_maximum, c->maximum.bytes, c->maximum.length, corner, corner_length, which);
 }
 
 /* Every argument that picks a number, and some that give the refusal again. The count comes first: it says what may be
@@ -45,7 +45,8 @@ static inline struct call call_lend(const struct call *c, int turn)
     const uint8_t *at[CALL_LAST];
 
     for (int i = 0; i < CALL_LAST; i++)
-        at[i] = lent_put(&call_lent[i], call_slice(c, i)->bytes, call_slice(c, i)->length, (enum lent_where)((turn + i) % 3));
+        at[i] = lent_put(&call_lent[i], call_slice(c, i)->bytes, call_slice(c, i)->length,
+                         (enum lent_where)((turn + i) % 3));
     lent.file.bytes = at[CALL_FILE];
     lent.chunk.bytes = at[CALL_CHUNK];
     lent.present.bytes = at[CALL_PRESENT];
@@ -68,7 +69,8 @@ static inline struct cellumaq_answer call_answer(const uint64_t picked[CALL_PICK
 
     for (int i = 7; i < CALL_PICKS; i++)
         CHECK(picked[i] == a.refusal, "%s: another argument doesn't give the refusal", what);
-    CHECK(a.refusal == 0 ? a.first == 0 && a.second == 0 : a.count == 0, "%s: figures without a refusal, or records with one", what);
+    CHECK(a.refusal == 0 ? a.first == 0 && a.second == 0 : a.count == 0,
+          "%s: figures without a refusal, or records with one", what);
     CHECK(a.count != 0 || (a.address == 0 && a.size == 0 && a.mask == 0), "%s: a record that isn't there", what);
     return a;
 }
@@ -80,7 +82,8 @@ static inline uint8_t call_fill(size_t i, int turn)
 
 /* Asks for the list. Its records are left in `records`, which has room for the whole list; it may be NULL where the
  * list has no bytes. */
-static inline struct cellumaq_answer ask_list(const struct call *c, size_t list_length, uint8_t *records, const char *what)
+static inline struct cellumaq_answer ask_list(const struct call *c, size_t list_length, uint8_t *records,
+                                              const char *what)
 {
     size_t record = cellumaq_record_size(c->rank), fit = c->rank <= 32 ? list_length / record : 0, written = 0;
     uint8_t *before = malloc(list_length + 1);
@@ -103,7 +106,8 @@ static inline struct cellumaq_answer ask_list(const struct call *c, size_t list_
         }
         list = call_lent[CALL_LAST].slice;
         CHECK(written == 0 || memcmp(list, records, written) == 0, "%s: other records at another call", what);
-        CHECK(memcmp(list + written, before + written, list_length - written) == 0, "%s: bytes behind the records were written", what);
+        CHECK(memcmp(list + written, before + written, list_length - written) == 0,
+              "%s: bytes behind the records were written", what);
     }
     free(before);
     struct cellumaq_answer a = call_answer(picked, what);
@@ -117,7 +121,8 @@ static inline struct cellumaq_answer ask_lookup(const struct call *c, struct sli
     uint64_t picked[CALL_PICKS];
 
     for (int turn = 0; turn < CALL_PICKS; turn++) {
-        uint8_t *corner_at = lent_put(&call_lent[CALL_LAST], corner.bytes, corner.length, (enum lent_where)((turn + CALL_LAST) % 3));
+        uint8_t *corner_at = lent_put(&call_lent[CALL_LAST], corner.bytes, corner.length,
+                                      (enum lent_where)((turn + CALL_LAST) % 3));
         struct call lent = call_lend(c, turn);
 
         picked[turn] = call_lookup(&lent, corner_at, corner.length, call_picks[turn]);
@@ -128,11 +133,12 @@ static inline struct cellumaq_answer ask_lookup(const struct call *c, struct sli
     return a;
 }
 
-static inline void check_refused(struct cellumaq_answer a, uint64_t refusal, uint64_t first, uint64_t second, const char *what)
+static inline void check_refused(struct cellumaq_answer a, uint64_t refusal, uint64_t first, uint64_t second,
+                                 const char *what)
 {
     CHECK(a.refusal == refusal && a.first == first && a.second == second,
-          "%s: refusal %" PRIu64 " with %" PRIu64 " and %" PRIu64 ", not %" PRIu64 " with %" PRIu64 " and %" PRIu64, what, a.refusal, a.first,
-          a.second, refusal, first, second);
+          "%s: refusal %" PRIu64 " with %" PRIu64 " and %" PRIu64 ", not %" PRIu64 " with %" PRIu64 " and %" PRIu64,
+          what, a.refusal, a.first, a.second, refusal, first, second);
 }
 
 /* The record of a corner in a list, or NULL. */

@@ -31,8 +31,9 @@ static inline struct call dataset_call(struct dataset *s)
 {
     const struct grid *g = &s->grid;
     const struct array *a = &s->array;
-    struct call c = {.file = {a->bytes, a->length}, .offset_size = a->of.offset_size, .length_size = a->of.length_size, .address = a->header,
-                     .element_bytes = g->element_bytes, .order = g->order, .rank = g->rank, .has_maximum = g->has_maximum};
+    struct call c = {.file = {a->bytes, a->length}, .offset_size = a->of.offset_size,
+                     .length_size = a->of.length_size, .address = a->header, .element_bytes = g->element_bytes,
+                     .order = g->order, .rank = g->rank, .has_maximum = g->has_maximum};
 
     c.chunk = dataset_shape(g->chunk, g->rank, s->shapes[0]);
     c.present = dataset_shape(g->present, g->rank, s->shapes[1]);

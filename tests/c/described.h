@@ -11,16 +11,16 @@ static inline int is_described(const struct call *c)
 {
     size_t length = 8 * c->rank;
 
-    return c->rank > CELLUMAQ_RANK_MOST ||
-           (c->chunk.length == length && c->present.length == length && (c->has_maximum == 0 || c->maximum.length == length));
+    return c->rank > CELLUMAQ_RANK_MOST || (c->chunk.length == length && c->present.length == length &&
+                                            (c->has_maximum == 0 || c->maximum.length == length));
 }
 
 /* The dataset of such a call. */
 static inline struct cellumaq_dataset described(const struct call *c)
 {
-    struct cellumaq_dataset d = {.file = c->file.bytes, .file_length = c->file.length, .offset_size = c->offset_size, .length_size = c->length_size,
-                                 .address = c->address, .element_bytes = c->element_bytes, .order = c->order,
-                                 .rank = c->rank};
+    struct cellumaq_dataset d = {.file = c->file.bytes, .file_length = c->file.length, .offset_size = c->offset_size,
+                                 .length_size = c->length_size, .address = c->address,
+                                 .element_bytes = c->element_bytes, .order = c->order, .rank = c->rank};
     const struct slice *maximum = c->has_maximum != 0 ? &c->maximum : &c->present;
 
     for (size_t i = 0; i < c->rank && c->rank <= CELLUMAQ_RANK_MOST; i++) {
@@ -31,8 +31,8 @@ static inline struct cellumaq_dataset described(const struct call *c)
     return d;
 }
 
-/* The call that answers as the struct is to: elements without bytes are too large, and a maximum below the present shape
- * is of another rank. */
+/* The call that answers as the struct is to: elements without bytes are too large, and a maximum below the present
+ * shape is of another rank. */
 static inline struct call plain_call(const struct call *c)
 {
     struct call plain = *c;

@@ -24,8 +24,10 @@ static inline struct hostile hostile_array(unsigned u, uint64_t count, uint64_t 
 
     a.of.max_bits = (uint8_t)u;
     array_build(&a);
-    size_t head = array_block_head(&a.of), block_length = head + array_block_elements(&a.of, u) * 2 + 4, super_length = head + array_blocks(u) * 2 + 4;
-    size_t index = a.structures[1].start, block = array_structure(&a, "EADB", block_length, 0), super = block + HOSTILE_SUPER_AT;
+    size_t head = array_block_head(&a.of), block_length = head + array_block_elements(&a.of, u) * 2 + 4,
+           super_length = head + array_blocks(u) * 2 + 4;
+    size_t index = a.structures[1].start, block = array_structure(&a, "EADB", block_length, 0),
+           super = block + HOSTILE_SUPER_AT;
 
     memset(a.bytes + block + head, 1, block_length - head);
     memcpy(a.bytes + super, "EASB", 4);
@@ -48,8 +50,10 @@ static inline struct array clear_pages_array(void)
     a.of.page_exponent = 0;
     array_build(&a);
     uint64_t blocks = array_blocks(u);
-    size_t head = array_block_head(&a.of), bits = blocks * array_pages(&a.of, u) / 8, length = head + bits + 2 * blocks + 4;
-    size_t index = a.structures[1].start, block = array_structure(&a, "EADB", head + 4, 0), super = array_structure(&a, "EASB", length, 0);
+    size_t head = array_block_head(&a.of), bits = blocks * array_pages(&a.of, u) / 8,
+           length = head + bits + 2 * blocks + 4;
+    size_t index = a.structures[1].start, block = array_structure(&a, "EADB", head + 4, 0),
+           super = array_structure(&a, "EASB", length, 0);
 
     for (uint64_t k = 0; k < blocks; k++)
         array_put(a.bytes + super + head + bits + 2 * k, block, 2);

@@ -7,7 +7,8 @@
 #include "calls.h"
 #include "samples.h"
 
-static inline void check_refusal(const struct call *c, uint64_t refusal, uint64_t first, uint64_t second, const char *what)
+static inline void check_refusal(const struct call *c, uint64_t refusal, uint64_t first, uint64_t second,
+                                 const char *what)
 {
     uint8_t records[4096];
 
@@ -22,11 +23,13 @@ static inline void check_same(const struct call *c, const struct dataset *s, con
 
     length = count * record + random_below((uint32_t)record);
     struct cellumaq_answer a = ask_list(c, length, records, what);
-    CHECK(a.refusal == 0 && a.count == count, "%s: refusal %" PRIu64 ", %" PRIu64 " records, not %zu", what, a.refusal, a.count, count);
+    CHECK(a.refusal == 0 && a.count == count, "%s: refusal %" PRIu64 ", %" PRIu64 " records, not %zu", what, a.refusal,
+          a.count, count);
     CHECK(a.count != count || memcmp(records, expected, count * record) == 0, "%s: other records", what);
     if (count != 0) {
         a = ask_list(c, count * record - 1, records, what);
-        CHECK(a.refusal == CELLUMAQ_REFUSED_LIST_TOO_SMALL && a.first == count && a.second == 0, "%s: refusal %" PRIu64 " of too small a list", what, a.refusal);
+        CHECK(a.refusal == CELLUMAQ_REFUSED_LIST_TOO_SMALL && a.first == count && a.second == 0,
+              "%s: refusal %" PRIu64 " of too small a list", what, a.refusal);
     }
     free(expected);
     free(records);

@@ -34,11 +34,14 @@ static void lengths_and_alignments(void)
                 }
                 memcpy(before, memory, sizeof memory);
                 uint32_t expected = lookup3_reference(memory + start, length, 0);
-                CHECK(cellumaq_checksum(memory + start, length) == expected, "fill %d, start %zu, length %zu", fill, start, length);
+                CHECK(cellumaq_checksum(memory + start, length) == expected, "fill %d, start %zu, length %zu", fill,
+                      start, length);
                 memset(memory, 0x5a, start);
                 memset(memory + start + length, 0x5a, sizeof memory - start - length);
-                CHECK(cellumaq_checksum(memory + start, length) == expected, "bytes outside the slice, start %zu, length %zu", start, length);
-                CHECK(memcmp(memory + start, before + start, length) == 0, "the slice was written, start %zu, length %zu", start, length);
+                CHECK(cellumaq_checksum(memory + start, length) == expected,
+                      "bytes outside the slice, start %zu, length %zu", start, length);
+                CHECK(memcmp(memory + start, before + start, length) == 0,
+                      "the slice was written, start %zu, length %zu", start, length);
             }
         }
     }

@@ -20,7 +20,8 @@ static struct grid grid_of(uint64_t rank)
 }
 
 /* The lookup of the corner with these offsets in the first and in the last dimension, and 0 in the others. */
-static void check_corner(const struct call *c, uint64_t first, uint64_t last, struct cellumaq_answer expected, const char *what)
+static void check_corner(const struct call *c, uint64_t first, uint64_t last, struct cellumaq_answer expected,
+                         const char *what)
 {
     struct cellumaq_dataset d = described(c);
     uint64_t corner[DATASET_RANK] = {first};
@@ -29,7 +30,8 @@ static void check_corner(const struct call *c, uint64_t first, uint64_t last, st
     if (c->rank > 1)
         corner[c->rank - 1] = last;
     struct cellumaq_answer a = cellumaq_ask_lookup(&d, corner);
-    CHECK(memcmp(&a, &expected, sizeof a) == 0, "%s: %" PRIu64 " and %" PRIu64 ": refusal %" PRIu64 ", %" PRIu64 " chunks, address %" PRIu64, what, first,
+    CHECK(memcmp(&a, &expected, sizeof a) == 0,
+          "%s: %" PRIu64 " and %" PRIu64 ": refusal %" PRIu64 ", %" PRIu64 " chunks, address %" PRIu64, what, first,
           last, a.refusal, a.count, a.address);
     check_described_lookup(c, dataset_shape(corner, c->rank, bytes), what);
 }
@@ -52,7 +54,8 @@ static void ranks(void)
             check_described_list(&c, length, what);
         check_corner(&c, 0, 0, (struct cellumaq_answer){.count = 1, .address = 4096, .size = bytes}, what);
         if (given[i] != 0) {
-            check_corner(&c, given[i] == 1 ? 4 : 0, 2, (struct cellumaq_answer){.count = 1, .address = 8192, .size = bytes}, what);
+            check_corner(&c, given[i] == 1 ? 4 : 0, 2,
+                         (struct cellumaq_answer){.count = 1, .address = 8192, .size = bytes}, what);
             check_corner(&c, given[i] == 1 ? 2 : 3, 0, absent, what);
             check_corner(&c, 1, 0, corner_refused, what);
             check_corner(&c, 6, 6, corner_refused, what);
@@ -67,7 +70,8 @@ static void ranks(void)
 /* No length and no offset is looked at where the rank is too large, whatever 8 * rank would be. */
 static void ranks_over_32(void)
 {
-    const uint64_t given[] = {33, 34, 256, ((uint64_t)1 << 32) + 1, (uint64_t)1 << 61, ((uint64_t)1 << 61) + 1, UINT64_MAX};
+    const uint64_t given[] = {33,        34, 256, ((uint64_t)1 << 32) + 1, (uint64_t)1 << 61, ((uint64_t)1 << 61) + 1,
+                              UINT64_MAX};
     const struct cellumaq_answer refused = {.refusal = CELLUMAQ_REFUSED_RANK};
     struct dataset s = worked(plain, grid_of(32));
     uint8_t list[1000];
@@ -82,8 +86,8 @@ static void ranks_over_32(void)
         check_described_lookup(&c, (struct slice){NULL, 0}, what);
         struct cellumaq_dataset d = described(&c);
         struct cellumaq_answer a = cellumaq_ask_list(&d, list, sizeof list), b = cellumaq_ask_lookup(&d, NULL);
-        CHECK(memcmp(&a, &refused, sizeof a) == 0 && memcmp(&b, &refused, sizeof b) == 0, "%s: refusals %" PRIu64 " and %" PRIu64, what, a.refusal,
-              b.refusal);
+        CHECK(memcmp(&a, &refused, sizeof a) == 0 && memcmp(&b, &refused, sizeof b) == 0,
+              "%s: refusals %" PRIu64 " and %" PRIu64, what, a.refusal, b.refusal);
     }
     array_free(&s.array);
 }
@@ -91,7 +95,8 @@ static void ranks_over_32(void)
 /* NULL is a slice without bytes. */
 static void null_slices(void)
 {
-    const struct cellumaq_answer no_file = {.refusal = CELLUMAQ_REFUSED_PAST_END, .first = 72}, no_list = {.refusal = CELLUMAQ_REFUSED_LIST_TOO_SMALL, .first = 2};
+    const struct cellumaq_answer no_file = {.refusal = CELLUMAQ_REFUSED_PAST_END, .first = 72},
+                                 no_list = {.refusal = CELLUMAQ_REFUSED_LIST_TOO_SMALL, .first = 2};
     struct dataset s = worked(plain, line);
     struct call c = dataset_call(&s);
     struct cellumaq_dataset d = described(&c);
@@ -118,10 +123,12 @@ static void forgotten_fields(void)
         const char *name;
         size_t offset, size;
         uint64_t list, lookup;
-    } fields[] = {{"file and its length", 0, 16, 20, 20}, {FIELD(offset_size), 1, 1}, {FIELD(length_size), 2, 2}, {FIELD(address), 21, 21},
-                  {FIELD(element_bytes), 30, 30}, {FIELD(order), 7, 7}, {FIELD(rank), 3, 3}, {FIELD(chunk), 6, 6}, {FIELD(present), 0, 10}, {FIELD(maximum), 5, 5}};
+    } fields[] = {{"file and its length", 0, 16, 20, 20}, {FIELD(offset_size), 1, 1}, {FIELD(length_size), 2, 2},
+                  {FIELD(address), 21, 21}, {FIELD(element_bytes), 30, 30}, {FIELD(order), 7, 7}, {FIELD(rank), 3, 3},
+                  {FIELD(chunk), 6, 6}, {FIELD(present), 0, 10}, {FIELD(maximum), 5, 5}};
     static const struct entry entries[] = {{5, 4096, 0, 0}};
-    struct dataset s = {.array = {.of = plain, .count = 6, .entries = entries, .entry_count = 1, .header = 100}, .grid = grids[6]};
+    struct dataset s = {.array = {.of = plain, .count = 6, .entries = entries, .entry_count = 1, .header = 100},
+                        .grid = grids[6]};
     uint64_t corner[] = {10, 10};
     uint8_t list[100];
     size_t all = 0;
@@ -129,14 +136,18 @@ static void forgotten_fields(void)
     array_build(&s.array);
     struct call c = dataset_call(&s);
     struct cellumaq_dataset whole = described(&c);
-    CHECK(cellumaq_ask_list(&whole, list, sizeof list).count == 1 && cellumaq_ask_lookup(&whole, corner).address == 4096, "no chunk at (10, 10)");
+    CHECK(cellumaq_ask_list(&whole, list, sizeof list).count == 1 &&
+              cellumaq_ask_lookup(&whole, corner).address == 4096,
+          "no chunk at (10, 10)");
     for (size_t i = 0; i < sizeof fields / sizeof *fields; i++) {
         struct cellumaq_dataset d = whole;
 
         memset((uint8_t *)&d + fields[i].offset, 0, fields[i].size);
         struct cellumaq_answer a = cellumaq_ask_list(&d, list, sizeof list), b = cellumaq_ask_lookup(&d, corner);
-        CHECK(a.count == 0 && a.refusal == fields[i].list, "%s: refusal %" PRIu64 " of the list", fields[i].name, a.refusal);
-        CHECK(b.count == 0 && b.refusal == fields[i].lookup, "%s: refusal %" PRIu64 " of the lookup", fields[i].name, b.refusal);
+        CHECK(a.count == 0 && a.refusal == fields[i].list, "%s: refusal %" PRIu64 " of the list", fields[i].name,
+              a.refusal);
+        CHECK(b.count == 0 && b.refusal == fields[i].lookup, "%s: refusal %" PRIu64 " of the lookup", fields[i].name,
+              b.refusal);
         all += fields[i].size;
     }
     CHECK(all == sizeof whole, "a field isn't among them");
@@ -158,13 +169,16 @@ static void lengths_that_do_not_fit(void)
         for (int shape = 0; shape < 3; shape++) {
             d = whole;
             (shape == 0 ? d.chunk : shape == 1 ? d.present : d.maximum)[3] = i + 1;
-            CHECK(cellumaq_ask_list(&d, NULL, 0).refusal == CELLUMAQ_REFUSED_RANK, "a fourth length of shape %d", shape);
+            CHECK(cellumaq_ask_list(&d, NULL, 0).refusal == CELLUMAQ_REFUSED_RANK, "a fourth length of shape %d",
+                  shape);
         }
         d = whole;
         d.maximum[i] = d.present[i];
-        CHECK(cellumaq_ask_list(&d, NULL, 0).refusal == CELLUMAQ_REFUSED_LIST_TOO_SMALL, "maximum %" PRIu64 " as at present", i);
+        CHECK(cellumaq_ask_list(&d, NULL, 0).refusal == CELLUMAQ_REFUSED_LIST_TOO_SMALL,
+              "maximum %" PRIu64 " as at present", i);
         d.maximum[i]--;
-        CHECK(cellumaq_ask_list(&d, NULL, 0).refusal == CELLUMAQ_REFUSED_MAXIMUM_RANK, "maximum %" PRIu64 " below the present length", i);
+        CHECK(cellumaq_ask_list(&d, NULL, 0).refusal == CELLUMAQ_REFUSED_MAXIMUM_RANK,
+              "maximum %" PRIu64 " below the present length", i);
     }
     array_free(&s.array);
 }

@@ -6,20 +6,24 @@
 #include "dataset.h"
 
 /* Slot s has the address 7 + s; a filtered one the size 5 and the mask 3. */
-static const struct entry entries[] = {{0, 7, 5, 3}, {1, 8, 5, 3}, {2, 9, 5, 3}, {3, 10, 5, 3}, {4, 11, 5, 3}, {5, 12, 5, 3}, {6, 13, 5, 3}};
+static const struct entry entries[] = {{0, 7, 5, 3},  {1, 8, 5, 3},  {2, 9, 5, 3}, {3, 10, 5, 3},
+                                       {4, 11, 5, 3}, {5, 12, 5, 3}, {6, 13, 5, 3}};
 
 /* A line of chunks of one element of one byte. */
-static const struct grid line = {.element_bytes = 1, .order = 1, .rank = 1, .chunk = {1}, .present = {9}, .has_maximum = 1, .maximum = {CELLUMAQ_UNLIMITED}};
+static const struct grid line = {.element_bytes = 1, .order = 1, .rank = 1, .chunk = {1}, .present = {9},
+                                 .has_maximum = 1, .maximum = {CELLUMAQ_UNLIMITED}};
 
 /* Offset size, length size, client, element size, max bits, inline count, least block elements, super block minimum,
  * page exponent. The first array has nothing but inline elements; the second none, super blocks 0 and 1 with one data
  * block of 1 and 2 elements that the index block names, and super block 2 with two of 2 elements. */
-static const struct array_parameters inline_only = {2, 2, 0, 2, 0, 2, 1, 0, 0}, blocks_only = {2, 2, 0, 2, 2, 0, 1, 2, 1};
+static const struct array_parameters inline_only = {2, 2, 0, 2, 0, 2, 1, 0, 0},
+                                     blocks_only = {2, 2, 0, 2, 2, 0, 1, 2, 1};
 enum { HEADER, INDEX, DIRECT_0, DIRECT_1, SUPER_2, BLOCK_0, BLOCK_1 };
 
 static struct dataset made(struct array_parameters of, uint64_t count)
 {
-    struct dataset s = {.array = {.of = of, .count = count, .entries = entries, .entry_count = count < 7 ? count : 7}, .grid = line};
+    struct dataset s = {.array = {.of = of, .count = count, .entries = entries, .entry_count = count < 7 ? count : 7},
+                        .grid = line};
 
     array_build(&s.array);
     return s;
@@ -50,8 +54,8 @@ static void expect_call(const struct call *c, const char *wanted)
     else
         at += sprintf(said, "A ");
     for (size_t i = 0; i < a.count; i++) {
-        at += sprintf(at, "%s%" PRIu64 ":%u:%u:", i == 0 ? "" : ";", cellumaq_record_address(list, c->rank, i), cellumaq_record_chunk_size(list, c->rank, i),
-                      cellumaq_record_mask(list, c->rank, i));
+        at += sprintf(at, "%s%" PRIu64 ":%u:%u:", i == 0 ? "" : ";", cellumaq_record_address(list, c->rank, i),
+                      cellumaq_record_chunk_size(list, c->rank, i), cellumaq_record_mask(list, c->rank, i));
         for (size_t d = 0; d < c->rank; d++)
             at += sprintf(at, "%s%" PRIu64, d == 0 ? "" : ",", cellumaq_record_offset(list, c->rank, i, d));
     }
@@ -109,8 +113,9 @@ static void sizes_are_not_cut(void)
 /* The Rust, each time: A 7:1:0:0;8:1:0:1 */
 static void served_headers(void)
 {
-    static const struct array_parameters beyond[] = {
-        {2, 2, 0, 2, 0, 2, 0, 0, 0}, {2, 2, 0, 2, 0, 2, 3, 0, 0}, {2, 2, 0, 2, 63, 2, 1, 0, 0}, {2, 2, 0, 2, 0, 2, 1, 33, 0}, {2, 2, 0, 2, 0, 2, 1, 0, 33}};
+    static const struct array_parameters beyond[] = {{2, 2, 0, 2, 0, 2, 0, 0, 0}, {2, 2, 0, 2, 0, 2, 3, 0, 0},
+                                                     {2, 2, 0, 2, 63, 2, 1, 0, 0}, {2, 2, 0, 2, 0, 2, 1, 33, 0},
+                                                     {2, 2, 0, 2, 0, 2, 1, 0, 33}};
 
     for (size_t i = 0; i < sizeof beyond / sizeof *beyond; i++)
         expect(made(beyond[i], 2), "R 27 0 0");
@@ -163,7 +168,8 @@ static void list_too_small(void)
     struct dataset s = made(inline_only, 2);
     struct call c = dataset_call(&s);
 
-    CHECK(call_list(&c, NULL, 0, CELLUMAQ_REFUSAL) == 9 && call_list(&c, NULL, 0, CELLUMAQ_FIRST_FIGURE) == 2, "not refused with 9 and 2");
+    CHECK(call_list(&c, NULL, 0, CELLUMAQ_REFUSAL) == 9 && call_list(&c, NULL, 0, CELLUMAQ_FIRST_FIGURE) == 2,
+          "not refused with 9 and 2");
     array_free(&s.array);
 }
 
@@ -172,7 +178,8 @@ static void chunk_bytes_are_exact(void)
 {
     static const uint64_t half = (uint64_t)1 << 31;
 
-    expect_on((struct grid){.element_bytes = 1, .rank = 3, .chunk = {half, half, 4}, .present = {1, 1, 1}}, "R 30 18446744073709551615 0");
+    expect_on((struct grid){.element_bytes = 1, .rank = 3, .chunk = {half, half, 4}, .present = {1, 1, 1}},
+              "R 30 18446744073709551615 0");
 }
 
 /* From the format specification. */
@@ -195,7 +202,8 @@ static void one_block_named_twice(void)
 {
     struct dataset s = made(blocks_only, 7);
 
-    set(&s, SUPER_2, array_block_head(&blocks_only) + 2, s.array.bytes[s.array.structures[SUPER_2].start + array_block_head(&blocks_only)]);
+    set(&s, SUPER_2, array_block_head(&blocks_only) + 2,
+        s.array.bytes[s.array.structures[SUPER_2].start + array_block_head(&blocks_only)]);
     expect(s, "A 7:1:0:0;8:1:0:1;9:1:0:2;10:1:0:3;11:1:0:4;10:1:0:5;11:1:0:6");
 }
 
@@ -233,7 +241,8 @@ static void paged_block_of_the_index_block(void)
 static void undefined_index_block(void)
 {
     struct dataset s = made(inline_only, 0);
-    size_t address = s.array.structures[HEADER].length - 6, index = s.array.structures[INDEX].start, length = s.array.structures[INDEX].length;
+    size_t address = s.array.structures[HEADER].length - 6, index = s.array.structures[INDEX].start,
+           length = s.array.structures[INDEX].length;
 
     set(&s, HEADER, address, 0xff);
     set(&s, HEADER, address + 1, 0xff);
@@ -280,11 +289,13 @@ static void element_sizes(void)
 static void sizes_from_4_gib(void)
 {
     static const struct entry large = {0, 7, (uint64_t)1 << 32, 3};
-    struct dataset s = {.array = {.of = {2, 2, 1, 11, 0, 1, 1, 0, 0}, .count = 1, .entries = &large, .entry_count = 1}, .grid = line};
+    struct dataset s = {.array = {.of = {2, 2, 1, 11, 0, 1, 1, 0, 0}, .count = 1, .entries = &large, .entry_count = 1},
+                        .grid = line};
 
     array_build(&s.array);
     expect(s, "R 30 4294967296 0");
-    expect_on((struct grid){.element_bytes = 1, .rank = 2, .chunk = {65536, 65536}, .present = {1, 1}}, "R 30 4294967296 0");
+    expect_on((struct grid){.element_bytes = 1, .rank = 2, .chunk = {65536, 65536}, .present = {1, 1}},
+              "R 30 4294967296 0");
 }
 
 /* Max bits below log2 m; a minimum of 3; more inline elements than a page has; more elements than that in the first
@@ -300,12 +311,16 @@ static void parameters_that_do_not_fit(void)
 static void shapes_that_no_dataset_has(void)
 {
     expect_on((struct grid){.element_bytes = 1, .rank = 0}, "A 7:1:0:;8:1:0:");
-    expect_on((struct grid){.element_bytes = 1, .rank = 1, .chunk = {1}, .present = {2}, .has_maximum = 1, .maximum = {1}}, "A 7:1:0:0;8:1:0:1");
+    expect_on(
+        (struct grid){.element_bytes = 1, .rank = 1, .chunk = {1}, .present = {2}, .has_maximum = 1, .maximum = {1}},
+        "A 7:1:0:0;8:1:0:1");
 }
 
 static void chunks_outside_the_present_shape(void)
 {
-    expect_on((struct grid){.element_bytes = 1, .rank = 1, .chunk = {1}, .present = {1}, .has_maximum = 1, .maximum = {2}}, "A 7:1:0:0");
+    expect_on(
+        (struct grid){.element_bytes = 1, .rank = 1, .chunk = {1}, .present = {1}, .has_maximum = 1, .maximum = {2}},
+        "A 7:1:0:0");
 }
 
 static void other_widths(void)

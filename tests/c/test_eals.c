@@ -23,7 +23,8 @@ static const char *eals(const char *line, size_t line_length, const uint8_t *fil
     static char printed[400000];
     FILE *in = fopen("build/eals.in", "wb");
 
-    if (in == NULL || fwrite(line, 1, line_length, in) != line_length || fwrite(file, 1, length, in) != length || fclose(in) != 0)
+    if (in == NULL || fwrite(line, 1, line_length, in) != line_length || fwrite(file, 1, length, in) != length ||
+        fclose(in) != 0)
         return "(no input)";
     if (system("build/eals <build/eals.in >build/eals.out") != 0)
         return "(no run)";
@@ -112,12 +113,37 @@ static void ranks(void)
 static void unreadable(void)
 {
     static const char *const lines[] = {
-        "", "\n", " \n", "8\n", "8 8 0 4 U 1 10 25 *", "8 8 0 4 U 1 10 25\n", "8 8 0 4 U 1 10 25 * \n", " 8 8 0 4 U 1 10 25 *\n",
-        "8  8 0 4 U 1 10 25 *\n", "8\t8 0 4 U 1 10 25 *\n", "8 8 0 4 U 1 10 25 * 7\n", "8 8 0 4 U 1 10 25 *\r\n", "256 8 0 4 U 1 10 25 *\n",
-        "8 256 0 4 U 1 10 25 *\n", "8 8 18446744073709551616 4 U 1 10 25 *\n", "8 8 0 99999999999999999999 U 1 10 25 *\n",
-        "8 8 0 4 U 1 10 25 18446744073709551616\n", "8 8 0 4 U 1 10 * *\n", "8 8 0 4 U 1 * 25 *\n", "8 8 0 4 U 1 10 25 **\n",
-        "8 8 0 4 u 1 10 25 *\n", "8 8 0 4 UR 1 10 25 *\n", "8 8 0 4 0 1 10 25 *\n", "8 8 -1 4 U 1 10 25 *\n", "8 8 +1 4 U 1 10 25 *\n",
-        "8 8 0x0 4 U 1 10 25 *\n", "8 8 0 4 U * 10 25 *\n", "8 8 0 4 U 0 \n", "8 8 0 4 U 0 1\n", "8 8 0 4 U\n", "8 8 0 4 U 2 10 25 *\n",
+        "",
+        "\n",
+        " \n",
+        "8\n",
+        "8 8 0 4 U 1 10 25 *",
+        "8 8 0 4 U 1 10 25\n",
+        "8 8 0 4 U 1 10 25 * \n",
+        " 8 8 0 4 U 1 10 25 *\n",
+        "8  8 0 4 U 1 10 25 *\n",
+        "8\t8 0 4 U 1 10 25 *\n",
+        "8 8 0 4 U 1 10 25 * 7\n",
+        "8 8 0 4 U 1 10 25 *\r\n",
+        "256 8 0 4 U 1 10 25 *\n",
+        "8 256 0 4 U 1 10 25 *\n",
+        "8 8 18446744073709551616 4 U 1 10 25 *\n",
+        "8 8 0 99999999999999999999 U 1 10 25 *\n",
+        "8 8 0 4 U 1 10 25 18446744073709551616\n",
+        "8 8 0 4 U 1 10 * *\n",
+        "8 8 0 4 U 1 * 25 *\n",
+        "8 8 0 4 U 1 10 25 **\n",
+        "8 8 0 4 u 1 10 25 *\n",
+        "8 8 0 4 UR 1 10 25 *\n",
+        "8 8 0 4 0 1 10 25 *\n",
+        "8 8 -1 4 U 1 10 25 *\n",
+        "8 8 +1 4 U 1 10 25 *\n",
+        "8 8 0x0 4 U 1 10 25 *\n",
+        "8 8 0 4 U * 10 25 *\n",
+        "8 8 0 4 U 0 \n",
+        "8 8 0 4 U 0 1\n",
+        "8 8 0 4 U\n",
+        "8 8 0 4 U 2 10 25 *\n",
     };
 
     for (size_t i = 0; i < sizeof lines / sizeof *lines; i++)
@@ -158,7 +184,8 @@ static void full_lists(void)
         entries[slot] = (struct entry){slot, UINT64_MAX - 1 - slot, 0, 0};
     array_build(&a);
     const char *printed = eals("8 8 0 1 U 1 1 5000 *\n", 21, a.bytes, a.length);
-    CHECK(strncmp(printed, "18446744073709551614 1 0 0\n18446744073709551613 1 0 1\n", 54) == 0, "the first records: %.60s", printed);
+    CHECK(strncmp(printed, "18446744073709551614 1 0 0\n18446744073709551613 1 0 1\n", 54) == 0,
+          "the first records: %.60s", printed);
     const char *end = strstr(printed, "records");
     CHECK(end != NULL && strcmp(end, "records 2730\n") == 0, "the end of a full list");
     array_free(&a);

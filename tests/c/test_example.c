@@ -20,7 +20,8 @@ static char *text_of(FILE *stream)
 static void example(void)
 {
     /* The index, a corner where no chunk begins, and an address where there is no index. */
-    FILE *run = popen(DATASET " 447 8 4; " DATASET " 447 8 5; " DATASET " 448 8 4", "r"), *kept = fopen("examples/matcher.txt", "r");
+    FILE *run = popen(DATASET " 447 8 4; " DATASET " 447 8 5; " DATASET " 448 8 4", "r"),
+         *kept = fopen("examples/matcher.txt", "r");
     char *printed = text_of(run), *expected = text_of(kept);
 
     CHECK(run != NULL && kept != NULL && strlen(expected) != 0, "no example, or no kept text");

@@ -19,7 +19,9 @@ static int runs(const char *format, const char *first, const char *second, const
 
 static void dialect(void)
 {
-    CHECK(runs("rm -f build/dialects; %s -x %s -std=%s " WARNINGS " -o build/dialects tests/c/dialects.c -x none build/libcellumaq.a", compiler, language, standard),
+    CHECK(runs("rm -f build/dialects; %s -x %s -std=%s " WARNINGS
+               " -o build/dialects tests/c/dialects.c -x none build/libcellumaq.a",
+               compiler, language, standard),
           "not compiled as %s", standard);
     CHECK(runs("build/dialects", "", "", ""), "other answers as %s", standard);
 }
@@ -27,9 +29,12 @@ static void dialect(void)
 /* The lines between ```c and ```. */
 static void readme_example(void)
 {
-    CHECK(runs("awk '/^```c$/ { inside = 1; next } /^```$/ { inside = 0 } inside' README.md >build/readme.c && grep -q cellumaq_ build/readme.c", "",
-               "", ""), "no example");
-    CHECK(runs("%s -std=c11 -Wall -Wextra -Werror -Ibuild -c -o build/readme.o build/readme.c", compiler, "", ""), "not compiled");
+    CHECK(runs("awk '/^```c$/ { inside = 1; next } /^```$/ { inside = 0 } inside' README.md >build/readme.c && grep -q "
+               "cellumaq_ build/readme.c",
+               "", "", ""),
+          "no example");
+    CHECK(runs("%s -std=c11 -Wall -Wextra -Werror -Ibuild -c -o build/readme.o build/readme.c", compiler, "", ""),
+          "not compiled");
 }
 
 static void run_dialect(const char *name, const char *with, const char *in, const char *as)

@@ -6,8 +6,8 @@
 #include "hostile.h"
 
 /* A line of chunks of one element of 3 bytes, as long as can be. */
-static const struct grid endless = {.element_bytes = 3, .order = 1, .rank = 1, .chunk = {1}, .present = {UINT64_MAX - 1}, .has_maximum = 1,
-                                    .maximum = {CELLUMAQ_UNLIMITED}};
+static const struct grid endless = {.element_bytes = 3, .order = 1, .rank = 1, .chunk = {1},
+                                    .present = {UINT64_MAX - 1}, .has_maximum = 1, .maximum = {CELLUMAQ_UNLIMITED}};
 
 /* Each slot of the super block has the address that its element has in the one data block. */
 static void check_again(unsigned u, uint64_t count)
@@ -15,12 +15,14 @@ static void check_again(unsigned u, uint64_t count)
     struct hostile h = hostile_array(u, count, UINT64_MAX);
     struct dataset s = {.array = h.array, .grid = endless};
     struct call c = dataset_call(&s);
-    uint64_t first = ((uint64_t)1 << u) - 1, elements = array_block_elements(&h.array.of, u), all = array_blocks(u) * elements;
+    uint64_t first = ((uint64_t)1 << u) - 1, elements = array_block_elements(&h.array.of, u),
+             all = array_blocks(u) * elements;
     uint64_t below = count <= first ? 0 : count - first < all ? count - first : all;
     uint8_t *list = malloc(all * 24), *expected = malloc(all * 24), *at = expected;
 
     for (uint64_t i = 0; i < below; i++) {
-        uint64_t address = cellumaq_get(h.array.bytes + h.block + array_block_head(&h.array.of) + 2 * (i % elements), 2);
+        uint64_t address = cellumaq_get(h.array.bytes + h.block + array_block_head(&h.array.of) + 2 * (i % elements),
+                                        2);
 
         if (address == 0xffff)
             continue;
@@ -30,10 +32,12 @@ static void check_again(unsigned u, uint64_t count)
         at += 24;
     }
     struct cellumaq_answer a = ask_list(&c, all * 24, list, "one block again and again");
-    CHECK(a.refusal == 0 && a.count == (uint64_t)(at - expected) / 24, "super block %u: refusal %" PRIu64 ", %" PRIu64 " records", u, a.refusal, a.count);
+    CHECK(a.refusal == 0 && a.count == (uint64_t)(at - expected) / 24,
+          "super block %u: refusal %" PRIu64 ", %" PRIu64 " records", u, a.refusal, a.count);
     CHECK(memcmp(list, expected, (size_t)(at - expected)) == 0, "super block %u: other records", u);
     for (uint64_t i = 0; i < a.count; i += 1 + i / 8)
-        CHECK(call_lookup(&c, list + 24 * i + 16, 8, CELLUMAQ_FOUND_ADDRESS) == cellumaq_get(list + 24 * i, 8), "super block %u: another lookup", u);
+        CHECK(call_lookup(&c, list + 24 * i + 16, 8, CELLUMAQ_FOUND_ADDRESS) == cellumaq_get(list + 24 * i, 8),
+              "super block %u: another lookup", u);
     free(list);
     free(expected);
     array_free(&s.array);
@@ -55,10 +59,12 @@ static void check_empty(struct array *array, const char *what)
     struct call c = dataset_call(&s);
     uint8_t corner[8];
 
-    CHECK(call_list(&c, NULL, 0, CELLUMAQ_REFUSAL) == 0 && call_list(&c, NULL, 0, CELLUMAQ_COUNT) == 0, "%s: not an empty list", what);
+    CHECK(call_list(&c, NULL, 0, CELLUMAQ_REFUSAL) == 0 && call_list(&c, NULL, 0, CELLUMAQ_COUNT) == 0,
+          "%s: not an empty list", what);
     for (int bit = 0; bit < 64; bit++) {
         cellumaq_put_length(corner, 0, ((uint64_t)1 << bit) - 1);
-        CHECK(call_lookup(&c, corner, 8, CELLUMAQ_REFUSAL) == 0 && call_lookup(&c, corner, 8, CELLUMAQ_COUNT) == 0, "%s: a chunk", what);
+        CHECK(call_lookup(&c, corner, 8, CELLUMAQ_REFUSAL) == 0 && call_lookup(&c, corner, 8, CELLUMAQ_COUNT) == 0,
+              "%s: a chunk", what);
     }
     array_free(array);
 }

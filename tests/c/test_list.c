@@ -27,7 +27,8 @@ static void check_checksum(const struct question *q, const char *answer, const c
 
 static int is_served(const struct array_parameters *p)
 {
-    return p->least != 0 && p->least <= 128 && (p->least & (p->least - 1)) == 0 && p->max_bits <= 62 && p->minimum <= 32 && p->page_exponent <= 32;
+    return p->least != 0 && p->least <= 128 && (p->least & (p->least - 1)) == 0 && p->max_bits <= 62 &&
+           p->minimum <= 32 && p->page_exponent <= 32;
 }
 
 /* A header has no call of its own, but it is read first in a list, and where it is accepted its fields say whether it
@@ -39,24 +40,30 @@ static void check_header(const struct question *q, const char *answer, const cha
     struct array_parameters p = {.offset_size = (uint8_t)q->call.offset_size};
 
     if (sscanf(answer, "refused %" SCNu64 " %" SCNu64 " %" SCNu64, &refusal, &first, &second) == 3) {
-        CHECK(a.refusal == refusal && a.first == first && a.second == second, "%s: refusal %" PRIu64 ", not %s", what, a.refusal, answer);
+        CHECK(a.refusal == refusal && a.first == first && a.second == second, "%s: refusal %" PRIu64 ", not %s", what,
+              a.refusal, answer);
         return;
     }
-    CHECK(sscanf(answer, "ok %hhu %hhu %hhu %hhu %hhu %hhu %hhu %" SCNu64 " %" SCNu64, &p.client, &p.element_size, &p.max_bits, &p.inline_count,
-                 &p.least, &p.minimum, &p.page_exponent, &count, &index_block) == 9, "%s: an answer of another form", what);
+    CHECK(sscanf(answer, "ok %hhu %hhu %hhu %hhu %hhu %hhu %hhu %" SCNu64 " %" SCNu64, &p.client, &p.element_size,
+                 &p.max_bits, &p.inline_count, &p.least, &p.minimum, &p.page_exponent, &count, &index_block) == 9,
+          "%s: an answer of another form", what);
     if (!is_served(&p)) {
-        CHECK(a.refusal == CELLUMAQ_REFUSED_HEADER_NOT_SERVED, "%s: refusal %" PRIu64 " of a header that isn't served", what, a.refusal);
+        CHECK(a.refusal == CELLUMAQ_REFUSED_HEADER_NOT_SERVED, "%s: refusal %" PRIu64 " of a header that isn't served",
+              what, a.refusal);
         return;
     }
     uint64_t size = array_index_block_size(&p), length = q->call.file.length;
     if (size > length || index_block > length - size) {
         uint64_t end = index_block > UINT64_MAX - size ? UINT64_MAX : index_block + size;
 
-        CHECK(a.refusal == CELLUMAQ_REFUSED_PAST_END && a.first == end && a.second == length, "%s: an index block that ends at %" PRIu64, what, end);
+        CHECK(a.refusal == CELLUMAQ_REFUSED_PAST_END && a.first == end && a.second == length,
+              "%s: an index block that ends at %" PRIu64, what, end);
     } else if (memcmp(q->call.file.bytes + index_block, "EAIB", 4) != 0) {
-        CHECK(a.refusal == CELLUMAQ_REFUSED_INDEX_BLOCK_SIGNATURE, "%s: refusal %" PRIu64 " of another signature", what, a.refusal);
+        CHECK(a.refusal == CELLUMAQ_REFUSED_INDEX_BLOCK_SIGNATURE, "%s: refusal %" PRIu64 " of another signature", what,
+              a.refusal);
     } else {
-        CHECK(a.refusal == 0 || a.refusal == CELLUMAQ_REFUSED_LIST_TOO_SMALL || (a.refusal >= 20 && a.refusal != 21 && a.refusal != 22 && a.refusal != 27),
+        CHECK(a.refusal == 0 || a.refusal == CELLUMAQ_REFUSED_LIST_TOO_SMALL ||
+                  (a.refusal >= 20 && a.refusal != 21 && a.refusal != 22 && a.refusal != 27),
               "%s: refusal %" PRIu64 " of an accepted header", what, a.refusal);
     }
 }
@@ -73,8 +80,8 @@ static char *list_line(struct cellumaq_answer a, const uint8_t *records, size_t 
     else
         fprintf(line, "ok %" PRIu64, a.count);
     for (size_t i = 0; i < a.count; i++) {
-        fprintf(line, " %" PRIu64 ",%u,%u", cellumaq_record_address(records, rank, i), cellumaq_record_chunk_size(records, rank, i),
-                cellumaq_record_mask(records, rank, i));
+        fprintf(line, " %" PRIu64 ",%u,%u", cellumaq_record_address(records, rank, i),
+                cellumaq_record_chunk_size(records, rank, i), cellumaq_record_mask(records, rank, i));
         for (size_t d = 0; d < rank; d++)
             fprintf(line, ",%" PRIu64, cellumaq_record_offset(records, rank, i, d));
     }
@@ -131,12 +138,16 @@ static void worked_example(void)
     uint8_t list[72];
     struct cellumaq_answer a = ask_list(&c, sizeof list, list, "the worked example");
 
-    CHECK(s.array.structures[0].length == 72 && s.array.structures[1].length == 282 && s.array.structures[2].length == 150, "sizes of the structures");
+    CHECK(s.array.structures[0].length == 72 && s.array.structures[1].length == 282 &&
+              s.array.structures[2].length == 150,
+          "sizes of the structures");
     CHECK(a.refusal == 0 && a.count == 2, "%" PRIu64 " records", a.count);
-    CHECK(cellumaq_record_address(list, 1, 0) == 4096 && cellumaq_record_chunk_size(list, 1, 0) == 40 && cellumaq_record_mask(list, 1, 0) == 0 &&
-          cellumaq_record_offset(list, 1, 0, 0) == 0, "the first record");
-    CHECK(cellumaq_record_address(list, 1, 1) == 8192 && cellumaq_record_chunk_size(list, 1, 1) == 40 && cellumaq_record_mask(list, 1, 1) == 0 &&
-          cellumaq_record_offset(list, 1, 1, 0) == 20, "the second record");
+    CHECK(cellumaq_record_address(list, 1, 0) == 4096 && cellumaq_record_chunk_size(list, 1, 0) == 40 &&
+              cellumaq_record_mask(list, 1, 0) == 0 && cellumaq_record_offset(list, 1, 0, 0) == 0,
+          "the first record");
+    CHECK(cellumaq_record_address(list, 1, 1) == 8192 && cellumaq_record_chunk_size(list, 1, 1) == 40 &&
+              cellumaq_record_mask(list, 1, 1) == 0 && cellumaq_record_offset(list, 1, 1, 0) == 20,
+          "the second record");
     array_free(&s.array);
 }
 
@@ -153,7 +164,8 @@ static void built_arrays(void)
 
         for (uint64_t count = 0; count <= slots + 1; count += count < 20 ? 1 : 1 + random_below(37)) {
             uint32_t chance = chances[random_below(4)];
-            struct dataset s = {.array = {.of = layouts[l], .count = count, .entries = entries, .header = random_below(70)}};
+            struct dataset s = {
+                .array = {.of = layouts[l], .count = count, .entries = entries, .header = random_below(70)}};
 
             s.array.entry_count = random_entries(entries, slots, chance);
             array_build(&s.array);
@@ -172,14 +184,18 @@ static void built_arrays(void)
 static void far_elements(void)
 {
     static const struct entry entries[] = {
-        {3, 4096, 7, 0}, {4, 4104, 7, 1}, {243, 4112, 7, 2}, {244, 4120, 7, 3}, {8180, 1, 7, 4}, {65523, 4136, 7, 5}, {131059, 2, 7, 6},
-        {131060, 4144, 7, 7}, {132083, 4152, 7, 0}, {132084, 4160, 7, 9}, {133107, 4168, 7, 8}, {262131, 4176, 7, UINT32_MAX}, {1048563, 0, 7, 1},
+        {3, 4096, 7, 0},      {4, 4104, 7, 1},      {243, 4112, 7, 2},    {244, 4120, 7, 3},
+        {8180, 1, 7, 4},      {65523, 4136, 7, 5},  {131059, 2, 7, 6},    {131060, 4144, 7, 7},
+        {132083, 4152, 7, 0}, {132084, 4160, 7, 9}, {133107, 4168, 7, 8}, {262131, 4176, 7, UINT32_MAX},
+        {1048563, 0, 7, 1},
     };
     char what[128];
 
     for (int l = 0; l < 2; l++) {
         for (size_t n = 0; n < sizeof entries / sizeof *entries; n++) {
-            struct dataset s = {.array = {.of = layouts[l], .count = entries[n].slot + 1, .entries = entries + n, .entry_count = 1}, .grid = grids[1]};
+            struct dataset s = {
+                .array = {.of = layouts[l], .count = entries[n].slot + 1, .entries = entries + n, .entry_count = 1},
+                .grid = grids[1]};
 
             s.grid.present[0] = CELLUMAQ_UNLIMITED - 1;
             array_build(&s.array);
@@ -187,7 +203,8 @@ static void far_elements(void)
             check_dataset(&s, what);
             array_free(&s.array);
         }
-        struct dataset s = {.array = {.of = layouts[l], .count = 2000000, .entries = entries, .entry_count = sizeof entries / sizeof *entries}};
+        struct dataset s = {.array = {.of = layouts[l], .count = 2000000, .entries = entries,
+                                      .entry_count = sizeof entries / sizeof *entries}};
 
         s.grid = grids[2];
         array_build(&s.array);
@@ -201,7 +218,8 @@ static void far_elements(void)
 static uint64_t refusal_of(const struct structure *t, size_t byte)
 {
     if (byte >= 4 || *t->signature == 0)
-        return strcmp(t->signature, "EAHD") == 0 && byte == 4 ? CELLUMAQ_REFUSED_HEADER_VERSION : CELLUMAQ_REFUSED_CHECKSUM;
+        return strcmp(t->signature, "EAHD") == 0 && byte == 4 ? CELLUMAQ_REFUSED_HEADER_VERSION
+                                                              : CELLUMAQ_REFUSED_CHECKSUM;
     return strcmp(t->signature, "EAHD") == 0   ? CELLUMAQ_REFUSED_HEADER_SIGNATURE
            : strcmp(t->signature, "EAIB") == 0 ? CELLUMAQ_REFUSED_INDEX_BLOCK_SIGNATURE
            : strcmp(t->signature, "EASB") == 0 ? CELLUMAQ_REFUSED_SUPER_BLOCK_SIGNATURE
@@ -254,7 +272,8 @@ static void cut_files(void)
         while (i < s.array.structure_count && s.array.structures[i].start + s.array.structures[i].length <= length)
             i++;
         if (i < s.array.structure_count)
-            check_refusal(&c, CELLUMAQ_REFUSED_PAST_END, s.array.structures[i].start + s.array.structures[i].length, length, what);
+            check_refusal(&c, CELLUMAQ_REFUSED_PAST_END, s.array.structures[i].start + s.array.structures[i].length,
+                          length, what);
         else
             check_same(&c, &s, what);
     }
@@ -264,7 +283,8 @@ static void cut_files(void)
 /* Whether the list of an array without gaps comes to a structure: data blocks that the index block names, and super
  * blocks, only up to the count; all data blocks of a super block; a page unless one before it has run past the
  * count. */
-static int is_reached(const struct structure *t, const struct structure *super_block, uint64_t first_of_block, uint64_t count)
+static int is_reached(const struct structure *t, const struct structure *super_block, uint64_t first_of_block,
+                      uint64_t count)
 {
     if (t->slot == 0)
         return 1;
@@ -282,7 +302,9 @@ static void past_the_count(void)
     for (uint64_t slot = 0; slot < 64; slot++)
         entries[slot] = (struct entry){slot, 500 + slot, 9, 0};
     for (uint64_t count = 0; count <= 64; count++) {
-        struct dataset s = {.array = {.of = {8, 8, 0, 8, 5, 1, 1, 3, 0}, .count = count, .entries = entries, .entry_count = 64}, .grid = grids[2]};
+        struct dataset s = {
+            .array = {.of = {8, 8, 0, 8, 5, 1, 1, 3, 0}, .count = count, .entries = entries, .entry_count = 64},
+            .grid = grids[2]};
         const struct structure *super_block = NULL;
         uint64_t first_of_block = 0;
 
@@ -299,7 +321,8 @@ static void past_the_count(void)
             snprintf(what, sizeof what, "count %" PRIu64 ", damage in structure %zu, %s", count, i, t->signature);
             bytes[t->length - 1] ^= 0x10;
             if (is_reached(t, super_block, first_of_block, count))
-                check_refusal(&c, CELLUMAQ_REFUSED_CHECKSUM, cellumaq_get(bytes + t->length - 4, 4), lookup3_reference(bytes, t->length - 4, 0), what);
+                check_refusal(&c, CELLUMAQ_REFUSED_CHECKSUM, cellumaq_get(bytes + t->length - 4, 4),
+                              lookup3_reference(bytes, t->length - 4, 0), what);
             else
                 check_same(&c, &s, what);
             bytes[t->length - 1] ^= 0x10;

@@ -14,8 +14,9 @@ static void patch_header(struct array *a, size_t byte, uint8_t value)
 /* Widths are taken as they are given: 264 is not 8. 20 comes first, by the header's size that they make. */
 static void widths(void)
 {
-    static const uint64_t sizes[] = {0, 1, 3, 5, 6, 7, 9, 10, 16, 255, 256, 258, 260, 264, 512, 520, 65536, 65544, ((uint64_t)1 << 32) + 8,
-                                     ((uint64_t)1 << 61) + 1, (uint64_t)1 << 63, UINT64_MAX - 63, UINT64_MAX - 64, UINT64_MAX};
+    static const uint64_t sizes[] = {0, 1, 3, 5, 6, 7, 9, 10, 16, 255, 256, 258, 260, 264, 512, 520, 65536, 65544,
+                                     ((uint64_t)1 << 32) + 8, ((uint64_t)1 << 61) + 1, (uint64_t)1 << 63,
+                                     UINT64_MAX - 63, UINT64_MAX - 64, UINT64_MAX};
     struct dataset s = worked(plain, line);
     char what[64];
 
@@ -27,7 +28,8 @@ static void widths(void)
         c.offset_size = sizes[i];
         snprintf(what, sizeof what, "offset size %" PRIu64, sizes[i]);
         if (end > s.array.length)
-            check_refusal(&c, CELLUMAQ_REFUSED_PAST_END, end > UINT64_MAX ? UINT64_MAX : (uint64_t)end, s.array.length, what);
+            check_refusal(&c, CELLUMAQ_REFUSED_PAST_END, end > UINT64_MAX ? UINT64_MAX : (uint64_t)end, s.array.length,
+                          what);
         else
             check_refusal(&c, CELLUMAQ_REFUSED_OFFSET_SIZE, sizes[i], 0, what);
         c = dataset_call(&s);
@@ -35,7 +37,8 @@ static void widths(void)
         end = (unsigned __int128)24 + (unsigned __int128)6 * sizes[i];
         snprintf(what, sizeof what, "length size %" PRIu64, sizes[i]);
         if (end > s.array.length)
-            check_refusal(&c, CELLUMAQ_REFUSED_PAST_END, end > UINT64_MAX ? UINT64_MAX : (uint64_t)end, s.array.length, what);
+            check_refusal(&c, CELLUMAQ_REFUSED_PAST_END, end > UINT64_MAX ? UINT64_MAX : (uint64_t)end, s.array.length,
+                          what);
         else
             check_refusal(&c, CELLUMAQ_REFUSED_LENGTH_SIZE, sizes[i], 0, what);
     }
@@ -88,7 +91,8 @@ static void shape_lengths(void)
         check_refusal(&c, CELLUMAQ_REFUSED_RANK, 0, 0, "a chunk shape of another rank");
         c.chunk.bytes = zeros;
         c.chunk.length = 16;
-        check_refusal(&c, CELLUMAQ_REFUSED_PRESENT_RANK, 0, 0, "a chunk shape with 0 and a present shape of another rank");
+        check_refusal(&c, CELLUMAQ_REFUSED_PRESENT_RANK, 0, 0,
+                      "a chunk shape with 0 and a present shape of another rank");
     }
     c = dataset_call(&s);
     c.chunk.bytes = zeros;
@@ -103,8 +107,8 @@ static void shape_lengths(void)
 static void ranks(void)
 {
     const uint64_t eighth = (uint64_t)1 << 61;
-    const uint64_t given[] = {33, 34, 256, 257, 65536, 65537, ((uint64_t)1 << 32) + 1, eighth, eighth + 1, eighth + 32, 2 * eighth + 1,
-                              UINT64_MAX - 1, UINT64_MAX};
+    const uint64_t given[] = {33, 34, 256, 257, 65536, 65537, ((uint64_t)1 << 32) + 1, eighth, eighth + 1,
+                              eighth + 32, 2 * eighth + 1, UINT64_MAX - 1, UINT64_MAX};
     static uint8_t ones[8 * 40];
     struct dataset s = worked(plain, line);
     char what[64];
@@ -169,7 +173,8 @@ static void orders(void)
         struct call c = dataset_call(&s);
         struct cellumaq_answer a = ask_list(&c, sizeof list, list, "the unlimited dimension first");
 
-        CHECK(a.refusal == 0 && a.count == 1 && cellumaq_record_offset(list, 2, 0, 0) == 10 && cellumaq_record_offset(list, 2, 0, 1) == 10,
+        CHECK(a.refusal == 0 && a.count == 1 && cellumaq_record_offset(list, 2, 0, 0) == 10 &&
+                  cellumaq_record_offset(list, 2, 0, 1) == 10,
               "order %" PRIu64 ": slot 5 isn't corner (10, 10)", given[i]);
     }
     s.grid.order = 0;
@@ -206,7 +211,8 @@ static void numberings(void)
 /* Chunk lengths and element sizes of 32 bits and more. */
 static void long_chunks(void)
 {
-    static const uint64_t lengths[] = {((uint64_t)1 << 32) - 1, (uint64_t)1 << 32, ((uint64_t)1 << 32) + 1, (uint64_t)1 << 40, (uint64_t)1 << 62};
+    static const uint64_t lengths[] = {((uint64_t)1 << 32) - 1, (uint64_t)1 << 32, ((uint64_t)1 << 32) + 1,
+                                       (uint64_t)1 << 40, (uint64_t)1 << 62};
     struct dataset s = worked(filtered, line), t = worked(plain, line);
     struct call c;
     char what[64];
@@ -248,7 +254,8 @@ static void list_lengths(void)
         struct cellumaq_answer a = ask_list(&c, length, list, "some length");
 
         if (length < 48)
-            CHECK(a.refusal == CELLUMAQ_REFUSED_LIST_TOO_SMALL && a.first == 2 && a.second == 0, "length %zu: refusal %" PRIu64, length, a.refusal);
+            CHECK(a.refusal == CELLUMAQ_REFUSED_LIST_TOO_SMALL && a.first == 2 && a.second == 0,
+                  "length %zu: refusal %" PRIu64, length, a.refusal);
         else
             CHECK(a.refusal == 0 && a.count == 2, "length %zu: refusal %" PRIu64, length, a.refusal);
     }
@@ -273,9 +280,10 @@ static void alignments(void)
         memcpy(present + at[2], c.present.bytes, 16);
         memcpy(maximum + at[3], c.maximum.bytes, 16);
         memset(list, 0, sizeof list);
-        uint64_t n = cellumaq_list(file + at[0], c.file.length, 8, 8, 0, 3, 1, 2, chunk + at[1], 16, present + at[2], 16, 1, maximum + at[3], 16,
-                                   list + at[4], 64, 3);
-        CHECK(n == count && memcmp(list + at[4], expected, 32 * count) == 0, "slice %zu at alignment %zu", i / 16, i % 16);
+        uint64_t n = cellumaq_list(file + at[0], c.file.length, 8, 8, 0, 3, 1, 2, chunk + at[1], 16, present + at[2],
+                                   16, 1, maximum + at[3], 16, list + at[4], 64, 3);
+        CHECK(n == count && memcmp(list + at[4], expected, 32 * count) == 0, "slice %zu at alignment %zu", i / 16,
+              i % 16);
     }
     free(expected);
     free(file);
@@ -288,13 +296,24 @@ static void null_slices(void)
     struct dataset s = worked(plain, grids[0]);
     uint8_t list[32];
 
-    CHECK(cellumaq_list(NULL, 0, 8, 8, 0, 4, 0, 0, NULL, 0, NULL, 0, 0, NULL, 0, NULL, 0, 0) == CELLUMAQ_REFUSED_PAST_END, "no file");
-    CHECK(cellumaq_list(NULL, 0, 8, 8, 0, 4, 0, 0, NULL, 0, NULL, 0, 0, NULL, 0, NULL, 0, 1) == 72, "where it should end");
-    CHECK(cellumaq_list(s.array.bytes, s.array.length, 8, 8, 0, 4, 0, 0, NULL, 0, NULL, 0, 1, NULL, 0, list, 32, 3) == 2, "rank 0");
-    CHECK(cellumaq_record_address(list, 0, 0) == 4096 && cellumaq_record_chunk_size(list, 0, 0) == 4, "its first record");
-    CHECK(cellumaq_record_address(list, 0, 1) == 8192 && cellumaq_record_chunk_size(list, 0, 1) == 4, "its second record");
-    CHECK(cellumaq_list(s.array.bytes, s.array.length, 8, 8, 0, 4, 0, 0, NULL, 0, NULL, 0, 1, NULL, 0, NULL, 0, 0) == CELLUMAQ_REFUSED_LIST_TOO_SMALL, "no list");
-    CHECK(cellumaq_list(s.array.bytes, s.array.length, 8, 8, 0, 4, 0, 1, NULL, 0, NULL, 0, 1, NULL, 0, list, 32, 0) == CELLUMAQ_REFUSED_RANK, "no shapes");
+    CHECK(cellumaq_list(NULL, 0, 8, 8, 0, 4, 0, 0, NULL, 0, NULL, 0, 0, NULL, 0, NULL, 0, 0) ==
+              CELLUMAQ_REFUSED_PAST_END,
+          "no file");
+    CHECK(cellumaq_list(NULL, 0, 8, 8, 0, 4, 0, 0, NULL, 0, NULL, 0, 0, NULL, 0, NULL, 0, 1) == 72,
+          "where it should end");
+    CHECK(cellumaq_list(s.array.bytes, s.array.length, 8, 8, 0, 4, 0, 0, NULL, 0, NULL, 0, 1, NULL, 0, list, 32, 3) ==
+              2,
+          "rank 0");
+    CHECK(cellumaq_record_address(list, 0, 0) == 4096 && cellumaq_record_chunk_size(list, 0, 0) == 4,
+          "its first record");
+    CHECK(cellumaq_record_address(list, 0, 1) == 8192 && cellumaq_record_chunk_size(list, 0, 1) == 4,
+          "its second record");
+    CHECK(cellumaq_list(s.array.bytes, s.array.length, 8, 8, 0, 4, 0, 0, NULL, 0, NULL, 0, 1, NULL, 0, NULL, 0, 0) ==
+              CELLUMAQ_REFUSED_LIST_TOO_SMALL,
+          "no list");
+    CHECK(cellumaq_list(s.array.bytes, s.array.length, 8, 8, 0, 4, 0, 1, NULL, 0, NULL, 0, 1, NULL, 0, list, 32, 0) ==
+              CELLUMAQ_REFUSED_RANK,
+          "no shapes");
     array_free(&s.array);
 }
 
@@ -305,8 +324,8 @@ static void served_headers(void)
         size_t byte;
         uint8_t value;
         int served;
-    } cases[] = {{7, 62, 1}, {7, 63, 0}, {7, 255, 0}, {9, 0, 0}, {9, 3, 0}, {9, 128, 1}, {9, 129, 0}, {9, 255, 0}, {9, 1, 1}, {10, 32, 1},
-                 {10, 33, 0}, {10, 255, 0}, {11, 32, 1}, {11, 33, 0}, {11, 255, 0}};
+    } cases[] = {{7, 62, 1}, {7, 63, 0},  {7, 255, 0}, {9, 0, 0},    {9, 3, 0},   {9, 128, 1}, {9, 129, 0}, {9, 255, 0},
+                 {9, 1, 1},  {10, 32, 1}, {10, 33, 0}, {10, 255, 0}, {11, 32, 1}, {11, 33, 0}, {11, 255, 0}};
     char what[64];
 
     for (size_t i = 0; i < sizeof cases / sizeof *cases; i++) {
@@ -317,7 +336,8 @@ static void served_headers(void)
         struct call c = dataset_call(&s);
         snprintf(what, sizeof what, "header byte %zu is %u", cases[i].byte, cases[i].value);
         struct cellumaq_answer a = ask_list(&c, sizeof list, list, what);
-        CHECK((a.refusal == CELLUMAQ_REFUSED_HEADER_NOT_SERVED) == !cases[i].served, "%s: refusal %" PRIu64, what, a.refusal);
+        CHECK((a.refusal == CELLUMAQ_REFUSED_HEADER_NOT_SERVED) == !cases[i].served, "%s: refusal %" PRIu64, what,
+              a.refusal);
         array_free(&s.array);
     }
 }

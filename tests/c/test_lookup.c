@@ -10,7 +10,8 @@
 #include "test.h"
 #include "vectors.h"
 
-static void check_refusal(const struct call *c, struct slice corner, uint64_t refusal, uint64_t first, uint64_t second, const char *what)
+static void check_refusal(const struct call *c, struct slice corner, uint64_t refusal, uint64_t first, uint64_t second,
+                          const char *what)
 {
     check_refused(ask_lookup(c, corner, what), refusal, first, second, what);
 }
@@ -27,7 +28,8 @@ static void check_line(const struct question *q, const char *answer, const char 
     if (a.refusal != 0)
         snprintf(line, sizeof line, "refused %" PRIu64 " %" PRIu64 " %" PRIu64, a.refusal, a.first, a.second);
     else
-        snprintf(line, sizeof line, "ok %" PRIu64 " %" PRIu64 " %" PRIu64 " %" PRIu64, a.count, a.address, a.size, a.mask);
+        snprintf(line, sizeof line, "ok %" PRIu64 " %" PRIu64 " %" PRIu64 " %" PRIu64, a.count, a.address, a.size,
+                 a.mask);
     CHECK(strcmp(line, answer) == 0, "%s: %s, not %s", what, line, answer);
     check_described_lookup(&q->call, q->corner, what);
 }
@@ -45,11 +47,13 @@ static void check_found(const struct call *c, const uint8_t *corner, const uint8
     size_t length = 8 * c->rank;
 
     if (record == NULL) {
-        CHECK(call_lookup(c, corner, length, 3) == 0 && call_lookup(c, corner, length, 0) == 0, "%s: a chunk that the list hasn't", what);
+        CHECK(call_lookup(c, corner, length, 3) == 0 && call_lookup(c, corner, length, 0) == 0,
+              "%s: a chunk that the list hasn't", what);
         return;
     }
     CHECK(call_lookup(c, corner, length, 3) == 1 && call_lookup(c, corner, length, 4) == cellumaq_get(record, 8) &&
-          call_lookup(c, corner, length, 5) == cellumaq_get(record + 8, 4) && call_lookup(c, corner, length, 6) == cellumaq_get(record + 12, 4),
+              call_lookup(c, corner, length, 5) == cellumaq_get(record + 8, 4) &&
+              call_lookup(c, corner, length, 6) == cellumaq_get(record + 12, 4),
           "%s: another record than the list's", what);
 }
 
@@ -57,8 +61,10 @@ static void check_found(const struct call *c, const uint8_t *corner, const uint8
 static int step(const struct call *c, uint8_t *corner, uint64_t chunks)
 {
     for (size_t d = c->rank; d > 0 && chunks != 0; d--) {
-        uint64_t length = cellumaq_get(c->chunk.bytes + 8 * d - 8, 8), present = cellumaq_get(c->present.bytes + 8 * d - 8, 8);
-        uint64_t all = present / length + (present % length != 0), index = cellumaq_get(corner + 8 * d - 8, 8) / length + chunks;
+        uint64_t length = cellumaq_get(c->chunk.bytes + 8 * d - 8, 8),
+                 present = cellumaq_get(c->present.bytes + 8 * d - 8, 8);
+        uint64_t all = present / length + (present % length != 0),
+                 index = cellumaq_get(corner + 8 * d - 8, 8) / length + chunks;
 
         chunks = d == 1 ? 0 : index / all;
         if (d == 1 && index >= all)
@@ -91,7 +97,8 @@ static void check_agreement(const struct question *q, const char *answer, const 
 
 static void real_corners(void)
 {
-    CHECK(vector_replay("tests/data/real/questions.txt", "tests/data/real/answers.txt", "list", check_agreement) != 0, "no list");
+    CHECK(vector_replay("tests/data/real/questions.txt", "tests/data/real/answers.txt", "list", check_agreement) != 0,
+          "no list");
 }
 
 /* The lookup of each slot's corner in an array that is built here, and of some behind its count. */
@@ -123,7 +130,8 @@ static void built_arrays(void)
         uint64_t slots = slots_of(&layouts[l]);
 
         for (uint64_t count = 0; count <= slots + 1; count += count < 4 ? 1 : 1 + random_below(97)) {
-            struct dataset s = {.array = {.of = layouts[l], .count = count, .entries = entries, .header = random_below(70)}};
+            struct dataset s = {
+                .array = {.of = layouts[l], .count = count, .entries = entries, .header = random_below(70)}};
 
             s.array.entry_count = random_entries(entries, slots, chances[random_below(3)]);
             array_build(&s.array);
@@ -140,13 +148,16 @@ static void built_arrays(void)
 /* Slots of all super blocks of a large array, most of which aren't there. */
 static void far_elements(void)
 {
-    static const struct entry entries[] = {{3, 4096, 7, 0}, {243, 4112, 7, 2}, {244, 4120, 7, 3}, {65523, 4136, 7, 5}, {131059, 2, 7, 6}, {131060, 4144, 7, 7},
-                                           {132084, 4160, 7, 9}, {262131, 4176, 7, UINT32_MAX}};
-    static const uint64_t others[] = {2, 4, 242, 245, 8180, 65522, 65524, 131058, 131061, 132083, 132085, 133108, 262132, 1048563, 1999999, 2000001, 4000000};
+    static const struct entry entries[] = {
+        {3, 4096, 7, 0},   {243, 4112, 7, 2},    {244, 4120, 7, 3},    {65523, 4136, 7, 5},
+        {131059, 2, 7, 6}, {131060, 4144, 7, 7}, {132084, 4160, 7, 9}, {262131, 4176, 7, UINT32_MAX}};
+    static const uint64_t others[] = {2,      4,      242,    245,    8180,    65522,   65524,   131058, 131061,
+                                      132083, 132085, 133108, 262132, 1048563, 1999999, 2000001, 4000000};
     uint8_t corner[8];
 
     for (int l = 0; l < 2; l++) {
-        struct dataset s = {.array = {.of = layouts[l], .count = 2000000, .entries = entries, .entry_count = sizeof entries / sizeof *entries}};
+        struct dataset s = {.array = {.of = layouts[l], .count = 2000000, .entries = entries,
+                                      .entry_count = sizeof entries / sizeof *entries}};
 
         s.grid = grids[2];
         s.grid.present[0] = 5000000;
@@ -211,8 +222,8 @@ static void damage(void)
             snprintf(what, sizeof what, "slot %" PRIu64 ", byte %zu of structure %zu, %s", slot, byte, i, t->signature);
             if (on_the_way(&s.array, t, slot)) {
                 bytes[byte] ^= 4;
-                check_refusal(&c, (struct slice){corner, 8}, CELLUMAQ_REFUSED_CHECKSUM, cellumaq_get(bytes + t->length - 4, 4),
-                              lookup3_reference(bytes, t->length - 4, 0), what);
+                check_refusal(&c, (struct slice){corner, 8}, CELLUMAQ_REFUSED_CHECKSUM,
+                              cellumaq_get(bytes + t->length - 4, 4), lookup3_reference(bytes, t->length - 4, 0), what);
                 bytes[byte] ^= 4;
             } else {
                 for (size_t k = 0; k < t->length; k++)
@@ -248,7 +259,8 @@ static void cut_files(void)
                 t++;
             snprintf(what, sizeof what, "slot %" PRIu64 " in the first %zu bytes", slot, length);
             if (t != end)
-                check_refusal(&c, (struct slice){corner, 8}, CELLUMAQ_REFUSED_PAST_END, t->start + t->length, length, what);
+                check_refusal(&c, (struct slice){corner, 8}, CELLUMAQ_REFUSED_PAST_END, t->start + t->length, length,
+                              what);
             else
                 check_found(&c, corner, record_of(list, count, 1, corner), what);
         }
@@ -301,7 +313,10 @@ static void wrong_corners(void)
 /* Corners in the present shape without a slot: behind the count of a dimension that doesn't lead, or past 2^64 - 1. */
 static void corners_without_slots(void)
 {
-    struct dataset s = worked(filtered, (struct grid){.order = 0, .rank = 2, .chunk = {5, 2}, .present = {70, 20}, .has_maximum = 1, .maximum = {40, 4}});
+    struct dataset s = worked(
+        filtered,
+        (struct grid){
+            .order = 0, .rank = 2, .chunk = {5, 2}, .present = {70, 20}, .has_maximum = 1, .maximum = {40, 4}});
     struct call c = dataset_call(&s);
     uint8_t corner[16] = {0};
 
@@ -310,7 +325,8 @@ static void corners_without_slots(void)
     cellumaq_put_length(corner, 0, 0);
     cellumaq_put_length(corner, 1, 4);
     check_found(&c, corner, NULL, "slot 2 if the second dimension had no count");
-    s.grid = (struct grid){.order = 0, .rank = 2, .chunk = {1, 1}, .present = {UINT64_MAX - 1, (uint64_t)1 << 40}, .has_maximum = 1};
+    s.grid = (struct grid){
+        .order = 0, .rank = 2, .chunk = {1, 1}, .present = {UINT64_MAX - 1, (uint64_t)1 << 40}, .has_maximum = 1};
     s.grid.maximum[0] = CELLUMAQ_UNLIMITED;
     s.grid.maximum[1] = (uint64_t)1 << 40;
     c = dataset_call(&s);
@@ -344,7 +360,8 @@ static void rank_0(void)
 /* The arguments that list and lookup share. */
 static void shared_arguments(void)
 {
-    static const uint64_t wide[] = {0, 1, 3, 256, 258, 264, ((uint64_t)1 << 32) + 1, ((uint64_t)1 << 61) + 1, UINT64_MAX};
+    static const uint64_t wide[] = {0,         1, 3, 256, 258, 264, ((uint64_t)1 << 32) + 1, ((uint64_t)1 << 61) + 1,
+                                    UINT64_MAX};
     static const uint8_t zero[8];
     struct slice corner = {zero, 8};
     struct dataset s = worked(plain, line);
@@ -378,8 +395,12 @@ static void shared_arguments(void)
         else
             CHECK(ask_lookup(&c, corner, what).address == 4096, "a maximum that isn't given");
     }
-    CHECK(cellumaq_lookup(NULL, 0, 8, 8, 0, 4, 0, 0, NULL, 0, NULL, 0, 0, NULL, 0, NULL, 0, 0) == CELLUMAQ_REFUSED_PAST_END, "no file");
-    CHECK(cellumaq_lookup(s.array.bytes, s.array.length, 8, 8, 0, 4, 0, 0, NULL, 0, NULL, 0, 0, NULL, 0, NULL, 0, 4) == 4096, "rank 0");
+    CHECK(cellumaq_lookup(NULL, 0, 8, 8, 0, 4, 0, 0, NULL, 0, NULL, 0, 0, NULL, 0, NULL, 0, 0) ==
+              CELLUMAQ_REFUSED_PAST_END,
+          "no file");
+    CHECK(cellumaq_lookup(s.array.bytes, s.array.length, 8, 8, 0, 4, 0, 0, NULL, 0, NULL, 0, 0, NULL, 0, NULL, 0, 4) ==
+              4096,
+          "rank 0");
     array_free(&s.array);
 }
 
@@ -399,7 +420,8 @@ static void orders(void)
         struct call c = dataset_call(&s);
         struct cellumaq_answer a = ask_lookup(&c, (struct slice){corner, 16}, "the unlimited dimension first");
 
-        CHECK(a.count == 1 && a.address == 4096 && a.size == 1 && a.mask == 2, "order %" PRIu64 ": corner (10, 10) isn't slot 5", given[i]);
+        CHECK(a.count == 1 && a.address == 4096 && a.size == 1 && a.mask == 2,
+              "order %" PRIu64 ": corner (10, 10) isn't slot 5", given[i]);
     }
     s.grid.order = 0;
     check_corner(&s, 10, 10, CELLUMAQ_REFUSED_UNLIMITED, "row-major");

@@ -8,16 +8,17 @@
 
 #include "test.h"
 
-uint64_t cellumaq_test_spans(const uint8_t *file, size_t file_length, uint64_t offset_size, uint64_t length_size, uint64_t address,
-                             uint64_t *addresses, size_t addresses_length, uint64_t *lengths, size_t lengths_length, uint64_t which);
+uint64_t cellumaq_test_spans(const uint8_t *file, size_t file_length, uint64_t offset_size, uint64_t length_size,
+                             uint64_t address, uint64_t *addresses, size_t addresses_length, uint64_t *lengths,
+                             size_t lengths_length, uint64_t which);
 
 struct span {
     uint64_t address, length;
 };
 
-uint64_t cellumaq_test_span_records(const uint8_t *file, size_t file_length, uint64_t offset_size, uint64_t length_size, uint64_t address,
-                                    uint64_t *addresses, size_t addresses_length, uint64_t *lengths, size_t lengths_length,
-                                    struct span *spans, size_t spans_length, uint64_t which);
+uint64_t cellumaq_test_span_records(const uint8_t *file, size_t file_length, uint64_t offset_size, uint64_t length_size,
+                                    uint64_t address, uint64_t *addresses, size_t addresses_length, uint64_t *lengths,
+                                    size_t lengths_length, struct span *spans, size_t spans_length, uint64_t which);
 
 enum { LINE = 1 << 16, MOST = 100003, GUARD = 4 };
 
@@ -53,8 +54,8 @@ static int read_question(struct call *c)
 {
     int hex;
 
-    if (sscanf(question, "spans %" SCNu64 " %" SCNu64 " %" SCNu64 " %" SCNu64 " %n", &c->offset_size, &c->length_size, &c->address,
-               &c->room, &hex) != 4)
+    if (sscanf(question, "spans %" SCNu64 " %" SCNu64 " %" SCNu64 " %" SCNu64 " %n", &c->offset_size, &c->length_size,
+               &c->address, &c->room, &hex) != 4)
         return 0;
     c->file_length = question[hex] == '-' ? 0 : read_hex(question + hex);
     return 1;
@@ -108,10 +109,12 @@ static void reset(uint64_t n)
 
 /* One call with lists of these lengths: its number and both lists. Lists begin as BEFORE; the call's writes are taken
  * back. */
-static void check_call(int line, const struct call *c, const struct expected *e, uint64_t first, uint64_t second, uint64_t which)
+static void check_call(int line, const struct call *c, const struct expected *e, uint64_t first, uint64_t second,
+                       uint64_t which)
 {
     uint64_t count = e->numbers[3];
-    uint64_t number = cellumaq_test_spans(file, c->file_length, c->offset_size, c->length_size, c->address, addresses, first, lengths, second, which);
+    uint64_t number = cellumaq_test_spans(file, c->file_length, c->offset_size, c->length_size, c->address, addresses,
+                                          first, lengths, second, which);
 
     CHECK(number == e->numbers[which < 4 ? which : 0], "line %d, which %" PRIu64 ": %" PRIu64, line, which, number);
     CHECK(strays(addresses, expected_addresses, count) == 0, "line %d, which %" PRIu64 ": addresses", line, which);
@@ -120,14 +123,17 @@ static void check_call(int line, const struct call *c, const struct expected *e,
 }
 
 /* One call with lists of these lengths: its number and all three lists. */
-static void check_records(int line, const struct call *c, const struct expected *e, const uint64_t rooms[3], uint64_t which)
+static void check_records(int line, const struct call *c, const struct expected *e, const uint64_t rooms[3],
+                          uint64_t which)
 {
     uint64_t count = e->numbers[3];
-    uint64_t number = cellumaq_test_span_records(file, c->file_length, c->offset_size, c->length_size, c->address, addresses, rooms[0],
-                                                 lengths, rooms[1], spans, rooms[2], which);
+    uint64_t number = cellumaq_test_span_records(file, c->file_length, c->offset_size, c->length_size, c->address,
+                                                 addresses, rooms[0], lengths, rooms[1], spans, rooms[2], which);
 
-    CHECK(number == e->numbers[which < 4 ? which : 0], "records, line %d, which %" PRIu64 ": %" PRIu64, line, which, number);
-    CHECK(strays(addresses, expected_addresses, count) == 0, "records, line %d, which %" PRIu64 ": addresses", line, which);
+    CHECK(number == e->numbers[which < 4 ? which : 0], "records, line %d, which %" PRIu64 ": %" PRIu64, line, which,
+          number);
+    CHECK(strays(addresses, expected_addresses, count) == 0, "records, line %d, which %" PRIu64 ": addresses", line,
+          which);
     CHECK(strays(lengths, expected_lengths, count) == 0, "records, line %d, which %" PRIu64 ": lengths", line, which);
     CHECK(stray_records(count) == 0, "records, line %d, which %" PRIu64 ": records", line, which);
     reset(count);
@@ -178,7 +184,8 @@ static void answers_of_the_rust(void)
     reset(MOST + GUARD);
     while (fgets(question, LINE, questions) != NULL) {
         line++;
-        int readable = fgets(answer, LINE, answers) != NULL && read_question(&c) && read_answer(&e) && c.room <= MOST - 3;
+        int readable = fgets(answer, LINE, answers) != NULL && read_question(&c) && read_answer(&e) &&
+                       c.room <= MOST - 3;
         CHECK(readable, "line %d isn't in form", line);
         if (!readable)
             break;
@@ -210,12 +217,14 @@ static void sizes_as_given(void)
 
     for (size_t i = 0; i < sizeof cases / sizeof *cases; i++)
         for (uint64_t which = 0; which < 3; which++) {
-            uint64_t number = cellumaq_test_spans(NULL, 0, cases[i].offset_size, cases[i].length_size, cases[i].address, NULL, 0, NULL, 0, which);
+            uint64_t number = cellumaq_test_spans(NULL, 0, cases[i].offset_size, cases[i].length_size, cases[i].address,
+                                                  NULL, 0, NULL, 0, which);
 
             CHECK(number == cases[i].numbers[which], "case %zu, which %" PRIu64 ": %" PRIu64, i, which, number);
-            number = cellumaq_test_span_records(NULL, 0, cases[i].offset_size, cases[i].length_size, cases[i].address, NULL, 0, NULL, 0,
-                                                NULL, 0, which);
-            CHECK(number == cases[i].numbers[which], "records, case %zu, which %" PRIu64 ": %" PRIu64, i, which, number);
+            number = cellumaq_test_span_records(NULL, 0, cases[i].offset_size, cases[i].length_size, cases[i].address,
+                                                NULL, 0, NULL, 0, NULL, 0, which);
+            CHECK(number == cases[i].numbers[which], "records, case %zu, which %" PRIu64 ": %" PRIu64, i, which,
+                  number);
         }
 }
 

@@ -27,7 +27,8 @@ static void *answer(void *data)
     a->refusal = call_list(c, NULL, 0, CELLUMAQ_REFUSAL);
     for (size_t i = 0; i < a->count && i < RECORDS; i++)
         for (int k = 0; k < 3; k++)
-            a->found[i][k] = call_lookup(c, a->list + i * record + 16, 8 * c->rank, CELLUMAQ_FOUND_ADDRESS + (uint64_t)k);
+            a->found[i][k] = call_lookup(c, a->list + i * record + 16, 8 * c->rank,
+                                         CELLUMAQ_FOUND_ADDRESS + (uint64_t)k);
     return NULL;
 }
 

@@ -19,7 +19,9 @@ static inline const struct structure *random_structure(const struct array *a)
 static inline void change_byte(struct array *a)
 {
     const struct structure *t = random_structure(a);
-    size_t near = random_below(16), at = one_in(3) ? random_below((uint32_t)a->length) : one_in(2) ? t->start + near : t->start + t->length - 1 - near;
+    size_t near = random_below(16), at = one_in(3)   ? random_below((uint32_t)a->length)
+                                         : one_in(2) ? t->start + near
+                                                     : t->start + t->length - 1 - near;
 
     if (at < a->length)
         a->bytes[at] = one_in(2) ? a->bytes[at] ^ (uint8_t)(1u << random_below(8)) : (uint8_t)random_below(256);
@@ -65,7 +67,8 @@ static inline void change_pointers(struct array *a)
         return;
     uint8_t *end = a->bytes + t->start + t->length - 4;
     size_t field = random_below((uint32_t)fields), last = one_in(2) ? field : random_below((uint32_t)fields);
-    uint64_t target = one_in(3) ? cellumaq_get(end - (1 + random_below((uint32_t)fields)) * width, width) : random_target(a);
+    uint64_t target = one_in(3) ? cellumaq_get(end - (1 + random_below((uint32_t)fields)) * width, width)
+                                : random_target(a);
     for (; field <= last; field++)
         array_put(end - (1 + field) * width, target, width);
     seal(a, t);
@@ -117,8 +120,8 @@ static inline void change_place(struct array *a)
 
 static inline void change_file(struct array *a)
 {
-    static void (*const changes[])(struct array *) = {change_byte, change_field, change_field, change_pointers, change_pointers, change_header,
-                                                      change_length, change_place};
+    static void (*const changes[])(struct array *) = {change_byte,     change_field,  change_field,  change_pointers,
+                                                      change_pointers, change_header, change_length, change_place};
 
     if (a->structure_count != 0 && a->length != 0)
         changes[random_below(sizeof changes / sizeof *changes)](a);
@@ -150,15 +153,16 @@ static inline void change_rank(struct input *in)
 
 static inline void change_argument(struct input *in)
 {
-    uint64_t *numbers[] = {&in->call.offset_size, &in->call.length_size, &in->call.address, &in->call.element_bytes, &in->call.order, &in->call.rank,
-                           &in->call.has_maximum};
+    uint64_t *numbers[] = {&in->call.offset_size, &in->call.length_size, &in->call.address,    &in->call.element_bytes,
+                           &in->call.order,       &in->call.rank,        &in->call.has_maximum};
 
     if (one_in(2))
         change_shape(in);
     else if (one_in(8))
         change_rank(in);
     else
-        *numbers[random_below(sizeof numbers / sizeof *numbers)] = one_in(2) ? random_number() : (uint64_t)1 << random_below(8);
+        *numbers[random_below(sizeof numbers / sizeof *numbers)] = one_in(2) ? random_number()
+                                                                             : (uint64_t)1 << random_below(8);
 }
 
 /* Some changes, or none. */

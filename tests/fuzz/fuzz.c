@@ -36,10 +36,12 @@ static void print_refusals(const char *name, const uint64_t *refused)
 
 static void report(uint64_t rounds, double seconds)
 {
-    printf("seed %" PRIu64 ": %" PRIu64 " rounds in %.0f s; calls: %" PRIu64 " checksum, %" PRIu64 " list, %" PRIu64 " lookup\n", seed, rounds, seconds,
-           tally.checksums, tally.lists, tally.lookups);
-    printf("  lists accepted %" PRIu64 " with %" PRIu64 " records, only counted %" PRIu64 "; lookups found %" PRIu64 ", absent %" PRIu64 "\n", tally.accepted,
-           tally.records, tally.too_many, tally.found, tally.absent);
+    printf("seed %" PRIu64 ": %" PRIu64 " rounds in %.0f s; calls: %" PRIu64 " checksum, %" PRIu64 " list, %" PRIu64
+           " lookup\n",
+           seed, rounds, seconds, tally.checksums, tally.lists, tally.lookups);
+    printf("  lists accepted %" PRIu64 " with %" PRIu64 " records, only counted %" PRIu64 "; lookups found %" PRIu64
+           ", absent %" PRIu64 "\n",
+           tally.accepted, tally.records, tally.too_many, tally.found, tally.absent);
     printf("  asked by way of a struct too %" PRIu64 "\n", tally.described);
     print_refusals("lists", tally.refused);
     print_refusals("lookups", tally.lookup_refused);

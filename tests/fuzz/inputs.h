@@ -44,7 +44,9 @@ static inline struct array_parameters random_layout(void)
     struct array_parameters p = {.offset_size = widths[random_below(3)], .length_size = widths[random_below(3)]};
 
     p.client = (uint8_t)(one_in(2) ? 0 : one_in(2) ? 1 : 1 + random_below(255));
-    p.element_size = (uint8_t)(p.client == 0 ? random_below(256) : one_in(16) ? p.offset_size + random_below(20) : p.offset_size + 4u + random_below(9));
+    p.element_size = (uint8_t)(p.client == 0 ? random_below(256)
+                               : one_in(16)  ? p.offset_size + random_below(20)
+                                             : p.offset_size + 4u + random_below(9));
     p.max_bits = (uint8_t)(one_in(4) ? random_below(63) : 4 + random_below(20));
     p.inline_count = (uint8_t)random_below(one_in(8) ? 256 : 6);
     p.least = (uint8_t)(1u << random_below(one_in(4) ? 8 : 4));
@@ -66,7 +68,8 @@ static inline void random_elements(struct input *in)
     for (uint32_t far = random_below(4); far > 0; far--) {
         slot += random_below(one_in(2) ? 300 : INPUT_SLOTS / 3);
         if (slot < slots)
-            in->entries[a->entry_count++] = (struct entry){slot++, 1 + random_below(60000), random_below(1u << 31), random_below(UINT32_MAX)};
+            in->entries[a->entry_count++] = (struct entry){slot++, 1 + random_below(60000), random_below(1u << 31),
+                                                           random_below(UINT32_MAX)};
     }
     a->count = one_in(8) ? random_number() : one_in(4) ? random_below((uint32_t)slot + 1) : slot + random_below(50);
     if (a->of.length_size < 8)
@@ -80,7 +83,9 @@ static inline void random_dimension(struct grid *g, uint64_t d, int leads, int u
 
     g->chunk[d] = g->rank > 6 ? 1 + random_below(8) / 7 : 1 + random_below(5);
     g->present[d] = g->chunk[d] * chunks - random_below((uint32_t)g->chunk[d]);
-    g->maximum[d] = unlimited ? CELLUMAQ_UNLIMITED : one_in(8) ? 1 + g->present[d] / 2 : g->present[d] + random_below(g->rank > 6 ? 2 : 9);
+    g->maximum[d] = unlimited   ? CELLUMAQ_UNLIMITED
+                    : one_in(8) ? 1 + g->present[d] / 2
+                                : g->present[d] + random_below(g->rank > 6 ? 2 : 9);
 }
 
 static inline void random_grid(struct grid *g)

@@ -61,7 +61,8 @@ static inline void round_checksum(struct slice file)
     struct slice part = {file.length == 0 ? NULL : file.bytes + start, length};
     uint8_t *lent = lent_put(&call_lent[CALL_FILE], part.bytes, length, (enum lent_where)random_below(3));
 
-    CHECK(cellumaq_checksum(lent, length) == lookup3_reference(part.bytes, length, 0), "another checksum than the reference's");
+    CHECK(cellumaq_checksum(lent, length) == lookup3_reference(part.bytes, length, 0),
+          "another checksum than the reference's");
     CHECK(lent_stays(&call_lent[CALL_FILE], part.bytes), "the checksum wrote");
     tally.checksums++;
 }
@@ -81,7 +82,8 @@ static inline void check_corners(const struct call *c, const uint8_t *list, size
 
     for (size_t i = 0; i < count; i++)
         for (size_t d = 0; d < c->rank; d++) {
-            uint64_t offset = cellumaq_record_offset(list, c->rank, i, d), chunk = cellumaq_get(c->chunk.bytes + 8 * d, 8);
+            uint64_t offset = cellumaq_record_offset(list, c->rank, i, d),
+                     chunk = cellumaq_get(c->chunk.bytes + 8 * d, 8);
 
             CHECK(chunk != 0 && offset % chunk == 0, "record %zu: unaligned", i);
             CHECK(offset < cellumaq_get(c->present.bytes + 8 * d, 8), "record %zu: not in the present shape", i);
@@ -104,9 +106,11 @@ static inline void check_lookup(const struct call *c, const uint8_t *list, size_
     struct cellumaq_answer a = counted_lookup(c, (struct slice){corner, 8 * c->rank}, "the lookup of an accepted list");
 
     CHECK(a.refusal == 0, "the list is accepted, the lookup refused with %" PRIu64, a.refusal);
-    CHECK(a.count == (record != NULL), "the list has %d record of a corner, the lookup %" PRIu64, record != NULL, a.count);
+    CHECK(a.count == (record != NULL), "the list has %d record of a corner, the lookup %" PRIu64, record != NULL,
+          a.count);
     if (record != NULL)
-        CHECK(a.address == cellumaq_get(record, 8) && a.size == cellumaq_get(record + 8, 4) && a.mask == cellumaq_get(record + 12, 4),
+        CHECK(a.address == cellumaq_get(record, 8) && a.size == cellumaq_get(record + 8, 4) &&
+                  a.mask == cellumaq_get(record + 12, 4),
               "the lookup gives another record than the list");
 }
 
@@ -124,11 +128,13 @@ static inline void check_lookups(const struct call *c, const uint8_t *list, size
     }
     for (int i = 0; i < 6; i++) {
         for (size_t d = 0; d < c->rank; d++) {
-            uint64_t chunk = cellumaq_get(c->chunk.bytes + 8 * d, 8), present = cellumaq_get(c->present.bytes + 8 * d, 8);
+            uint64_t chunk = cellumaq_get(c->chunk.bytes + 8 * d, 8),
+                     present = cellumaq_get(c->present.bytes + 8 * d, 8);
 
             if (present == 0)
                 return;
-            uint64_t last = (present - 1) / chunk, index = one_in(2) && last < UINT32_MAX ? random_below((uint32_t)last + 1) : random_number();
+            uint64_t last = (present - 1) / chunk,
+                     index = one_in(2) && last < UINT32_MAX ? random_below((uint32_t)last + 1) : random_number();
             cellumaq_put_length(corner, d, (index <= last ? index : last) * chunk);
         }
         check_lookup(c, list, count, corner);
@@ -139,8 +145,8 @@ static inline void check_lookups(const struct call *c, const uint8_t *list, size
  * same. */
 static inline int is_shared(uint64_t refusal)
 {
-    return (refusal >= CELLUMAQ_REFUSED_OFFSET_SIZE && refusal <= CELLUMAQ_REFUSED_TOO_MANY_CHUNKS) || refusal == CELLUMAQ_REFUSED_HEADER_SIGNATURE ||
-           refusal == CELLUMAQ_REFUSED_HEADER_VERSION;
+    return (refusal >= CELLUMAQ_REFUSED_OFFSET_SIZE && refusal <= CELLUMAQ_REFUSED_TOO_MANY_CHUNKS) ||
+           refusal == CELLUMAQ_REFUSED_HEADER_SIGNATURE || refusal == CELLUMAQ_REFUSED_HEADER_VERSION;
 }
 
 /* The list of a sound input is known. */
@@ -149,8 +155,10 @@ static inline void check_sound(const struct input *in, const struct cellumaq_ans
     size_t count, record = cellumaq_record_size(in->call.rank);
     uint8_t *expected = dataset_list(&in->dataset, &count);
 
-    CHECK(a->refusal == 0 && a->count == count, "a sound array: refusal %" PRIu64 ", %" PRIu64 " records, not %zu", a->refusal, a->count, count);
-    CHECK(a->count != count || count == 0 || memcmp(list, expected, count * record) == 0, "a sound array: other records");
+    CHECK(a->refusal == 0 && a->count == count, "a sound array: refusal %" PRIu64 ", %" PRIu64 " records, not %zu",
+          a->refusal, a->count, count);
+    CHECK(a->count != count || count == 0 || memcmp(list, expected, count * record) == 0,
+          "a sound array: other records");
     free(expected);
 }
 
@@ -173,21 +181,27 @@ static inline void round_list(const struct input *in)
 {
     const struct call *c = &in->call;
     uint64_t needed = needed_records(c);
-    size_t record = cellumaq_record_size(c->rank <= 32 ? c->rank : 0), room = (needed <= ROUND_RECORDS ? needed : 0) * record;
-    size_t length = room + random_below(one_in(8) ? 2000 : (uint32_t)record), less = needed == 0 ? 0 : random_below((uint32_t)room);
+    size_t record = cellumaq_record_size(c->rank <= 32 ? c->rank : 0),
+           room = (needed <= ROUND_RECORDS ? needed : 0) * record;
+    size_t length = room + random_below(one_in(8) ? 2000 : (uint32_t)record),
+           less = needed == 0 ? 0 : random_below((uint32_t)room);
     uint8_t *list = malloc(length + 1);
-    struct cellumaq_answer a = ask_list(c, length, list, "the list"), of_corner = counted_lookup(c, in->corner, "a corner");
+    struct cellumaq_answer a = ask_list(c, length, list, "the list"),
+                           of_corner = counted_lookup(c, in->corner, "a corner");
 
     tally.lists += CALL_PICKS;
     if (needed > ROUND_RECORDS) {
         tally.too_many++;
-        CHECK(a.refusal == CELLUMAQ_REFUSED_LIST_TOO_SMALL && a.first == needed, "refusal %" PRIu64 " of too small a list", a.refusal);
+        CHECK(a.refusal == CELLUMAQ_REFUSED_LIST_TOO_SMALL && a.first == needed,
+              "refusal %" PRIu64 " of too small a list", a.refusal);
     } else {
         count_refusal(tally.refused, a.refusal, "the list");
-        CHECK(a.refusal == 0 ? a.count == needed : needed == 0, "%" PRIu64 " records were needed, the list has %" PRIu64, needed, a.count);
+        CHECK(a.refusal == 0 ? a.count == needed : needed == 0,
+              "%" PRIu64 " records were needed, the list has %" PRIu64, needed, a.count);
     }
     if (is_shared(a.refusal))
-        CHECK(of_corner.refusal == a.refusal && of_corner.first == a.first && of_corner.second == a.second, "the lookup has another refusal");
+        CHECK(of_corner.refusal == a.refusal && of_corner.first == a.first && of_corner.second == a.second,
+              "the lookup has another refusal");
     if (a.refusal == 0) {
         tally.accepted++;
         tally.records += a.count;
@@ -206,7 +220,8 @@ static inline void round_list(const struct input *in)
         struct cellumaq_answer refused = ask_list(c, less, list, "a list without enough room");
 
         tally.lists += CALL_PICKS;
-        CHECK(refused.refusal == CELLUMAQ_REFUSED_LIST_TOO_SMALL && refused.first == needed && refused.second == 0, "refusal %" PRIu64, refused.refusal);
+        CHECK(refused.refusal == CELLUMAQ_REFUSED_LIST_TOO_SMALL && refused.first == needed && refused.second == 0,
+              "refusal %" PRIu64, refused.refusal);
     }
     free(list);
 }

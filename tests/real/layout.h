@@ -45,9 +45,11 @@ static inline uint64_t search_messages(const struct messages *m, uint64_t at, ui
         if (message[0] == MESSAGE_LAYOUT)
             found = layout_index(m, message + head, length);
         if (message[0] == MESSAGE_CONTINUATION && length == m->offset_size + m->length_size) {
-            uint64_t block = cellumaq_get(message + head, m->offset_size), block_length = cellumaq_get(message + head + m->offset_size, m->length_size);
+            uint64_t block = cellumaq_get(message + head, m->offset_size),
+                     block_length = cellumaq_get(message + head + m->offset_size, m->length_size);
 
-            if (block_length >= 8 && block < m->file_length && block_length <= m->file_length - block && memcmp(m->file + block, "OCHK", 4) == 0)
+            if (block_length >= 8 && block < m->file_length && block_length <= m->file_length - block &&
+                memcmp(m->file + block, "OCHK", 4) == 0)
                 found = search_messages(m, block + 4, block + block_length - 4);
         }
         at += head + length;
@@ -56,12 +58,14 @@ static inline uint64_t search_messages(const struct messages *m, uint64_t at, ui
 }
 
 /* The address of the extensible array of the dataset whose object header begins at a position, or UINT64_MAX. */
-static inline uint64_t index_address(const uint8_t *file, uint64_t file_length, uint64_t offset_size, uint64_t length_size, uint64_t header)
+static inline uint64_t index_address(const uint8_t *file, uint64_t file_length, uint64_t offset_size,
+                                     uint64_t length_size, uint64_t header)
 {
     if (header + 6 > file_length || memcmp(file + header, "OHDR", 4) != 0 || file[header + 4] != 2)
         return UINT64_MAX;
     uint8_t flags = file[header + 5];
-    uint64_t at = header + 6 + ((flags & 0x20) != 0 ? 16 : 0) + ((flags & 0x10) != 0 ? 4 : 0), width = (uint64_t)1 << (flags & 3);
+    uint64_t at = header + 6 + ((flags & 0x20) != 0 ? 16 : 0) + ((flags & 0x10) != 0 ? 4 : 0),
+             width = (uint64_t)1 << (flags & 3);
     if (at + width > file_length)
         return UINT64_MAX;
     struct messages m = {file, file_length, offset_size, length_size, (flags & 4) != 0};

@@ -33,7 +33,8 @@ static const struct archive archives[] = {
     {.name = "filtered columns", 8, 8, 2, 1, {3, 4}, {10, 600}, {12, 0}, .filtered = 1, .chance = 9, .step = 1},
     {.name = "columns in a file of 2 bytes an offset", 2, 2, 2, 1, {2, 2}, {5, 60}, {9, 0}, .chance = 6, .step = 1},
     {.name = "planes", 4, 8, 3, 0, {1, 2, 2}, {120, 5, 7}, {0, 6, 9}, .chance = 8, .step = 1},
-    {.name = "filtered, unlimited in the middle", 8, 4, 3, 1, {2, 1, 3}, {5, 150, 7}, {8, 0, 7}, .filtered = 1, .chance = 7, .step = 1},
+    {.name = "filtered, unlimited in the middle", 8, 4, 3, 1, {2, 1, 3}, {5, 150, 7}, {8, 0, 7}, .filtered = 1,
+     .chance = 7, .step = 1},
     {.name = "unlimited last", 8, 8, 3, 2, {2, 2, 2}, {3, 4, 400}, {4, 9, 0}, .chance = 3, .step = 1},
     {.name = "rank 4", 8, 8, 4, 2, {1, 2, 1, 2}, {2, 3, 90, 5}, {3, 4, 0, 6}, .filtered = 1, .chance = 10, .step = 1},
     {.name = "rank 6", 4, 4, 6, 5, {1, 2, 1, 2, 1, 2}, {2, 3, 1, 2, 2, 80}, {2, 3, 2, 4, 2, 0}, .chance = 6, .step = 1},
@@ -166,8 +167,9 @@ static uint8_t *read_archive(size_t *length)
 /* The dataset, from what the library says of it; its index isn't known yet. */
 static struct cellumaq_dataset described(const struct archive *a, hid_t dataset, const uint8_t *file, size_t length)
 {
-    struct cellumaq_dataset d = {.file = file, .file_length = length, .offset_size = a->offset_size, .length_size = a->length_size,
-                                 .element_bytes = 4, .order = CELLUMAQ_UNLIMITED_FIRST};
+    struct cellumaq_dataset d = {.file = file, .file_length = length, .offset_size = a->offset_size,
+                                 .length_size = a->length_size, .element_bytes = 4,
+                                 .order = CELLUMAQ_UNLIMITED_FIRST};
     hid_t space = H5Dget_space(dataset);
     hsize_t present[RANK_MOST], maximum[RANK_MOST];
     H5O_info_t info;
@@ -197,22 +199,29 @@ static void compare_list(const struct archive *a, hid_t dataset, const struct ce
     uint8_t *list = malloc((chunks + 1) * cellumaq_record_size(d->rank));
     struct cellumaq_answer answer = cellumaq_ask_list(d, list, chunks * cellumaq_record_size(d->rank));
 
-    CHECK(chunks != 0 && answer.refusal == 0 && answer.count == chunks, "%s: refusal %" PRIu64 ", %" PRIu64 " chunks, not %" PRIu64, a->name,
-          answer.refusal, answer.count, (uint64_t)chunks);
+    CHECK(chunks != 0 && answer.refusal == 0 && answer.count == chunks,
+          "%s: refusal %" PRIu64 ", %" PRIu64 " chunks, not %" PRIu64, a->name, answer.refusal, answer.count,
+          (uint64_t)chunks);
     for (size_t i = 0; i < answer.count; i++) {
-        CHECK(H5Dget_chunk_info(dataset, space, i, corner, &mask, &address, &size) >= 0, "%s: the library has no chunk %zu", a->name, i);
-        CHECK(address == cellumaq_record_address(list, d->rank, i) && size == cellumaq_record_chunk_size(list, d->rank, i) &&
-              mask == cellumaq_record_mask(list, d->rank, i), "%s: the library has another chunk %zu", a->name, i);
+        CHECK(H5Dget_chunk_info(dataset, space, i, corner, &mask, &address, &size) >= 0,
+              "%s: the library has no chunk %zu", a->name, i);
+        CHECK(address == cellumaq_record_address(list, d->rank, i) &&
+                  size == cellumaq_record_chunk_size(list, d->rank, i) &&
+                  mask == cellumaq_record_mask(list, d->rank, i),
+              "%s: the library has another chunk %zu", a->name, i);
         for (size_t k = 0; k < d->rank && a->unlimited == 0; k++)
-            CHECK(corner[k] == cellumaq_record_offset(list, d->rank, i, k), "%s: the library has another corner of chunk %zu", a->name, i);
+            CHECK(corner[k] == cellumaq_record_offset(list, d->rank, i, k),
+                  "%s: the library has another corner of chunk %zu", a->name, i);
     }
-    printf("  %s: index at %" PRIu64 " of %zu bytes, %" PRIu64 " of %" PRIu64 " chunks\n", a->name, d->address, d->file_length, answer.count, corners(a));
+    printf("  %s: index at %" PRIu64 " of %zu bytes, %" PRIu64 " of %" PRIu64 " chunks\n", a->name, d->address,
+           d->file_length, answer.count, corners(a));
     free(list);
     H5Sclose(space);
 }
 
 /* The chunk of a corner, by the library: whether it is there, its mask, and its bytes where the lookup says. */
-static void compare_lookup(const struct archive *a, hid_t dataset, const struct cellumaq_dataset *d, const hsize_t corner[RANK_MOST])
+static void compare_lookup(const struct archive *a, hid_t dataset, const struct cellumaq_dataset *d,
+                           const hsize_t corner[RANK_MOST])
 {
     uint8_t bytes[CHUNK_BYTES_MOST];
     uint64_t offsets[RANK_MOST];
@@ -226,12 +235,15 @@ static void compare_lookup(const struct archive *a, hid_t dataset, const struct 
     CHECK(answer.refusal == 0, "%s: a lookup is refused with %" PRIu64, a->name, answer.refusal);
     if (H5Dget_chunk_storage_size(dataset, corner, &size) < 0)
         size = 0;
-    CHECK(answer.size == size && answer.count == (size != 0), "%s: the library has %" PRIu64 " bytes of a chunk", a->name, (uint64_t)size);
+    CHECK(answer.size == size && answer.count == (size != 0), "%s: the library has %" PRIu64 " bytes of a chunk",
+          a->name, (uint64_t)size);
     if (size == 0 || answer.count == 0 || size > sizeof bytes)
         return;
-    CHECK(H5Dread_chunk(dataset, H5P_DEFAULT, corner, &mask, bytes) >= 0, "%s: the library can't read a chunk", a->name);
+    CHECK(H5Dread_chunk(dataset, H5P_DEFAULT, corner, &mask, bytes) >= 0, "%s: the library can't read a chunk",
+          a->name);
     CHECK(answer.mask == mask, "%s: the library has mask %" PRIu32, a->name, mask);
-    CHECK(answer.address + size <= d->file_length && memcmp(d->file + answer.address, bytes, size) == 0, "%s: the chunk's bytes are elsewhere", a->name);
+    CHECK(answer.address + size <= d->file_length && memcmp(d->file + answer.address, bytes, size) == 0,
+          "%s: the chunk's bytes are elsewhere", a->name);
 }
 
 /* All corners of the present shape, or of very many a part; and all that may be written. */
