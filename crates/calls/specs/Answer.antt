@@ -5,8 +5,8 @@ use mathlib.Core.List.{List, [], _∷_}
 use lib.ListN.{length, getD, replicate}
 use Rattle.refusal.specs.Outcome.{Outcome, refused, accepted}
 
--- The numbers of an answer: those of the refusal (its number and two figures, all 0 where the call is accepted), then those
--- that the call names. After a refusal the named numbers, this many, are 0.
+-- The numbers of an answer: those of the refusal (its number and two figures, all 0 where the call is accepted), then
+-- those that the call names. After a refusal the named numbers, this many, are 0.
 unfoldable pub answered : {A : Type 0} → ℕ → (A → List ℕ) → Outcome A → List ℕ
 answered names numbers (refused r) = r .number ∷ r .first ∷ r .second ∷ replicate names 0
 answered names numbers (accepted x) = 0 ∷ 0 ∷ 0 ∷ numbers x

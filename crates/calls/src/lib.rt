@@ -14,8 +14,8 @@ use shapes::grid_from_bytes;
 // The numbers that the calls name which list and look up chunks: count, address, size, mask.
 pub const CHUNK_NAMES: u64 = 4;
 
-// The numbers that a call is given beside its bytes: the sizes of offsets and lengths, the address of the index's header,
-// the bytes of one element, the grid's order and rank, and whether there are maximum extents (0: none).
+// The numbers that a call is given beside its bytes: the sizes of offsets and lengths, the address of the index's
+// header, the bytes of one element, the grid's order and rank, and whether there are maximum extents (0: none).
 pub struct CallNumbers {
     pub offset_size: u64,
     pub length_size: u64,

@@ -31,8 +31,9 @@ pub extern "C" fn cellumaq_checksum(bytes: &[u8]) -> u32
     checksum::jenkins_lookup3(bytes)
 }
 
-// The chunk list of a dataset, into a lent list. Answers the number that `which` asks for: 0, where the refusal is asked for, says that
-// the call is accepted. The list holds what it says, and for rank 1 to 32 an accepted list is complete and exact.
+// The chunk list of a dataset, into a lent list. Answers the number that `which` asks for: 0, where the refusal is
+// asked for, says that the call is accepted. The list holds what it says, and for rank 1 to 32 an accepted list is
+// complete and exact.
 #[no_mangle]
 pub extern "C" fn cellumaq_list(
     file: &[u8],
@@ -49,7 +50,8 @@ pub extern "C" fn cellumaq_list(
     list: &mut [u8],
     which: u64,
 ) -> u64
-    ensures { λ r. ⌜ (let grid = gridGiven order rank (now (chunk .entry)) (now (present .entry)) «has_maximum» (now (maximum .entry)) in
+    ensures { λ r. ⌜ (let grid =
+        gridGiven order rank (now (chunk .entry)) (now (present .entry)) «has_maximum» (now (maximum .entry)) in
         let call = callOf (now (file .entry)) «offset_size» «length_size» address «element_bytes» grid in
         let answer = listAt call (length (now (list .entry)) / recordLength rank) in
         (r ≡ picked which (answered chunkNames listNumbers answer))
@@ -71,8 +73,9 @@ pub extern "C" fn cellumaq_list(
     counted_number(which, counted, CHUNK_NAMES)
 }
 
-// One chunk of a dataset by its corner. Answers the number that `which` asks for: 0, where the refusal is asked for, says that the call
-// is accepted. An accepted answer says what the place of the corner's slot holds, and agrees with an accepted list.
+// One chunk of a dataset by its corner. Answers the number that `which` asks for: 0, where the refusal is asked for,
+// says that the call is accepted. An accepted answer says what the place of the corner's slot holds, and agrees with
+// an accepted list.
 #[no_mangle]
 pub extern "C" fn cellumaq_lookup(
     file: &[u8],
@@ -89,7 +92,8 @@ pub extern "C" fn cellumaq_lookup(
     corner: &[u8],
     which: u64,
 ) -> u64
-    ensures { λ r. ⌜ (let grid = gridGiven order rank (now (chunk .entry)) (now (present .entry)) «has_maximum» (now (maximum .entry)) in
+    ensures { λ r. ⌜ (let grid =
+        gridGiven order rank (now (chunk .entry)) (now (present .entry)) «has_maximum» (now (maximum .entry)) in
         let call = callOf (now (file .entry)) «offset_size» «length_size» address «element_bytes» grid in
         let at = shapeOf rank (now (corner .entry)) in
         let answer = lookupAt call at in

@@ -37,11 +37,13 @@ finalMixed w =
     let v = finalLine 24 (finalLine 14 (finalLine 4 (finalLine 16 (finalLine 25 (finalLine 11 (finalLine 14 w)))))) in
     record { a = v .c; b = v .a; c = v .b }
 
--- a += k[0]; b += k[1]; c += k[2], the first 12 bytes of s as three words. In the tail a byte that is not there adds nothing.
+-- a += k[0]; b += k[1]; c += k[2], the first 12 bytes of s as three words. In the tail a byte that is not there adds
+-- nothing.
 unfoldable pub added : Words → List ℕ → Words
 added w s = record { a = add32 (w .a) (leAt s 0 4); b = add32 (w .b) (leAt s 4 4); c = add32 (w .c) (leAt s 8 4) }
 
--- n blocks of 12 bytes, each added and mixed; then the tail, the last 1 to 12 bytes, added and mixed for the last time: the hash is c
+-- n blocks of 12 bytes, each added and mixed; then the tail, the last 1 to 12 bytes, added and mixed for the last
+-- time: the hash is c
 unfoldable pub blocks : ℕ → Words → List ℕ → ℕ
 blocks zero w s = finalMixed (added w s) .c
 blocks (suc n) w s = blocks n (mixed (added w s)) (drop 12 s)

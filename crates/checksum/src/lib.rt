@@ -45,9 +45,11 @@ pub fn verify_trailing(block: &[u8]) -> Checked
     compared(block, jenkins_lookup3(body(block)))
 }
 
-// Tests the checksums of two structures, side by side. (One hash is a chain of dependent steps: two take little longer than one.)
+// Tests the checksums of two structures, side by side. (One hash is a chain of dependent steps: two take little
+// longer than one.)
 pub fn verify_trailing_two(one: &[u8], other: &[u8]) -> TwoChecked
-    ensures { λ r. ⌜ (r .first ≡ trailingTest lookup3 (now (one .entry))) × (r .second ≡ trailingTest lookup3 (now (other .entry))) ⌝ }
+    ensures { λ r. ⌜ (r .first ≡ trailingTest lookup3 (now (one .entry)))
+        × (r .second ≡ trailingTest lookup3 (now (other .entry))) ⌝ }
 {
     let computed = hashlittle_two(body(one), body(other), 0);
     TwoChecked {
@@ -211,7 +213,8 @@ fn lesser(n: usize, m: usize) -> usize
 
 // The hashes of s and t, block by block in turn while both have more than 12 bytes left.
 fn hashlittle_two(s: &[u8], t: &[u8], initval: u32) -> TwoHashes
-    ensures { λ r. ⌜ (r .first ≡ hashlittle (now (s .entry)) initval) × (r .second ≡ hashlittle (now (t .entry)) initval) ⌝ }
+    ensures { λ r. ⌜ (r .first ≡ hashlittle (now (s .entry)) initval)
+        × (r .second ≡ hashlittle (now (t .entry)) initval) ⌝ }
 {
     let both = lesser(s.len(), t.len());
     if both == 0 {

@@ -1,5 +1,5 @@
-// Prints checksums of known bytes: lookup3.c's vectors with start value 0, every length from 1 to 40, and tests of a trailing
-// checksum.
+// Prints checksums of known bytes: lookup3.c's vectors with start value 0, every length from 1 to 40, and tests of a
+// trailing checksum.
 use libc::STDOUT_FILENO;
 
 fn print_checksum(s: &[u8]) {

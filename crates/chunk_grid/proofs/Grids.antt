@@ -1,4 +1,5 @@
--- The numbering of a grid: quotients of a slot add up to it, and the slot of a slot's offsets is that slot. Assumes nothing.
+-- The numbering of a grid: quotients of a slot add up to it, and the slot of a slot's offsets is that slot. Assumes
+-- nothing.
 use Prim.Native.Nat.{ℕ, suc, _+_, _-_, _*_, _/_, _%_, _<_, _≤_, max}
 use mathlib.Core.Path.{_≡_, refl, sym, ap, subst, _∙_}
 use mathlib.Core.Bool.{Bool, true, false, not, cond, _&&_}

@@ -12,8 +12,8 @@ use Rattle.chunk_grid.specs.declared.GridOrder.the-variants.{RowMajor, U
 use Rattle.chunk_grid.specs.declared.Slot.{Slot}
 use Rattle.chunk_grid.specs.declared.Slot.the-variants.{At, NoSlot}
 
--- What a grid is built from: its rank, the chunk's lengths and the present extents, whether maximum extents are given, these, and
--- whether the order is U (UnlimitedFirst) or R (RowMajor).
+-- What a grid is built from: its rank, the chunk's lengths and the present extents, whether maximum extents are
+-- given, these, and whether the order is U (UnlimitedFirst) or R (RowMajor).
 pub record Grid : Type 0 where
   pub rank : ℕ
   pub chunk : List ℕ
@@ -30,7 +30,14 @@ isUnlimitedFirst UnlimitedFirst = true
 -- the grid of these shapes, the chunk's, the present and the maximum one; a maximum that isn't given is no part of it
 unfoldable pub given : ℕ → List ℕ → List ℕ → Bool → List ℕ → GridOrder → Grid
 given rank c p has m o =
-    record { rank = rank; chunk = c; present = p; hasMaximum = has; maximum = cond has m []; unlimitedFirst = isUnlimitedFirst o }
+    record {
+      rank = rank;
+      chunk = c;
+      present = p;
+      hasMaximum = has;
+      maximum = cond has m [];
+      unlimitedFirst = isUnlimitedFirst o;
+    }
 
 -- two lists, member by member
 unfoldable pub pairwise : (ℕ → ℕ → ℕ) → List ℕ → List ℕ → List ℕ
@@ -86,8 +93,8 @@ fromFront u l = take u (drop 1 l) ++ take 1 l ++ drop (suc u) l
 unfoldable pub ordered : Grid → List ℕ
 ordered g = toFront (leading g) (counts g)
 
--- The last multiplier is 1; each earlier one is the next one times the following dimension's count, a count of 0 taken as 1 there:
--- the multiplier in front of these counts.
+-- The last multiplier is 1; each earlier one is the next one times the following dimension's count, a count of 0
+-- taken as 1 there: the multiplier in front of these counts.
 unfoldable pub multiplier : List ℕ → ℕ
 multiplier [] = 1
 multiplier (c ∷ cs) = max c 1 * multiplier cs
@@ -111,7 +118,8 @@ quotients s (m ∷ ms) = s / m ∷ quotients (s % m) ms
 
 -- .. offset = quotient times chunk length.
 unfoldable pub offsets : Grid → ℕ → List ℕ
-offsets g s = fromFront (leading g) (pairwise _*_ (quotients s (multipliers (ordered g))) (toFront (leading g) (g .chunk)))
+offsets g s =
+    fromFront (leading g) (pairwise _*_ (quotients s (multipliers (ordered g))) (toFront (leading g) (g .chunk)))
 
 -- one of them passes 2^64 − 1
 unfoldable pub overflows : List ℕ → Bool
@@ -157,11 +165,13 @@ shapesTest g =
     then refuse 4 0 0 (not (eqb (length (g .present)) (g .rank)))
     then refuse 5 0 0 (g .hasMaximum && not (eqb (length (g .maximum)) (g .rank)))
 
--- The multipliers from the last forward, each 7 (an unlimited dimension where a count is needed), then 8 (more chunks than 2^64 − 1
--- can number): the multipliers of the counts behind the leading one.
+-- The multipliers from the last forward, each 7 (an unlimited dimension where a count is needed), then 8 (more chunks
+-- than 2^64 − 1 can number): the multipliers of the counts behind the leading one.
 unfoldable pub multiplierTest : List ℕ → Checked
 multiplierTest [] = Passed
-multiplierTest (c ∷ cs) = multiplierTest cs then refuse 7 0 0 (unlimited c) then refuse 8 0 0 (ltb largest64 (multiplier (c ∷ cs)))
+multiplierTest (c ∷ cs) =
+    multiplierTest cs then refuse 7 0 0 (unlimited c)
+    then refuse 8 0 0 (ltb largest64 (multiplier (c ∷ cs)))
 
 -- The product of all counts in dimension order, up to an unlimited one, 8.
 unfoldable pub productTest : ℕ → List ℕ → Checked

@@ -5,7 +5,8 @@ ghost use Prim.Native.Nat.{_-_, _<_, _≤_, max};
 ghost use lib.ListN.{length, take, drop};
 ghost use Rattle.refusal.specs.declared.Checked.the-variants.{Passed, Refused};
 ghost use Rattle.refusal.specs.Refusals.{_then_};
-ghost use Rattle.chunk_grid.specs.Grid.{pairwise, ceilDiv, countOf, leadingIn, toFront, multipliers, hasZero, isUnlimitedFirst, given};
+ghost use Rattle.chunk_grid.specs.Grid.{pairwise, ceilDiv, countOf, leadingIn, toFront, multipliers, hasZero};
+ghost use Rattle.chunk_grid.specs.Grid.{isUnlimitedFirst, given};
 ghost use Rattle.chunk_grid.specs.Grid.{shapesTest, multiplierTest, productTest, gridTest};
 ghost use Rattle.chunk_grid.specs.Values.{gridOf, whereTested, placeOf, dimAt, numberingTest, countsTest, Made};
 ghost use Rattle.chunk_grid.specs.Values.{GridNumbers, GridCounts, Extents};
@@ -20,7 +21,8 @@ pub enum GridOrder {
     UnlimitedFirst,
 }
 
-// The shapes of a grid: the first `rank` members of each array. Where has_maximum is false there are no maximum extents.
+// The shapes of a grid: the first `rank` members of each array. Where has_maximum is false there are no maximum
+// extents.
 pub struct ChunkGrid {
     pub rank: u64,
     pub chunk: [u64; 32],
@@ -30,8 +32,8 @@ pub struct ChunkGrid {
     pub order: GridOrder,
 }
 
-// What a grid's slots are numbered by, beside the lists of numbers that are lent: the dimension in front, and whether any slot is
-// numbered at all.
+// What a grid's slots are numbered by, beside the lists of numbers that are lent: the dimension in front, and whether
+// any slot is numbered at all.
 pub struct Numbering {
     pub rotated: u64,
     pub numbers: bool,
@@ -113,8 +115,9 @@ impl ChunkGrid {
         numbering_test(&limits[..rank], &chunk[..rank], order)
     }
 
-    // What the grid's slots are numbered by: for each dimension its count, and how many chunks its present extent reaches into; and the
-    // multipliers, in the grid's order. The members behind these `rank` numbers are left as they were.
+    // What the grid's slots are numbered by: for each dimension its count, and how many chunks its present extent
+    // reaches into; and the multipliers, in the grid's order. The members behind these `rank` numbers are left as
+    // they were.
     pub fn numbering(self, counts: &mut [u64], bound: &mut [u64], down: &mut [u64]) -> Numbering
         requires { ⌜ (gridTest (gridOf self) ≡ Passed)
             × (32 ≤ length (now counts)) × (32 ≤ length (now bound)) × (32 ≤ length (now down)) ⌝ }
@@ -276,8 +279,8 @@ fn at_least_one(n: u64) -> u64
     if n == 0 { 1 } else { n }
 }
 
-// The multipliers from the last dimension forward: the last is 1, each earlier one the next one times the following count.
-// Answers whether none of these counts is 0.
+// The multipliers from the last dimension forward: the last is 1, each earlier one the next one times the following
+// count. Answers whether none of these counts is 0.
 fn multipliers_of(down: &mut [u64], counts: &[u64], rotated: usize) -> bool
     requires { ⌜ (length (now down) ≡ length (now counts)) × (rotated ≤ length (now counts) - 1)
         × (multiplierTest (drop 1 (toFront rotated (now counts))) ≡ Passed) ⌝ }
@@ -290,7 +293,8 @@ fn multipliers_of(down: &mut [u64], counts: &[u64], rotated: usize) -> bool
         return numbers;
     }
     down[i - 1] = 1;
-    // The multipliers from place i - 1 on are stored; `numbers` says whether the counts from place i on are all above 0.
+    // The multipliers from place i - 1 on are stored; `numbers` says whether the counts from place i on are all above
+    // 0.
     while 1 < i {
         i -= 1;
         let count = counts[dim_at(i, rotated)];

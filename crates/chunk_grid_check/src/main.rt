@@ -1,6 +1,6 @@
-// Prints what the grids of its input answer: refusals, the numbers of a grid, the offsets of slots, and the slot of a corner. The
-// input is numbers in decimal: how many cases, and each case. A case begins with 0 where its shapes are numbers, else they are bytes; a
-// list is its length and its members.
+// Prints what the grids of its input answer: refusals, the numbers of a grid, the offsets of slots, and the slot of a
+// corner. The input is numbers in decimal: how many cases, and each case. A case begins with 0 where its shapes are
+// numbers, else they are bytes; a list is its length and its members.
 ghost use mathlib.Core.Path.{_≡_};
 ghost use Prim.Native.Nat.{_≤_};
 ghost use lib.ListN.{length};

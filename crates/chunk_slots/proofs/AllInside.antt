@@ -1,5 +1,5 @@
--- Where the largest quotients lie below their bounds, so do all: what a turn of the loop over the places keeps, and what follows for slots.
--- Assumes nothing.
+-- Where the largest quotients lie below their bounds, so do all: what a turn of the loop over the places keeps, and
+-- what follows for slots. Assumes nothing.
 use Prim.Native.Nat.{ℕ, _+_, _-_, _*_, _/_, _%_, _<_, _≤_}
 use mathlib.Core.Path.{_≡_, refl, sym, _∙_}
 use mathlib.Core.Bool.{Bool, true, false, not, _&&_}

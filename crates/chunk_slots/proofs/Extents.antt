@@ -1,4 +1,5 @@
--- The offsets of a slot, place by place: what a turn of the loop keeps, and what it comes to for the grid. Assumes nothing.
+-- The offsets of a slot, place by place: what a turn of the loop keeps, and what it comes to for the grid. Assumes
+-- nothing.
 use Prim.Native.Nat.{ℕ, suc, _+_, _-_, _*_, _/_, _%_, _<_, _≤_}
 use mathlib.Core.Path.{_≡_, refl, sym, ap, _∙_}
 use mathlib.Core.Bool.{Bool, true, false, cond, _&&_, _||_, and-assoc, or-assoc, and-true, or-false}

@@ -32,8 +32,9 @@ further m rest j h =
     let e : rest + j ≡ rest / m * m + (rest % m + j) = omega (arith, div-add-mod' rest m) in
     (ap (λ (n : ℕ). n / m) e ∙ digits-div (rest / m) h, ap (λ (n : ℕ). n % m) e ∙ digits-mod (rest / m) h)
 
--- Over an array, of which the first `rank` members count: the places in front of i have the same quotients for so many slots from `slot` on, and
--- none of their multipliers is 1; j slots on, the quotients from place i on are those of rest + j.
+-- Over an array, of which the first `rank` members count: the places in front of i have the same quotients for so
+-- many slots from `slot` on, and none of their multipliers is 1; j slots on, the quotients from place i on are those
+-- of rest + j.
 module _ (slot rank : ℕ) (down : List ℕ) where
   pub record Lining (slots rest i : ℕ) : Type 0 where
     pub within : i ≤ rank

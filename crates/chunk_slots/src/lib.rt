@@ -91,8 +91,8 @@ fn offset_overflows(q: u64, length: u64, bound: u64) -> bool
     }
 }
 
-// The offsets of a slot into the lent array, and whether they lie in the present extents. (For every element: arrays are lent, and
-// quotients are compared with bounds that are made once.)
+// The offsets of a slot into the lent array, and whether they lie in the present extents. (For every element: arrays
+// are lent, and quotients are compared with bounds that are made once.)
 pub fn offsets_in_extent(
     offsets: &mut [u64; 32],
     slot: u64,
@@ -116,7 +116,8 @@ pub fn offsets_in_extent(
     let mut inside = true;
     let mut over = false;
     let mut i = 0;
-    // The first i places' offsets are stored; `inside` and `over` speak of these places, and `rest` is what is left of the slot.
+    // The first i places' offsets are stored; `inside` and `over` speak of these places, and `rest` is what is left
+    // of the slot.
     while i < rank {
         let d = dim_at(i, rotated);
         let multiplier = down[i];
@@ -145,8 +146,8 @@ fn lesser(a: u64, b: u64) -> u64
     if a < b { a } else { b }
 }
 
-// The line that a slot in the present extents begins. At the first place whose multiplier is 1 the quotient grows from slot to slot,
-// until it comes to its bound or the quotient of a place before it changes.
+// The line that a slot in the present extents begins. At the first place whose multiplier is 1 the quotient grows
+// from slot to slot, until it comes to its bound or the quotient of a place before it changes.
 pub fn line_from(
     slot: u64,
     rank: usize,
@@ -163,7 +164,8 @@ pub fn line_from(
     let mut slots = u64::MAX;
     let mut rest = slot;
     let mut i = 0;
-    // The first i places have the same quotients for `slots` slots, and no multiplier 1; `rest` is what is left of the slot.
+    // The first i places have the same quotients for `slots` slots, and no multiplier 1; `rest` is what is left of
+    // the slot.
     while i < rank {
         let multiplier = down[i];
         if multiplier == 1 {
@@ -186,8 +188,8 @@ pub fn line_from(
     }
 }
 
-// Whether the first n slots all lie in the present extents, from the largest quotient at each place. (Once for many elements. Where an
-// extent behind the leading one ends before its maximum, the answer is no.)
+// Whether the first n slots all lie in the present extents, from the largest quotient at each place. (Once for many
+// elements. Where an extent behind the leading one ends before its maximum, the answer is no.)
 pub fn all_inside(
     n: u64,
     rank: usize,

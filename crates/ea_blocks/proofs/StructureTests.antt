@@ -1,4 +1,5 @@
--- Laws of an array's structures and their tests: a structure that has passed lies in the file, with all its parts. Assumes nothing.
+-- Laws of an array's structures and their tests: a structure that has passed lies in the file, with all its parts.
+-- Assumes nothing.
 use Prim.Native.Nat.{ℕ, _+_, _*_, _<_, _≤_}
 use mathlib.Core.Path.{_≡_, refl}
 use mathlib.Core.Bool.{true, false}

@@ -17,4 +17,10 @@ pub record Array : Type 0 where
 -- the array that a header heads, with this offset size
 abbrev pub arrayFrom : List ℕ → ExtensibleArrayHeader → ℕ → Array
 arrayFrom file h o =
-    record { file = file; sum = lookup3; parameters = h .parameters; offsetSize = o; indexAt = h .«index_block_address» }
+    record {
+      file = file;
+      sum = lookup3;
+      parameters = h .parameters;
+      offsetSize = o;
+      indexAt = h .«index_block_address»;
+    }

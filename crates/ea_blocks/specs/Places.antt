@@ -10,7 +10,8 @@ use Rattle.ea_geometry.specs.Extents.{inlineElementAt, blockElementAt, pagedEle
 use Rattle.ea_geometry.specs.declared.Place.{Place}
 use Rattle.ea_geometry.specs.declared.Place.the-variants.{Inline, Block, Page, Nowhere}
 use Rattle.ea_blocks.specs.Array.{Array}
-use Rattle.ea_blocks.specs.Structures.{Structure, superBlock, dataBlock, dataPage, testOf, isDirect, blockAt, superUndefined, blockUndefined, bitSet}
+use Rattle.ea_blocks.specs.Structures.{Structure, superBlock, dataBlock, dataPage, testOf, isDirect, blockAt}
+use Rattle.ea_blocks.specs.Structures.{superUndefined, blockUndefined, bitSet}
 
 -- A place is reached if each pointer to it in the index and super block is defined and its page bit (if any) is set.
 unfoldable pub blockReached : Array → ℕ → ℕ → Bool
@@ -29,7 +30,8 @@ positionOf a (Block u k i) = blockAt a u k + blockElementAt (a .parameters) (a .
 positionOf a (Page u k i p b) = blockAt a u k + pagedElementAt (a .parameters) (a .offsetSize) i
 positionOf a Nowhere = 0
 
--- The super block and data block that lead to data block k of super block u and to what is in it, up to an undefined pointer.
+-- The super block and data block that lead to data block k of super block u and to what is in it, up to an undefined
+-- pointer.
 unfoldable pub leadingTo : Array → ℕ → ℕ → List Structure → List Structure
 leadingTo a u k inner =
     let block = cond (blockUndefined a u k) [] (dataBlock u k ∷ inner) in

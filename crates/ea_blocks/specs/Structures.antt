@@ -11,7 +11,8 @@ use Rattle.structures.specs.Structures.{structureTest, Pages}
 use Rattle.structures.specs.PageBits.{pageBit}
 use Rattle.ea_header.specs.Served.{servedTest}
 use Rattle.ea_geometry.specs.Sizes.{directSuperBlocks, pageElements, bitNumber}
-use Rattle.ea_geometry.specs.Extents.{indexExtent, superExtent, dataExtent, pagedHeadExtent, pageExtent, pageAt, blockPrefix, directPointerAt, superPointerAt, blockPointerAt}
+use Rattle.ea_geometry.specs.Extents.{indexExtent, superExtent, dataExtent, pagedHeadExtent, pageExtent, pageAt}
+use Rattle.ea_geometry.specs.Extents.{blockPrefix, directPointerAt, superPointerAt, blockPointerAt}
 use Rattle.ea_geometry.specs.Place.{inPages}
 use Rattle.ea_blocks.specs.Array.{Array}
 
@@ -53,7 +54,8 @@ bitSet a u b = pageBit (a .file) (superAt a u + blockPrefix (a .parameters) (a .
 unfoldable pub pageSet : Array → ℕ → ℕ → ℕ → Bool
 pageSet a u k p = bitSet a u (bitNumber (a .parameters) u k p)
 
--- A structure by its place in the geometry: the index block, super block u, data block k of super block u, page p of that.
+-- A structure by its place in the geometry: the index block, super block u, data block k of super block u, page p of
+-- that.
 pub data Structure : Type 0 where
   indexBlock : Structure
   superBlock : ℕ → Structure
@@ -79,7 +81,8 @@ unfoldable pub extentOf : Array → Structure → ℕ
 extentOf a indexBlock = indexExtent (a .parameters) (a .offsetSize)
 extentOf a (superBlock u) = superExtent (a .parameters) (a .offsetSize) u
 extentOf a (dataBlock u k) =
-    cond (inPages (a .parameters) u) (pagedHeadExtent (a .parameters) (a .offsetSize)) (dataExtent (a .parameters) (a .offsetSize) u)
+    cond (inPages (a .parameters) u) (pagedHeadExtent (a .parameters) (a .offsetSize))
+    (dataExtent (a .parameters) (a .offsetSize) u)
 extentOf a (dataPage u k p) = pageExtent (a .parameters) (a .offsetSize)
 
 unfoldable pub testOf : Array → Structure → Checked
@@ -92,4 +95,9 @@ arrayTest a = servedTest (a .parameters) then testOf a indexBlock
 -- the pages of data block k of super block u
 abbrev pub pagesOf : Array → ℕ → ℕ → Pages
 pagesOf a u k =
-    record { size = pageElements (a .parameters); set = pageSet a u k; position = dataPageAt a u k; test = λ (p : ℕ). testOf a (dataPage u k p) }
+    record {
+      size = pageElements (a .parameters);
+      set = pageSet a u k;
+      position = dataPageAt a u k;
+      test = λ (p : ℕ). testOf a (dataPage u k p);
+    }

@@ -28,7 +28,10 @@ arrayOf file a = record {
 
 -- those of a header with this offset size
 abbrev pub headed : ExtensibleArrayHeader → ℕ → ExtensibleArray
-headed h o = record { geometry = record { parameters = h .parameters; «offset_size» = o }; «index_at» = h .«index_block_address» }
+headed h o = record {
+  geometry = record { parameters = h .parameters; «offset_size» = o };
+  «index_at» = h .«index_block_address»;
+}
 
 -- The parameters are served, the offset size is a width, and the index block lies in the file.
 pub record IndexInFile (file : List ℕ) (a : ExtensibleArray) : Type 0 where
@@ -36,12 +39,14 @@ pub record IndexInFile (file : List ℕ) (a : ExtensibleArray) : Type 0 where
   pub wide : isWidth (a .geometry .«offset_size») ≡ true
   pub inside : a .«index_at» + indexExtent (a .geometry .parameters) (a .geometry .«offset_size») ≤ length file
 
--- There is a data block k of super block u, and the pointer to it lies in the file: in the index block, or in the super block at superAt.
+-- There is a data block k of super block u, and the pointer to it lies in the file: in the index block, or in the
+-- super block at superAt.
 pub record PointerInFile (file : List ℕ) (a : ExtensibleArray) (u k superAt : ℕ) : Type 0 where
   pub super : u < superBlocks (a .geometry .parameters)
   pub block : k < blocks u
   pub index : IndexInFile file a
-  pub inside : directSuperBlocks (a .geometry .parameters) ≤ u → superAt + superExtent (a .geometry .parameters) (a .geometry .«offset_size») u ≤ length file
+  pub inside : directSuperBlocks (a .geometry .parameters) ≤ u
+      → superAt + superExtent (a .geometry .parameters) (a .geometry .«offset_size») u ≤ length file
 
 -- There is a page p of data block k of super block u, and its bit lies in the file: in the super block at superAt.
 pub record PageBitInFile (file : List ℕ) (a : ExtensibleArray) (superAt u k p : ℕ) : Type 0 where

@@ -84,7 +84,8 @@ pub fn enter_block_in_turn(
 ) -> Turn
     requires { ⌜ PointerInFile (now file) array u k «super_at» ⌝ }
     ensures { λ r. ⌜ (let a = arrayOf (now (file .entry)) array in (isDirect a u ≡ false → «super_at» ≡ superAt a u)
-        → TestedAhead a (dataBlock u) ahead → EnteredBlock a u k (r .found) × TestedAhead a (dataBlock u) (r .ahead)) ⌝ }
+        → TestedAhead a (dataBlock u) ahead → EnteredBlock a u k (r .found)
+        × TestedAhead a (dataBlock u) (r .ahead)) ⌝ }
 {
     match block_pointer(file, array, u, k, super_at) {
         Pointer::Undefined => Turn {
@@ -103,8 +104,8 @@ pub fn enter_block_in_turn(
     }
 }
 
-// The result of the test of data block k, which lies at `at`: the one that is known; tested with the next block, where that is defined and
-// they aren't read by pages; or tested alone.
+// The result of the test of data block k, which lies at `at`: the one that is known; tested with the next block,
+// where that is defined and they aren't read by pages; or tested alone.
 fn block_result(
     file: &[u8],
     array: ExtensibleArray,
@@ -115,8 +116,10 @@ fn block_result(
     ahead: Ahead,
 ) -> Tested
     requires { ⌜ PointerInFile (now file) array u k «super_at» ⌝ }
-    ensures { λ r. ⌜ (let a = arrayOf (now (file .entry)) array in (isDirect a u ≡ false → «super_at» ≡ superAt a u) → at ≡ blockAt a u k
-        → TestedAhead a (dataBlock u) ahead → (r .checked ≡ testOf a (dataBlock u k)) × TestedAhead a (dataBlock u) (r .ahead)) ⌝ }
+    ensures { λ r. ⌜ (let a = arrayOf (now (file .entry)) array in (isDirect a u ≡ false → «super_at» ≡ superAt a u)
+        → at ≡ blockAt a u k
+        → TestedAhead a (dataBlock u) ahead → (r .checked ≡ testOf a (dataBlock u k))
+        × TestedAhead a (dataBlock u) (r .ahead)) ⌝ }
 {
     if let Ahead::Known { index, checked } = ahead {
         if index == k {
@@ -174,7 +177,8 @@ pub fn enter_page_in_turn(
 ) -> Turn
     requires { ⌜ PageBitInFile (now file) array «super_at» u k p × (at ≤ length (now file)) ⌝ }
     ensures { λ r. ⌜ (let a = arrayOf (now (file .entry)) array in «super_at» ≡ superAt a u → at ≡ blockAt a u k
-        → TestedAhead a (dataPage u k) ahead → EnteredPage a u k p (r .found) × TestedAhead a (dataPage u k) (r .ahead)) ⌝ }
+        → TestedAhead a (dataPage u k) ahead → EnteredPage a u k p (r .found)
+        × TestedAhead a (dataPage u k) (r .ahead)) ⌝ }
 {
     if !page_set(file, array, super_at, u, k, p) {
         return Turn {
@@ -192,7 +196,8 @@ pub fn enter_page_in_turn(
     }
 }
 
-// The result of the test of page p: the one that is known; tested with the next page, where that is set; or tested alone.
+// The result of the test of page p: the one that is known; tested with the next page, where that is set; or tested
+// alone.
 fn page_result(
     file: &[u8],
     array: ExtensibleArray,
@@ -205,7 +210,8 @@ fn page_result(
 ) -> Tested
     requires { ⌜ PageBitInFile (now file) array «super_at» u k p × (at ≤ length (now file)) ⌝ }
     ensures { λ r. ⌜ (let a = arrayOf (now (file .entry)) array in at ≡ blockAt a u k
-        → TestedAhead a (dataPage u k) ahead → (r .checked ≡ testOf a (dataPage u k p)) × TestedAhead a (dataPage u k) (r .ahead)) ⌝ }
+        → TestedAhead a (dataPage u k) ahead → (r .checked ≡ testOf a (dataPage u k p))
+        × TestedAhead a (dataPage u k) (r .ahead)) ⌝ }
 {
     if let Ahead::Known { index, checked } = ahead {
         if index == p {

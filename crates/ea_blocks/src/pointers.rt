@@ -21,7 +21,8 @@ pub enum Pointer {
 
 // The pointer in the index block to super block u.
 pub fn super_pointer(file: &[u8], array: ExtensibleArray, u: u64) -> Pointer
-    requires { ⌜ (directSuperBlocks (array .geometry .parameters) ≤ u) × (u < superBlocks (array .geometry .parameters)) × IndexInFile (now file) array ⌝ }
+    requires { ⌜ (directSuperBlocks (array .geometry .parameters) ≤ u)
+        × (u < superBlocks (array .geometry .parameters)) × IndexInFile (now file) array ⌝ }
     ensures { λ r. ⌜ (let a = arrayOf (now (file .entry)) array in r ≡ pointerOf (superUndefined a u) (superAt a u)) ⌝ }
 {
     let pos = array.index_at + array.geometry.super_pointer_at(u);
@@ -56,7 +57,8 @@ pub fn page_set(file: &[u8], array: ExtensibleArray, super_at: u64, u: u64, k: u
 // The pointer in the `width` bytes from pos on.
 fn read_pointer(file: &[u8], pos: u64, width: u64) -> Pointer
     requires { ⌜ (pos + width ≤ length (now file)) × (isWidth width ≡ true) ⌝ }
-    ensures { λ r. ⌜ r ≡ pointerOf (undefinedAt (now (file .entry)) pos width) (addressAt (now (file .entry)) pos width) ⌝ }
+    ensures { λ r. ⌜ r
+        ≡ pointerOf (undefinedAt (now (file .entry)) pos width) (addressAt (now (file .entry)) pos width) ⌝ }
 {
     let address = read_address(file, pos as usize, width as usize);
     if is_undefined_addr(address, width) {

@@ -69,7 +69,8 @@ pub fn test_super_block(file: &[u8], array: ExtensibleArray, u: u64, at: u64) ->
 // Tests a data block of super block u, which lies at `at`: its head alone, where it is read by pages.
 pub fn test_data_block(file: &[u8], array: ExtensibleArray, u: u64, at: u64) -> Checked
     requires { ⌜ (u < superBlocks (array .geometry .parameters)) × Bounded (array .geometry) ⌝ }
-    ensures { λ r. ⌜ ((k : ℕ) → let a = arrayOf (now (file .entry)) array in at ≡ blockAt a u k → r ≡ testOf a (dataBlock u k)) ⌝ }
+    ensures { λ r. ⌜ ((k : ℕ) → let a = arrayOf (now (file .entry)) array in at ≡ blockAt a u k
+        → r ≡ testOf a (dataBlock u k)) ⌝ }
 {
     let len = if array.geometry.in_pages(u) {
         array.geometry.paged_head_extent()
@@ -87,8 +88,10 @@ pub fn test_two_blocks(
     at: u64,
     other: u64,
 ) -> TwoChecked
-    requires { ⌜ (u < superBlocks (array .geometry .parameters)) × Bounded (array .geometry) × (inPages (array .geometry .parameters) u ≡ false) ⌝ }
-    ensures { λ r. ⌜ ((k n : ℕ) → let a = arrayOf (now (file .entry)) array in at ≡ blockAt a u k → other ≡ blockAt a u n
+    requires { ⌜ (u < superBlocks (array .geometry .parameters)) × Bounded (array .geometry)
+        × (inPages (array .geometry .parameters) u ≡ false) ⌝ }
+    ensures { λ r. ⌜ ((k n : ℕ) → let a = arrayOf (now (file .entry)) array in at ≡ blockAt a u k
+        → other ≡ blockAt a u n
         → (r .first ≡ testOf a (dataBlock u k)) × (r .second ≡ testOf a (dataBlock u n))) ⌝ }
 {
     test_two_structures(file, DATA_BLOCK, at, other, array.geometry.data_extent(u))
@@ -96,9 +99,11 @@ pub fn test_two_blocks(
 
 // Tests page p of a data block that lies at `at`.
 pub fn test_page(file: &[u8], array: ExtensibleArray, at: u64, p: u64) -> Checked
-    requires { ⌜ ((u : ℕ) × (u < superBlocks (array .geometry .parameters)) × (p < pages (array .geometry .parameters) u)) × Bounded (array .geometry)
+    requires { ⌜ ((u : ℕ) × (u < superBlocks (array .geometry .parameters))
+        × (p < pages (array .geometry .parameters) u)) × Bounded (array .geometry)
         × (at ≤ length (now file)) ⌝ }
-    ensures { λ r. ⌜ ((u k : ℕ) → let a = arrayOf (now (file .entry)) array in at ≡ blockAt a u k → r ≡ testOf a (dataPage u k p)) ⌝ }
+    ensures { λ r. ⌜ ((u k : ℕ) → let a = arrayOf (now (file .entry)) array in at ≡ blockAt a u k
+        → r ≡ testOf a (dataPage u k p)) ⌝ }
 {
     let pos = at + array.geometry.page_at(p);
     test_structure(file, Kind::Page, pos, array.geometry.page_extent())
@@ -106,7 +111,8 @@ pub fn test_page(file: &[u8], array: ExtensibleArray, at: u64, p: u64) -> Checke
 
 // Tests pages p and p + 1 of it.
 pub fn test_two_pages(file: &[u8], array: ExtensibleArray, at: u64, p: u64) -> TwoChecked
-    requires { ⌜ ((u : ℕ) × (u < superBlocks (array .geometry .parameters)) × (p + 1 < pages (array .geometry .parameters) u)) × Bounded (array .geometry)
+    requires { ⌜ ((u : ℕ) × (u < superBlocks (array .geometry .parameters))
+        × (p + 1 < pages (array .geometry .parameters) u)) × Bounded (array .geometry)
         × (at ≤ length (now file)) ⌝ }
     ensures { λ r. ⌜ ((u k : ℕ) → let a = arrayOf (now (file .entry)) array in at ≡ blockAt a u k
         → (r .first ≡ testOf a (dataPage u k p)) × (r .second ≡ testOf a (dataPage u k (p + 1)))) ⌝ }

@@ -30,7 +30,8 @@ callIndex c = indexOf (located (callArray c) (callElements c))
 -- The header is read first: all of its refusals, then what the array and its elements are answered.
 unfoldable pub callAnswer : {A : Type 0} → (Array → Elements → Outcome A) → Call → Outcome A
 callAnswer answer c =
-    headerTest lookup3 (c .file) (c .address) (c .offsetSize) (c .lengthSize) yields answer (callArray c) (callElements c)
+    headerTest lookup3 (c .file) (c .address) (c .offsetSize) (c .lengthSize)
+    yields answer (callArray c) (callElements c)
 
 -- The call's list, where there is room for so many records.
 abbrev pub listAt : Call → ℕ → Listing

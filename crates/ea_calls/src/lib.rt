@@ -21,9 +21,11 @@ pub struct CallRead {
 // before.
 pub fn read_call(file: &[u8], numbers: CallNumbers, checked: Checked) -> CallRead
     ensures { λ r. ⌜ (r .checked
-        ≡ (headerTest lookup3 (now (file .entry)) (numbers .address) (numbers .«offset_size») (numbers .«length_size») then checked))
+        ≡ (headerTest lookup3 (now (file .entry)) (numbers .address) (numbers .«offset_size») (numbers .«length_size»)
+        then checked))
         × (r .checked ≡ Passed
-        → r .header ≡ headerAt (now (file .entry)) (numbers .address) (numbers .«offset_size») (numbers .«length_size»)) ⌝ }
+        → r .header ≡ headerAt (now (file .entry)) (numbers .address) (numbers .«offset_size»)
+        (numbers .«length_size»)) ⌝ }
 {
     let offset_size = numbers.offset_size;
     let length_size = numbers.length_size;

@@ -23,7 +23,8 @@ use refusal::Counted;
 
 pub mod walk;
 
-// Walks the super blocks from `begin` up to `end`, with their data blocks and pages; `first` records are counted before.
+// Walks the super blocks from `begin` up to `end`, with their data blocks and pages; `first` records are counted
+// before.
 pub fn count_blocks(
     file: &[u8],
     array: ExtensibleArray,
@@ -36,7 +37,8 @@ pub fn count_blocks(
     down: &[u64; 32],
 ) -> Counted
     requires { ⌜ WalkFrom (now file) array reader (now chunk) (now bound) (now down) first begin end ⌝ }
-    ensures { λ r. ⌜ ((grid : Grid) (n : ℕ) → Reads reader (now (chunk .entry)) (now (bound .entry)) (now (down .entry)) grid n
+    ensures { λ r. ⌜ ((grid : Grid) (n : ℕ)
+        → Reads reader (now (chunk .entry)) (now (bound .entry)) (now (down .entry)) grid n
         → r ≡ plus first (supersFrom (arrayOf (now (file .entry)) array) (elementsOf (now (file .entry)) reader grid n)
         (end - begin) begin (firstSlot (array .geometry .parameters) begin) (accepted []))) ⌝ }
 {

@@ -32,7 +32,8 @@ pub fn count_walk(
     down: &[u64; 32],
 ) -> Counted
     requires { ⌜ ReadBy array reader (now chunk) (now bound) (now down) ⌝ }
-    ensures { λ r. ⌜ ((grid : Grid) (n : ℕ) → Reads reader (now (chunk .entry)) (now (bound .entry)) (now (down .entry)) grid n
+    ensures { λ r. ⌜ ((grid : Grid) (n : ℕ)
+        → Reads reader (now (chunk .entry)) (now (bound .entry)) (now (down .entry)) grid n
         → r ≡ countedOf (walk (arrayOf (now (file .entry)) array) (elementsOf (now (file .entry)) reader grid n))) ⌝ }
 {
     if let Checked::Refused(r) = test_array(file, array) {
@@ -52,12 +53,13 @@ pub fn count_walk(
     count_blocks(file, array, reader, n, 0, supers, chunk, bound, down)
 }
 
-// What is behind the index block's test where the offset size isn't a width: the refusal of the first element, or of the first pointer
-// where there are no inline elements; nothing where the count is 0.
+// What is behind the index block's test where the offset size isn't a width: the refusal of the first element, or of
+// the first pointer where there are no inline elements; nothing where the count is 0.
 fn count_unreadable(array: ExtensibleArray, reader: ElementReader) -> Counted
     requires { ⌜ (formOf (array .geometry .parameters) (array .geometry .«offset_size») ≡ reader .form)
         × (isWidth (array .geometry .«offset_size») ≡ false) ⌝ }
-    ensures { λ r. ⌜ ((file : List ℕ) (grid : Grid) (n : ℕ) → r ≡ countedOf (fromInline (arrayOf file array) (elementsOf file reader grid n))) ⌝ }
+    ensures { λ r. ⌜ ((file : List ℕ) (grid : Grid) (n : ℕ)
+        → r ≡ countedOf (fromInline (arrayOf file array) (elementsOf file reader grid n))) ⌝ }
 {
     if reader.count == 0 {
         return Counted::Count(0);

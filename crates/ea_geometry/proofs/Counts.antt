@@ -1,4 +1,5 @@
--- How many super blocks, data blocks, elements and pages there are: closed forms, and bounds for every served header. Assumes nothing.
+-- How many super blocks, data blocks, elements and pages there are: closed forms, and bounds for every served header.
+-- Assumes nothing.
 use Prim.Native.Nat.{ℕ, zero, suc, _+_, _-_, _*_, _/_, _^_, _<_, _≤_}
 use mathlib.Core.Path.{_≡_, refl, sym, ap, subst, _∙_}
 use mathlib.Core.Bool.{true}

@@ -1,5 +1,5 @@
--- The place of a slot. The slots of super block u are the interval from firstSlot h u to firstSlot h (u + 1), and every slot below the
--- capacity has one place. Assumes nothing.
+-- The place of a slot. The slots of super block u are the interval from firstSlot h u to firstSlot h (u + 1), and
+-- every slot below the capacity has one place. Assumes nothing.
 use Prim.Native.Nat.{ℕ, _+_, _-_, _*_, _/_, _%_, _^_, _<_, _≤_}
 use mathlib.Core.Path.{_≡_, refl, sym, ap, subst, _∙_}
 use mathlib.Core.Bool.{true}
@@ -46,7 +46,8 @@ unfolding inPages
 paged-behind h u q = leb-true _ _ (both (leb (directSuperBlocks h) u) (overPage h u) q .0)
 
 module _ (h : Parameters) (v : Served h) where
-  -- element e behind the inline ones lies in super block u if it lies between what stands before u and what stands before u + 1 ..
+  -- element e behind the inline ones lies in super block u if it lies between what stands before u and what stands
+  -- before u + 1 ..
   pub super-is : (e u : ℕ) → u < 63 → elementsBefore h u ≤ e → e < elementsBefore h (u + 1) → superOf h e ≡ u
   unfolding superOf elementsBefore
   super-is e u small lo hi =

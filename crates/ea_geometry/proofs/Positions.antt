@@ -1,4 +1,5 @@
--- Where the parts of a structure lie: inside it, and, for served parameters and offset sizes up to 8, at numbers that fit 64 bits. Assumes nothing.
+-- Where the parts of a structure lie: inside it, and, for served parameters and offset sizes up to 8, at numbers that
+-- fit 64 bits. Assumes nothing.
 use Prim.Native.Nat.{ℕ, _+_, _-_, _*_, _/_, _%_, _^_, _<_, _≤_}
 use mathlib.Core.Path.{_≡_}
 use mathlib.Core.Bool.{true}

@@ -1,10 +1,12 @@
--- How many bytes each structure takes, and where in it its parts lie. All of it follows from the parameters h and the offset size o.
+-- How many bytes each structure takes, and where in it its parts lie. All of it follows from the parameters h and the
+-- offset size o.
 use Prim.Native.Nat.{ℕ, _+_, _-_, _*_, _/_, _%_}
 use Rattle.element_form.specs.declared.Form.{Form}
 use Rattle.element_form.specs.Form.{stride}
 use Rattle.structures.specs.PageBits.{bitBytes}
 use Rattle.ea_header.specs.declared.Parameters.{Parameters}
-use Rattle.ea_geometry.specs.Sizes.{blocks, blockElements, directSuperBlocks, blocksBefore, directPointers, superPointers, pageElements, pages, bitmapBytes}
+use Rattle.ea_geometry.specs.Sizes.{blocks, blockElements, directSuperBlocks, blocksBefore, directPointers}
+use Rattle.ea_geometry.specs.Sizes.{superPointers, pageElements, pages, bitmapBytes}
 
 -- the form of the array's elements
 abbrev pub formOf : Parameters → ℕ → Form
@@ -21,8 +23,8 @@ elementAt h o first i = first + i * elementStride h o
 unfoldable pub pointerAt : ℕ → ℕ → ℕ → ℕ
 pointerAt o first j = first + j * o
 
--- The index block: signature, version, client, header address; inline elements, direct data block pointers, super block pointers,
--- checksum.
+-- The index block: signature, version, client, header address; inline elements, direct data block pointers, super
+-- block pointers, checksum.
 unfoldable pub indexPrefix : ℕ → ℕ
 indexPrefix o = 6 + o
 

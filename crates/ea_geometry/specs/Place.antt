@@ -4,7 +4,8 @@ use mathlib.Core.Bool.{Bool, cond, _&&_}
 use lib.Dec.{ltb, leb}
 use Rattle.ea_header.specs.Log.{log2}
 use Rattle.ea_header.specs.declared.Parameters.{Parameters}
-use Rattle.ea_geometry.specs.Sizes.{superBlocks, blockElements, directSuperBlocks, elementsBefore, pageElements, overPage}
+use Rattle.ea_geometry.specs.Sizes.{superBlocks, blockElements, directSuperBlocks, elementsBefore, pageElements}
+use Rattle.ea_geometry.specs.Sizes.{overPage}
 use Rattle.ea_geometry.specs.Sizes.{bitNumber}
 use Rattle.ea_geometry.specs.declared.Place.{Place}
 use Rattle.ea_geometry.specs.declared.Place.the-variants.{Inline, Block, Page, Nowhere}
@@ -17,8 +18,9 @@ superOf h e = log2 (e / h .«min_dblk_nelmts» + 1)
 unfoldable pub inPages : Parameters → ℕ → Bool
 inPages h u = leb (directSuperBlocks h) u && overPage h u
 
--- The place of element i of data block k of super block u. In a paged block that a super block names element i lies in page
--- i / page elements, rounded down; a place in a block that the index block names is the unpaged one, without page or bit.
+-- The place of element i of data block k of super block u. In a paged block that a super block names element i lies
+-- in page i / page elements, rounded down; a place in a block that the index block names is the unpaged one, without
+-- page or bit.
 unfoldable pub placeIn : Parameters → ℕ → ℕ → ℕ → Place
 placeIn h u k i =
     cond (inPages h u) (let p = i / pageElements h in Page u k i p (bitNumber h u k p)) (Block u k i)

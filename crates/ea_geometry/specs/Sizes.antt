@@ -18,7 +18,8 @@ blocks u = 2 ^ (u / 2)
 unfoldable pub blockElements : Parameters → ℕ → ℕ
 blockElements h u = h .«min_dblk_nelmts» * 2 ^ ((u + 1) / 2)
 
--- The super block minimum says how many super blocks have their data blocks named in the index block: all of them, if it is larger.
+-- The super block minimum says how many super blocks have their data blocks named in the index block: all of them, if
+-- it is larger.
 unfoldable pub directSuperBlocks : Parameters → ℕ
 directSuperBlocks h = min (h .«super_blk_min_nelmts») (superBlocks h)
 

@@ -34,7 +34,9 @@ pub record InBlock (h : Parameters) (s u k i : ℕ) : Type 0 where
 unfoldable pub PlaceOf : Parameters → ℕ → Place → Type 0
 PlaceOf h s (Inline i) = (s ≡ i) × (i < h .«idx_blk_elmts»)
 PlaceOf h s (Block u k i) = InBlock h s u k i × (inPages h u ≡ false)
-PlaceOf h s (Page u k i p b) = InBlock h s u k i × (inPages h u ≡ true) × (p ≡ i / pageElements h) × (b ≡ bitNumber h u k p)
+PlaceOf h s (Page u k i p b) =
+    InBlock h s u k i × (inPages h u ≡ true) × (p ≡ i / pageElements h)
+    × (b ≡ bitNumber h u k p)
 PlaceOf h s Nowhere = capacity h ≤ s
 
 -- the order of places: the inline ones, then by super block, data block and element

@@ -5,9 +5,11 @@ ghost use Rattle.refusal.specs.Refusals.{figure};
 ghost use Rattle.ea_header.specs.Values.{Served};
 ghost use Rattle.ea_geometry.specs.Bounded.{mostElements, Bounded};
 ghost use Rattle.ea_geometry.specs.Sizes.{superBlocks, blocks, directSuperBlocks, pageElements};
-ghost use Rattle.ea_geometry.specs.Extents.{formOf, elementStride, elementAt, pointerAt, indexPrefix, inlineElementAt, pagedElementAt};
+ghost use Rattle.ea_geometry.specs.Extents.{formOf, elementStride, elementAt, pointerAt, indexPrefix};
+ghost use Rattle.ea_geometry.specs.Extents.{inlineElementAt, pagedElementAt};
 ghost use Rattle.ea_geometry.specs.Extents.{directPointersAt, superPointersAt, indexExtent, directPointerAt};
-ghost use Rattle.ea_geometry.specs.Extents.{superPointerAt, blockPrefix, blockPointerAt, superExtent, blockElementAt};
+ghost use Rattle.ea_geometry.specs.Extents.{superPointerAt, blockPrefix, blockPointerAt, superExtent};
+ghost use Rattle.ea_geometry.specs.Extents.{blockElementAt};
 ghost use Rattle.ea_geometry.specs.Extents.{dataExtent, pagedHeadExtent, pageExtent, pageAt, pagedExtent};
 use crate::EaGeometry;
 use element_form::Form;
@@ -91,7 +93,8 @@ impl EaGeometry {
 
     // Where in the index block the pointer to super block u lies.
     pub fn super_pointer_at(self, u: u64) -> u64
-        requires { ⌜ (directSuperBlocks (self .parameters) ≤ u) × (u < superBlocks (self .parameters)) × Bounded self ⌝ }
+        requires { ⌜ (directSuperBlocks (self .parameters) ≤ u) × (u < superBlocks (self .parameters))
+            × Bounded self ⌝ }
         ensures { λ r. ⌜ r ≡ superPointerAt (self .parameters) (self .«offset_size») u ⌝ }
     {
         self.pointer_at(self.super_pointers_at(), u - self.direct_super_blocks())

@@ -1,5 +1,5 @@
-// The geometry of an extensible array: how many super blocks, data blocks, elements and pages it has, how many bytes each structure
-// takes, where its parts lie, and the place of a slot.
+// The geometry of an extensible array: how many super blocks, data blocks, elements and pages it has, how many bytes
+// each structure takes, where its parts lie, and the place of a slot.
 ghost use mathlib.Core.Path.{_≡_};
 use ea_header::ExtensibleArrayHeader;
 use ea_header::Parameters;

@@ -3,7 +3,8 @@ ghost use mathlib.Core.Path.{_≡_};
 ghost use Prim.Native.Nat.{_<_, _≤_};
 ghost use Rattle.ea_header.specs.Log.{log2};
 ghost use Rattle.ea_header.specs.Values.{Served};
-ghost use Rattle.ea_geometry.specs.Sizes.{superBlocks, blocks, blockElements, directSuperBlocks, blocksBefore, pages, bitmapBytes, bitNumber};
+ghost use Rattle.ea_geometry.specs.Sizes.{superBlocks, blocks, blockElements, directSuperBlocks, blocksBefore};
+ghost use Rattle.ea_geometry.specs.Sizes.{pages, bitmapBytes, bitNumber};
 ghost use Rattle.ea_geometry.specs.Sizes.{directPointers, superPointers, elementsBefore, pageElements, overPage};
 use crate::EaGeometry;
 
@@ -131,7 +132,8 @@ impl EaGeometry {
 
     // The number of the bit of page p of data block k of super block u.
     pub fn bit_number(self, u: u64, k: u64, p: u64) -> u64
-        requires { ⌜ (u < superBlocks (self .parameters)) × (k < blocks u) × (p < pages (self .parameters) u) × Served (self .parameters) ⌝ }
+        requires { ⌜ (u < superBlocks (self .parameters)) × (k < blocks u) × (p < pages (self .parameters) u)
+            × Served (self .parameters) ⌝ }
         ensures { λ r. ⌜ r ≡ bitNumber (self .parameters) u k p ⌝ }
     {
         k * self.pages(u) + p

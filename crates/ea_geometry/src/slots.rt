@@ -46,7 +46,8 @@ impl EaGeometry {
 
     // The place of element i of data block k of super block u.
     fn place_in(self, u: u64, k: u64, i: u64) -> Place
-        requires { ⌜ (u < superBlocks (self .parameters)) × (k < blocks u) × (i < blockElements (self .parameters) u) × Served (self .parameters) ⌝ }
+        requires { ⌜ (u < superBlocks (self .parameters)) × (k < blocks u) × (i < blockElements (self .parameters) u)
+            × Served (self .parameters) ⌝ }
         ensures { λ r. ⌜ r ≡ placeIn (self .parameters) u k i ⌝ }
     {
         if self.in_pages(u) {

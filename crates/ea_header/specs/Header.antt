@@ -9,8 +9,8 @@ use Rattle.structures.specs.Header.{signedHeaderTest}
 use Rattle.ea_header.specs.declared.Parameters.{Parameters}
 use Rattle.ea_header.specs.declared.ExtensibleArrayHeader.{ExtensibleArrayHeader}
 
--- Header, 16 + 6L + O bytes: "EAHD", version 0, client, element size, max bits, inline count, least block elements, super block minimum,
--- page exponent, six L-byte statistics, index block address, checksum.
+-- Header, 16 + 6L + O bytes: "EAHD", version 0, client, element size, max bits, inline count, least block elements,
+-- super block minimum, page exponent, six L-byte statistics, index block address, checksum.
 abbrev pub headerBytes : ℕ → ℕ → ℕ
 headerBytes o l = 16 + 6 * l + o
 

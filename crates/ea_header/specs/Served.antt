@@ -7,8 +7,8 @@ use Rattle.refusal.specs.Refusals.{refuse}
 use Rattle.ea_header.specs.Log.{log2}
 use Rattle.ea_header.specs.declared.Parameters.{Parameters}
 
--- A served header has least block elements that are a power of two, 1 to 128, max bits up to 62, a super block minimum up to 32
--- and a page exponent up to 32.
+-- A served header has least block elements that are a power of two, 1 to 128, max bits up to 62, a super block
+-- minimum up to 32 and a page exponent up to 32.
 unfoldable pub served : Parameters → Bool
 served h =
     eqb (h .«min_dblk_nelmts») (2 ^ log2 (h .«min_dblk_nelmts»)) && leb (h .«min_dblk_nelmts») 128

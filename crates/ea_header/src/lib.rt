@@ -19,7 +19,8 @@ use refusal::Checked;
 use refusal::Refusal;
 use structures::header::test_header;
 
-// The parameters of an extensible array: sizes, extents and places of its structures follow from them and the offset size alone.
+// The parameters of an extensible array: sizes, extents and places of its structures follow from them and the offset
+// size alone.
 pub struct Parameters {
     // 0 for chunks without filters; any other client is filtered.
     pub client_id: u8,
@@ -55,8 +56,8 @@ impl ExtensibleArrayHeader {
     // "EAHD"
     pub const SIGNATURE: u32 = 0x4448_4145;
 
-    // Reads the header at an address of a file. In this order it is refused: 20 where it does not lie in the file with the sizes as
-    // given, 21 and 22 for its signature and version, 2 and 1 for the sizes, 26 for its checksum.
+    // Reads the header at an address of a file. In this order it is refused: 20 where it does not lie in the file
+    // with the sizes as given, 21 and 22 for its signature and version, 2 and 1 for the sizes, 26 for its checksum.
     pub fn parse(file: &[u8], address: u64, offset_size: u64, length_size: u64) -> Parsed
         ensures { λ r. ⌜ r ≡ parsedOf (parsedAt lookup3 (now (file .entry)) address «offset_size» «length_size») ⌝ }
     {
@@ -143,7 +144,8 @@ fn read_header(
     offset_size: usize,
     length_size: usize,
 ) -> ExtensibleArrayHeader
-    requires { ⌜ (pos + headerBytes «offset_size» «length_size» ≤ length (now file)) × (isWidth «offset_size» ≡ true) × (isWidth «length_size» ≡ true) ⌝ }
+    requires { ⌜ (pos + headerBytes «offset_size» «length_size» ≤ length (now file)) × (isWidth «offset_size» ≡ true)
+        × (isWidth «length_size» ≡ true) ⌝ }
     ensures { λ r. ⌜ r ≡ headerAt (now (file .entry)) pos «offset_size» «length_size» ⌝ }
 {
     let count = read_le(file, pos + 12 + 4 * length_size, length_size);

@@ -28,18 +28,22 @@ use Rattle.ea_walk.specs.Walk.{located, walk}
 use Rattle.ea_walk.specs.Values.{ReadBy}
 
 -- The walk of an array, by this reader of its elements, is accepted with the records l.
-pub record Walked (file : List ℕ) (a : ExtensibleArray) (r : ElementReader) (chunk bound down : List ℕ) (l : List Rec) : Type 0 where
+pub record Walked (file : List ℕ) (a : ExtensibleArray) (r : ElementReader) (chunk bound down : List ℕ) (l : List Rec)
+    : Type 0 where
   pub by : ReadBy a r chunk bound down
   pub accepts : walk (arrayOf file a) (elementsOf file r (by .grid) (by .elementBytes)) ≡ accepted l
 
--- The array's index block lies in the file, and the structures that lead to the place of slot s have passed their tests.
+-- The array's index block lies in the file, and the structures that lead to the place of slot s have passed their
+-- tests.
 pub record TestedTo (file : List ℕ) (a : ExtensibleArray) (s : ℕ) : Type 0 where
   pub index : IndexInFile file a
   pub tests : placeTest (arrayOf file a) (place (a .geometry .parameters) s) ≡ Passed
 
 -- The slots from s on are such a run, whatever elements of the array's form its file holds.
 abbrev pub RunIn : Array → ℕ → Run → Type 0
-RunIn a s run = (e : Elements) → e .file ≡ a .file → formOf (a .parameters) (a .offsetSize) ≡ e .form → RunOf (located a e) s run
+RunIn a s run =
+    (e : Elements) → e .file ≡ a .file → formOf (a .parameters) (a .offsetSize) ≡ e .form
+    → RunOf (located a e) s run
 
 -- how many slots a run has
 unfoldable pub slotsOf : Run → ℕ
@@ -54,7 +58,8 @@ blockSlots a s u k i =
     cond (not (isDirect a u) && superUndefined a u) (firstSlot h (u + 1) - s)
     (cond (not (blockUndefined a u k) && inPages h u) (pageElements h - i % pageElements h) (blockElements h u - i))
 
--- The same by the slot's place. An inline slot's run goes up to the last of them; behind the last place there is no end.
+-- The same by the slot's place. An inline slot's run goes up to the last of them; behind the last place there is no
+-- end.
 unfoldable pub runSlots : Array → ℕ → Place → ℕ
 runSlots a s (Inline i) = a .parameters .«idx_blk_elmts» - i
 runSlots a s (Block u k i) = blockSlots a s u k i

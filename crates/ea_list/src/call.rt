@@ -24,11 +24,13 @@ pub fn list_at(
     maximum: &[u8],
     list: &mut [u8],
 ) -> Counted
-    ensures { λ r. ⌜ (let call = callFrom (now (file .entry)) numbers (now (chunk .entry)) (now (present .entry)) (now (maximum .entry)) in
+    ensures { λ r. ⌜ (let call =
+        callFrom (now (file .entry)) numbers (now (chunk .entry)) (now (present .entry)) (now (maximum .entry)) in
         let answer = listAt call (length (now (list .entry)) / recordLength (numbers .rank)) in
         (r ≡ countedOf answer)
         × (now (list .exit) ≡ listContent answer (now (list .entry)))
-        × ((n : ℕ) → r ≡ Count n → 0 < numbers .rank → ExactList (callIndex call) (recordsIn (numbers .rank) n (now (list .exit))) n)) ⌝ }
+        × ((n : ℕ) → r ≡ Count n → 0 < numbers .rank
+        → ExactList (callIndex call) (recordsIn (numbers .rank) n (now (list .exit))) n)) ⌝ }
 {
     let built = read_grid(numbers, chunk, present, maximum);
     let tested = built.checked;

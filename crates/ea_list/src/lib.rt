@@ -45,7 +45,8 @@ pub fn read_extensible_array_chunks(
         let answer = inRoom (chunkList a e) (length (now (list .entry)) / recordLength (grid .rank)) in
         (r ≡ countedOf answer)
         × (now (list .exit) ≡ listContent answer (now (list .entry)))
-        × ((n : ℕ) → r ≡ Count n → 0 < grid .rank → ExactList (indexOf (located a e)) (recordsIn (grid .rank) n (now (list .exit))) n)) ⌝ }
+        × ((n : ℕ) → r ≡ Count n → 0 < grid .rank
+        → ExactList (indexOf (located a e)) (recordsIn (grid .rank) n (now (list .exit))) n)) ⌝ }
 {
     if let Checked::Refused(r) = grid.test() {
         return Counted::Refused(r);
@@ -79,7 +80,8 @@ fn list_walk(
     down: &[u64; 32],
 ) -> Counted
     requires { ⌜ ReadBy array reader (now chunk) (now bound) (now down) ⌝ }
-    ensures { λ r. ⌜ ((grid : Grid) (n : ℕ) → Reads reader (now (chunk .entry)) (now (bound .entry)) (now (down .entry)) grid n
+    ensures { λ r. ⌜ ((grid : Grid) (n : ℕ)
+        → Reads reader (now (chunk .entry)) (now (bound .entry)) (now (down .entry)) grid n
         → let answer = inRoom (walk (arrayOf (now (file .entry)) array) (elementsOf (now (file .entry)) reader grid n))
         (length (now (list .entry)) / recordLength (reader .rank)) in
         (r ≡ countedOf answer) × (now (list .exit) ≡ listContent answer (now (list .entry)))) ⌝ }

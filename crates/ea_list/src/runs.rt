@@ -45,7 +45,8 @@ pub fn run_of(file: &[u8], array: ExtensibleArray, slot: u64) -> Run
 // where the pointer to its own is undefined.
 fn block_run(file: &[u8], array: ExtensibleArray, slot: u64, u: u64, k: u64, i: u64) -> Run
     requires { ⌜ TestedTo (now file) array slot × InBlock (array .geometry .parameters) slot u k i ⌝ }
-    ensures { λ r. ⌜ (let a = arrayOf (now (file .entry)) array in RunIn a slot r × (slotsOf r ≡ blockSlots a slot u k i)) ⌝ }
+    ensures { λ r. ⌜ (let a = arrayOf (now (file .entry)) array in RunIn a slot r
+        × (slotsOf r ≡ blockSlots a slot u k i)) ⌝ }
 {
     let geometry = array.geometry;
     let mut super_at = 0;
@@ -74,8 +75,10 @@ fn run_in_block(
     at: u64,
 ) -> Run
     requires { ⌜ TestedTo (now file) array slot × InBlock (array .geometry .parameters) slot u k i
-        × EnteredSuper (arrayOf (now file) array) u (At «super_at») × EnteredBlock (arrayOf (now file) array) u k (At at) ⌝ }
-    ensures { λ r. ⌜ (let a = arrayOf (now (file .entry)) array in RunIn a slot r × (slotsOf r ≡ blockSlots a slot u k i)) ⌝ }
+        × EnteredSuper (arrayOf (now file) array) u (At «super_at»)
+        × EnteredBlock (arrayOf (now file) array) u k (At at) ⌝ }
+    ensures { λ r. ⌜ (let a = arrayOf (now (file .entry)) array in RunIn a slot r
+        × (slotsOf r ≡ blockSlots a slot u k i)) ⌝ }
 {
     let geometry = array.geometry;
     if !geometry.in_pages(u) {

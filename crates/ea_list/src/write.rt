@@ -24,8 +24,10 @@ pub fn write_walk(
     bound: &[u64; 32],
     down: &[u64; 32],
 )
-    requires { ⌜ ((l : List Rec) × Walked (now file) array reader (now chunk) (now bound) (now down) l × (length (listBytes l) ≤ length (now list))) ⌝ }
-    ensures { λ _. ⌜ ((l : List Rec) → Walked (now (file .entry)) array reader (now (chunk .entry)) (now (bound .entry)) (now (down .entry)) l
+    requires { ⌜ ((l : List Rec) × Walked (now file) array reader (now chunk) (now bound) (now down) l
+        × (length (listBytes l) ≤ length (now list))) ⌝ }
+    ensures { λ _. ⌜ ((l : List Rec)
+        → Walked (now (file .entry)) array reader (now (chunk .entry)) (now (bound .entry)) (now (down .entry)) l
         → now (list .exit) ≡ sets (now (list .entry)) 0 (listBytes l)) ⌝ }
 {
     let mut at = 0;

@@ -30,7 +30,8 @@ EndInFile a (EnteredRefused r) = Unit {0}
 
 -- The path to slot s of an array ends so, for all elements of the array's form.
 pub record PathEnds (a : Array) (s : ℕ) (end : Entered) : Type 0 where
-  pub answer : (e : Elements) → formOf (a .parameters) (a .offsetSize) ≡ e .form → path (located a e) s ≡ endAnswer e s end
+  pub answer : (e : Elements) → formOf (a .parameters) (a .offsetSize) ≡ e .form
+      → path (located a e) s ≡ endAnswer e s end
   pub inside : EndInFile a end
 
 -- What leads to data block k of super block u and the block itself have passed their tests: the super block lies at

@@ -30,7 +30,8 @@ pub fn lookup_at(
     maximum: &[u8],
     corner: &[u8],
 ) -> Found
-    ensures { λ r. ⌜ (let call = callFrom (now (file .entry)) numbers (now (chunk .entry)) (now (present .entry)) (now (maximum .entry)) in
+    ensures { λ r. ⌜ (let call =
+        callFrom (now (file .entry)) numbers (now (chunk .entry)) (now (present .entry)) (now (maximum .entry)) in
         let at = shapeOf (numbers .rank) (now (corner .entry)) in
         (r ≡ foundOf (lookupAt call at))
         × Answered (lookupAt call at) (callIndex call) at r

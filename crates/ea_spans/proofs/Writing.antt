@@ -42,7 +42,8 @@ module _ (a b : Spanning) (l : List Span) (p : Parts a b l) (n : ℕ) where
   unfolding joined endOf
   end-joined = rw (p .first-is, p .second-is) (omega (arith, length-append (p .first) (p .second)), refl)
 
--- The spans a, written from number n on, make of two lists what the spans b, written from number m on, make of xs and ls.
+-- The spans a, written from number n on, make of two lists what the spans b, written from number m on, make of xs and
+-- ls.
 pub record Going (b : Spanning) (m : ℕ) (xs ls : List ℕ) (a : Spanning) (n : ℕ) (addresses lengths : List ℕ) : Type 0 where
   pub room : Room a n addresses lengths
   pub first : filled addressOf a n addresses ≡ filled addressOf b m xs

@@ -1,5 +1,5 @@
-// The spans of an index: the bytes of its own structures, which are its header, its index block, and every super block and
-// data block that is pointed to.
+// The spans of an index: the bytes of its own structures, which are its header, its index block, and every super
+// block and data block that is pointed to.
 ghost use mathlib.Core.Path.{_≡_};
 ghost use mathlib.Core.Bool.{true};
 ghost use Prim.Native.Nat.{min};
@@ -25,8 +25,9 @@ use span_walk::Span;
 
 mod write;
 
-// Lists the spans of the index whose header lies at an address: their addresses and their lengths, from number 0 on. The
-// answer is how many they are. After a refusal both lists are as they were; 9 tells how many numbers each list must hold.
+// Lists the spans of the index whose header lies at an address: their addresses and their lengths, from number 0 on.
+// The answer is how many they are. After a refusal both lists are as they were; 9 tells how many numbers each list
+// must hold.
 pub fn extensible_array_index_spans(
     file: &[u8],
     address: u64,

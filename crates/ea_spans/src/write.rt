@@ -51,8 +51,10 @@ pub fn write_index(file: &[u8], array: ExtensibleArray, addresses: &mut [u64], l
 // Writes the spans of the super blocks and of their data blocks, from number 2 on.
 fn write_supers(file: &[u8], array: ExtensibleArray, addresses: &mut [u64], lengths: &mut [u64])
     requires { ⌜ IndexInFile (now file) array
-        × (let a = arrayOf (now file) array in Room (supersFrom a (superBlocks (a .parameters)) 0) 2 (now addresses) (now lengths)) ⌝ }
-    ensures { λ _. ⌜ (let a = arrayOf (now (file .entry)) array in let s = supersFrom a (superBlocks (a .parameters)) 0 in
+        × (let a = arrayOf (now file) array in
+        Room (supersFrom a (superBlocks (a .parameters)) 0) 2 (now addresses) (now lengths)) ⌝ }
+    ensures { λ _. ⌜ (let a = arrayOf (now (file .entry)) array in let s =
+        supersFrom a (superBlocks (a .parameters)) 0 in
         (now (addresses .exit) ≡ filled addressOf s 2 (now (addresses .entry)))
         × (now (lengths .exit) ≡ filled lengthOf s 2 (now (lengths .entry)))) ⌝ }
 {
@@ -66,8 +68,8 @@ fn write_supers(file: &[u8], array: ExtensibleArray, addresses: &mut [u64], leng
     }
 }
 
-// Writes the span of super block u, unless the index block names its data blocks, and the spans of these, from number n on. The
-// answer is the number behind the last.
+// Writes the span of super block u, unless the index block names its data blocks, and the spans of these, from number
+// n on. The answer is the number behind the last.
 fn write_super(
     file: &[u8],
     array: ExtensibleArray,
@@ -94,8 +96,9 @@ fn write_super(
     }
 }
 
-// Writes the spans of the data blocks of super block u that are pointed to, from number n on. The super block lies at super_at,
-// which plays no part where the index block names the data blocks. The answer is the number behind the last.
+// Writes the spans of the data blocks of super block u that are pointed to, from number n on. The super block lies at
+// super_at, which plays no part where the index block names the data blocks. The answer is the number behind the
+// last.
 fn write_blocks(
     file: &[u8],
     array: ExtensibleArray,

@@ -1,5 +1,5 @@
--- The walk of the list: which test comes when, and which records it gives. Each definition says what is left to do from here;
--- `rest` is what comes behind it, and s the slot that the walk has come to.
+-- The walk of the list: which test comes when, and which records it gives. Each definition says what is left to do
+-- from here; `rest` is what comes behind it, and s the slot that the walk has come to.
 use Prim.Native.Nat.{ℕ, zero, suc, _+_, _*_}
 use mathlib.Core.Bool.{cond, _&&_}
 use mathlib.Core.List.{List, []}
@@ -16,7 +16,8 @@ use Rattle.ea_geometry.specs.Sizes.{superBlocks, blocks, blockElements, pages}
 use Rattle.ea_geometry.specs.Extents.{formOf, inlineElementAt, blockElementAt}
 use Rattle.ea_geometry.specs.Place.{inPages, place}
 use Rattle.ea_blocks.specs.Array.{Array}
-use Rattle.ea_blocks.specs.Structures.{superBlock, dataBlock, testOf, arrayTest, pagesOf, isDirect, blockAt, superUndefined, blockUndefined}
+use Rattle.ea_blocks.specs.Structures.{superBlock, dataBlock, testOf, arrayTest, pagesOf, isDirect, blockAt}
+use Rattle.ea_blocks.specs.Structures.{superUndefined, blockUndefined}
 use Rattle.ea_blocks.specs.Places.{reached, positionOf, placeTest}
 
 -- The elements of a header with this offset size, of a dataset with this grid and element size.
@@ -38,10 +39,11 @@ unfoldable pub block : Array → Elements → ℕ → ℕ → ℕ → Listing �
 block a e u k s rest =
     testOf a (dataBlock u k)
     yields cond (inPages (a .parameters) u) (pagesFrom e (pagesOf a u k) (pages (a .parameters) u) 0 s rest)
-    (elementsFrom e (blockAt a u k + blockElementAt (a .parameters) (a .offsetSize) 0) (blockElements (a .parameters) u) s rest)
+    (elementsFrom e (blockAt a u k + blockElementAt (a .parameters) (a .offsetSize) 0)
+    (blockElements (a .parameters) u) s rest)
 
--- The data blocks of super block u, j of them from k on. Those that the index block names are walked up to the count; a super block
--- reached by the walk has every defined data block tested, also past the count.
+-- The data blocks of super block u, j of them from k on. Those that the index block names are walked up to the count;
+-- a super block reached by the walk has every defined data block tested, also past the count.
 unfoldable pub blocksFrom : Array → Elements → ℕ → ℕ → ℕ → ℕ → Listing → Listing
 blocksFrom a e u zero k s rest = rest
 blocksFrom a e u (suc j) k s rest =
@@ -59,7 +61,8 @@ supersFrom a e (suc j) u s rest =
     (cond (superUndefined a u) next
     (testOf a (superBlock u) yields blocksFrom a e u (blocks u) 0 s next)))
 
--- behind the inline elements: 1, since the index block has a pointer at least and all are read before the first is followed; the super blocks
+-- behind the inline elements: 1, since the index block has a pointer at least and all are read before the first is
+-- followed; the super blocks
 unfoldable pub behindInline : Array → Elements → Listing
 behindInline a e =
     cond (leb (e .count) (a .parameters .«idx_blk_elmts»)) (accepted [])
@@ -69,7 +72,8 @@ behindInline a e =
 -- the inline elements, and what is behind them
 abbrev pub fromInline : Array → Elements → Listing
 fromInline a e =
-    elementsFrom e (a .indexAt + inlineElementAt (a .parameters) (a .offsetSize) 0) (a .parameters .«idx_blk_elmts») 0 (behindInline a e)
+    elementsFrom e (a .indexAt + inlineElementAt (a .parameters) (a .offsetSize) 0) (a .parameters .«idx_blk_elmts») 0
+    (behindInline a e)
 
 -- the way into the array, then the walk in slot order
 unfoldable pub walk : Array → Elements → Listing

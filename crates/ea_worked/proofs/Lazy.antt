@@ -1,4 +1,5 @@
--- Lazy readers differ from the definitions: by the equation with the list or the lookup, by what an exact list is, or by both. Assumes nothing.
+-- Lazy readers differ from the definitions: by the equation with the list or the lookup, by what an exact list is, or
+-- by both. Assumes nothing.
 use Prim.Native.Nat.{ℕ}
 use mathlib.Core.Path.{_≡_, refl, sym, ap, _∙_}
 use mathlib.Core.Bool.{false}

@@ -1,4 +1,5 @@
--- Every definition that a small file's list and lookup are computed by: a proof that says `unfolding opened` opens them all.
+-- Every definition that a small file's list and lookup are computed by: a proof that says `unfolding opened` opens
+-- them all.
 use Rattle.refusal.specs.Refusals.{figure, refuse, _then_}
 use Rattle.refusal.specs.Outcome.{_yields_, inRoom, also}
 use Rattle.fields.specs.LittleEndian.{leValue, leAt, leBytes}

@@ -26,8 +26,8 @@ pub found : lookupAt file 0 2 2 grid 4 (20 ∷ 10 ∷ []) ≡ accepted (some (re
 unfolding opened file grid
 found = refl
 
--- slot 9 in a clear page, slot 2 in an undefined super block, slot 4 in an undefined data block, slot 12 with an undefined address,
--- slot 17 past the count
+-- slot 9 in a clear page, slot 2 in an undefined super block, slot 4 in an undefined data block, slot 12 with an
+-- undefined address, slot 17 past the count
 pub absent : map (lookupIn sample) ((10 ∷ 10 ∷ []) ∷ (20 ∷ 0 ∷ []) ∷ (0 ∷ 5 ∷ []) ∷ (0 ∷ 15 ∷ []) ∷ (10 ∷ 20 ∷ []) ∷ []) ≡ replicate 5 (accepted none)
 unfolding opened file grid sample
 absent = refl

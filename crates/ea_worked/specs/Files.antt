@@ -30,7 +30,13 @@ pub record Sample : Type 0 where
 -- of a file with this header, with offset size o and elements of n bytes in the dataset
 unfoldable pub sampleOn : List ℕ → ExtensibleArrayHeader → ℕ → Grid → ℕ → Sample
 sampleOn f h o g n = record {
-  array = record { file = f; sum = byteSum; parameters = h .parameters; offsetSize = o; indexAt = h .«index_block_address» };
+  array = record {
+    file = f;
+    sum = byteSum;
+    parameters = h .parameters;
+    offsetSize = o;
+    indexAt = h .«index_block_address»;
+  };
   elements = elementsIn f h o g n;
 }
 

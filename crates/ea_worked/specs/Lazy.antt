@@ -22,7 +22,8 @@ Excluded s l = (listOf s ≡ accepted l → ⊥) × ((count : ℕ) → ExactList
 unfoldable pub supersUnset : Sample → Listing
 supersUnset s =
     let a = s .array in
-    elementsFrom (s .elements) (a .indexAt + inlineElementAt (a .parameters) (a .offsetSize) 0) (a .parameters .«idx_blk_elmts») 0
+    elementsFrom (s .elements) (a .indexAt + inlineElementAt (a .parameters) (a .offsetSize) 0)
+    (a .parameters .«idx_blk_elmts») 0
     (supersFrom a (s .elements) (directSuperBlocks (a .parameters)) 0 (a .parameters .«idx_blk_elmts») (accepted []))
 
 -- what is listed of the file with pages where a data block ends at its first clear page: slot 10 is left out

@@ -1,6 +1,7 @@
--- A file of 383 bytes with filtered chunks and pages: O = L = 2, header at 0, client 1, element size 8, max bits 4, inline 1, least block
--- elements 1, super block minimum 1, page exponent 1, count 17. So super block 0 is slot 1, super block 1 slots 2 and 3, super block 2
--- two blocks of 2 from slot 4 on, super block 3 two blocks of two pages from slot 8 on, super block 4 four such blocks from slot 16 on.
+-- A file of 383 bytes with filtered chunks and pages: O = L = 2, header at 0, client 1, element size 8, max bits 4,
+-- inline 1, least block elements 1, super block minimum 1, page exponent 1, count 17. So super block 0 is slot 1,
+-- super block 1 slots 2 and 3, super block 2 two blocks of 2 from slot 4 on, super block 3 two blocks of two pages
+-- from slot 8 on, super block 4 four such blocks from slot 16 on.
 use Prim.Native.Nat.{ℕ, _+_}
 use mathlib.Core.Bool.{Bool, true}
 use mathlib.Core.List.{List, [], _∷_, _++_}
@@ -37,7 +38,8 @@ unfoldable pub file : List ℕ
 file =
     -- 0: the header; the index block is at 353
     0x45 ∷ 0x41 ∷ 0x48 ∷ 0x44 ∷ 0 ∷ 1 ∷ 8 ∷ 4 ∷ 1 ∷ 1 ∷ 1 ∷ 1
-    ∷ leBytes 2 99 ++ leBytes 2 99 ++ leBytes 2 99 ++ leBytes 2 99 ++ leBytes 2 17 ++ leBytes 2 99 ++ leBytes 2 353 ++ leBytes 4 901
+    ∷ leBytes 2 99 ++ leBytes 2 99 ++ leBytes 2 99 ++ leBytes 2 99 ++ leBytes 2 17 ++ leBytes 2 99 ++ leBytes 2 353 ++
+    leBytes 4 901
     -- 30: the data block of super block 0
     ++ dataPrefix ++ stored 1 ++ leBytes 4 646
     -- 51: data block 1 of super block 2, slots 6 and 7
@@ -50,14 +52,17 @@ file =
     ++ dataPrefix ++ leBytes 4 268 ++ unset ++ stored 13 ++ leBytes 4 978 ++ unwritten
     -- 203: super block 3; of the first block page 1 is set, of the second page 0
     ++ superPrefix ++ 0b0110_0000 ∷ 0 ∷ leBytes 2 97 ++ leBytes 2 150 ++ leBytes 4 626
-    -- 222: data block 0 of super block 4; page 0, slots 16 and 17, is at 235 and runs past the count, so that page 1 is not looked at
+    -- 222: data block 0 of super block 4; page 0, slots 16 and 17, is at 235 and runs past the count, so that page 1
+    -- is not looked at
     ++ dataPrefix ++ leBytes 4 268 ++ stored 16 ++ stored 17 ++ leBytes 4 849 ++ unwritten
     -- 275: data block 2 of super block 4, all of it past the count; page 1 is at 308
     ++ dataPrefix ++ leBytes 4 268 ++ unwritten ++ stored 26 ++ stored 27 ++ leBytes 4 909
     -- 328: super block 4; its data blocks 1 and 3 are undefined, also where page bits are set
-    ++ superPrefix ++ 0b1111_0100 ∷ 0 ∷ 0 ∷ 0 ∷ leBytes 2 222 ++ undefinedBytes 2 ++ leBytes 2 275 ++ undefinedBytes 2 ++ leBytes 4 1789
+    ++ superPrefix ++ 0b1111_0100 ∷ 0 ∷ 0 ∷ 0
+    ∷ leBytes 2 222 ++ undefinedBytes 2 ++ leBytes 2 275 ++ undefinedBytes 2 ++ leBytes 4 1789
     -- 353: the index block; super block 1 is undefined
-    ++ indexPrefix ++ stored 0 ++ leBytes 2 30 ++ undefinedBytes 2 ++ leBytes 2 80 ++ leBytes 2 203 ++ leBytes 2 328 ++ leBytes 4 1544
+    ++ indexPrefix ++ stored 0 ++ leBytes 2 30 ++ undefinedBytes 2 ++ leBytes 2 80 ++ leBytes 2 203 ++ leBytes 2 328
+    ++ leBytes 4 1544
 
 -- chunk 10 by 5, present 30 by 26, maximum 40 by unlimited; true for order U, false for order R
 abbrev pub gridIn : Bool → Grid
@@ -79,7 +84,8 @@ sample = sampleAt file 0 2 2 grid 4
 
 -- the record of slot s at this corner
 abbrev pub recordAtSlot : ℕ → List ℕ → Rec
-recordAtSlot s corner = record { entry = record { address = 200 + s; size = 300 + s; mask = 70_000 + s }; corner = corner }
+recordAtSlot s corner =
+    record { entry = record { address = 200 + s; size = 300 + s; mask = 70_000 + s }; corner = corner }
 
 -- Slots 11 and 17 hold addresses too: 11 is dropped, 17 is past the count.
 unfoldable pub chunks : List Rec
@@ -106,8 +112,8 @@ abbrev pub spoiling : ℕ → ℕ → ℕ → ℕ → ℕ → Spoiling
 spoiling pos byte number stored computed =
     record { pos = pos; byte = byte; refusal = record { number = number; first = stored; second = computed } }
 
--- In the header, 27; in structures that lead to slot 10, 26 with the stored sum and the computed one, and 23, 24, 25 for another
--- signature, though the sum is wrong then too.
+-- In the header, 27; in structures that lead to slot 10, 26 with the stored sum and the computed one, and 23, 24, 25
+-- for another signature, though the sum is wrong then too.
 unfoldable pub onPath : List Spoiling
 onPath =
     -- 3 for the least block elements
@@ -137,7 +143,8 @@ besidePath =
     -- past the count: the head of a data block of a super block that is reached, and its first set page
     ∷ spoiling 284 0x0d 26 269 268
     ∷ spoiling 324 0x8e 26 910 909
-    -- the count 18: a page that ends at the count doesn't end its data block, and the unwritten page behind it is tested
+    -- the count 18: a page that ends at the count doesn't end its data block, and the unwritten page behind it is
+    -- tested
     ∷ spoiling 20 18 26 0x0909_0909 144
     ∷ []
 

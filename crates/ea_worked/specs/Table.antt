@@ -15,7 +15,8 @@ use Rattle.index.specs.Index.{Rec}
 use Rattle.elements.specs.Elements.{Elements, sizeAt, element}
 use Rattle.ea_header.specs.Header.{headerBytes}
 use Rattle.ea_header.specs.declared.Parameters.{Parameters}
-use Rattle.ea_geometry.specs.Sizes.{blockElements, directSuperBlocks, directPointers, superPointers, overPage, pages, bitmapBytes, bitNumber}
+use Rattle.ea_geometry.specs.Sizes.{blockElements, directSuperBlocks, directPointers, superPointers, overPage, pages}
+use Rattle.ea_geometry.specs.Sizes.{bitmapBytes, bitNumber}
 use Rattle.ea_geometry.specs.Extents.{indexExtent, dataExtent}
 use Rattle.ea_geometry.specs.Place.{place}
 use Rattle.ea_geometry.specs.declared.Place.the-variants.{Inline, Block}

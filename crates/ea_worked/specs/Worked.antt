@@ -1,6 +1,6 @@
--- A file of 504 bytes with two chunks: O = L = 8, header at 0, unfiltered, max bits 32, least block elements 16, super block minimum 4,
--- inline 2, page exponent 10, count 3. The inline addresses are 4096 and undefined, the first data block opens with 8192, all other
--- pointers and elements are undefined.
+-- A file of 504 bytes with two chunks: O = L = 8, header at 0, unfiltered, max bits 32, least block elements 16,
+-- super block minimum 4, inline 2, page exponent 10, count 3. The inline addresses are 4096 and undefined, the first
+-- data block opens with 8192, all other pointers and elements are undefined.
 use Prim.Native.Nat.{ℕ, _-_, _^_}
 use mathlib.Core.Bool.{true}
 use mathlib.Core.List.{List, [], _∷_, _++_}
@@ -25,14 +25,23 @@ index =
 
 -- 150 bytes at 354
 abbrev pub first : List ℕ
-first = 0x45 ∷ 0x41 ∷ 0x44 ∷ 0x42 ∷ 0 ∷ 0 ∷ leBytes 8 0 ++ leBytes 4 0 ++ leBytes 8 8192 ++ undefinedBytes 120 ++ leBytes 4 30_900
+first = 0x45 ∷ 0x41 ∷ 0x44 ∷ 0x42 ∷ 0 ∷ 0
+    ∷ leBytes 8 0 ++ leBytes 4 0 ++ leBytes 8 8192 ++ undefinedBytes 120 ++ leBytes 4 30_900
 
 unfoldable pub file : List ℕ
 file = header ++ index ++ first
 
 -- order U, rank 1, chunk length 10, present extent 25, unlimited
 unfoldable pub grid : Grid
-grid = record { rank = 1; chunk = 10 ∷ []; present = 25 ∷ []; hasMaximum = true; maximum = largest64 ∷ []; unlimitedFirst = true }
+grid = record {
+  rank = 1;
+  chunk = 10 ∷ [];
+  present = 25 ∷ [];
+  hasMaximum = true;
+  maximum = largest64
+      ∷ [];
+  unlimitedFirst = true;
+}
 
 -- elements of 4 bytes
 unfoldable pub sample : Sample

@@ -22,8 +22,10 @@ shapeAt rank from numbers = take (8 * rank) (drop from numbers)
 unfoldable pub listingOf : Question → List ℕ → List ℕ → ℕ → Listing
 listingOf q numbers file room =
     let rank = q .rank in
-    let grid = gridGiven (q .order) rank (shapeAt rank 48 numbers) (shapeAt rank (48 + 8 * rank) numbers) 1 (shapeAt rank (48 + 16 * rank) numbers) in
-    listAt (callOf file (q .«offset_size») (q .«length_size») (q .address) (q .«element_bytes») grid) (room / recordLength rank)
+    let grid = gridGiven (q .order) rank (shapeAt rank 48 numbers) (shapeAt rank (48 + 8 * rank) numbers) 1
+    (shapeAt rank (48 + 16 * rank) numbers) in
+    listAt (callOf file (q .«offset_size») (q .«length_size») (q .address) (q .«element_bytes») grid)
+    (room / recordLength rank)
 
 -- the text of an answer: of the records that the lent list holds, or of the refusal
 unfoldable pub countedText : ℕ → Counted → List ℕ → List ℕ

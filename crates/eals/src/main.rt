@@ -1,5 +1,5 @@
-// Lists the chunks of a dataset: reads a line that says what to list, and the file behind it, and prints a line for each
-// record and their number, or why there are none.
+// Lists the chunks of a dataset: reads a line that says what to list, and the file behind it, and prints a line for
+// each record and their number, or why there are none.
 mod answer;
 
 use answer::answer;

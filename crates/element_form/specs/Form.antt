@@ -21,4 +21,6 @@ sizeBytes f = f .«element_size» - (f .«offset_size» + 4)
 
 -- 28 element size too small, before 1
 unfoldable pub elementSizeTest : Form → Checked
-elementSizeTest f = refuse 28 0 0 (filtered f && ltb (f .«element_size») (f .«offset_size» + 4)) then widthTest 1 (f .«offset_size»)
+elementSizeTest f =
+    refuse 28 0 0 (filtered f && ltb (f .«element_size») (f .«offset_size» + 4))
+    then widthTest 1 (f .«offset_size»)

@@ -72,7 +72,8 @@ module _ {es : Elements} {pos n slot at i count : ℕ} (k : Counting es pos n sl
         whole = ap (plus count) (skip-here es t (accepted []) n i at slot b h m e) ∙ k .whole;
       }
 
-      -- m elements more, whose slots all lie in the extents, where no size is refused: those that are defined are counted
+      -- m elements more, whose slots all lie in the extents, where no size is refused: those that are defined are
+      -- counted
       pub counting-inside : ((j : ℕ) → getD (es .file) j 0 < 256) → sizesFit (es .form) (es .grid) (es .elementBytes) ≡ true
           → (m : ℕ) → i + m ≤ n → ((j : ℕ) → j < m → offsetsOf (inExtent (es .grid) (slot + i + j)) ≡ Inside)
           → (d : ℕ) → d ≡ definedCount (es .file) at m (stride (es .form)) (es .form .«offset_size»)

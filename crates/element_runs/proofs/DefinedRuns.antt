@@ -1,4 +1,5 @@
--- Elements by their addresses alone: the loops that step over undefined ones, and that count defined ones. Assumes nothing.
+-- Elements by their addresses alone: the loops that step over undefined ones, and that count defined ones. Assumes
+-- nothing.
 use Prim.Native.Nat.{ℕ, zero, suc, _+_, _-_, _*_, _<_, _≤_}
 use mathlib.Core.Path.{_≡_, refl}
 use mathlib.Core.Bool.{Bool, true, false, cond}

@@ -14,7 +14,8 @@ use Rattle.elements.specs.Elements.{chunkBytes}
 -- the size of an address
 unfoldable pub undefinedRun : List ℕ → ℕ → ℕ → ℕ → ℕ → ℕ
 undefinedRun file pos zero stride o = 0
-undefinedRun file pos (suc n) stride o = cond (undefinedAt file pos o) (suc (undefinedRun file (pos + stride) n stride o)) 0
+undefinedRun file pos (suc n) stride o =
+    cond (undefinedAt file pos o) (suc (undefinedRun file (pos + stride) n stride o)) 0
 
 -- how many of them are defined
 unfoldable pub definedCount : List ℕ → ℕ → ℕ → ℕ → ℕ → ℕ

@@ -46,7 +46,8 @@ pub fn count_elements(
     down: &[u64; 32],
 ) -> Counted
     requires { ⌜ RunInFile (now file) reader (now chunk) (now bound) (now down) pos n ⌝ }
-    ensures { λ r. ⌜ ((grid : Grid) (m : ℕ) → Reads reader (now (chunk .entry)) (now (bound .entry)) (now (down .entry)) grid m
+    ensures { λ r. ⌜ ((grid : Grid) (m : ℕ)
+        → Reads reader (now (chunk .entry)) (now (bound .entry)) (now (down .entry)) grid m
         → r ≡ countedOf (elementsFrom (elementsOf (now (file .entry)) reader grid m) pos n slot (accepted []))) ⌝ }
 {
     let left = below_count(n, slot, reader.count);
@@ -79,7 +80,8 @@ pub fn below_count(n: u64, slot: u64, count: u64) -> u64
 fn all_chunks(n: u64, reader: ElementReader, bound: &[u64; 32], down: &[u64; 32]) -> bool
     requires { ⌜ (elementSizeTest (reader .form) ≡ Passed)
         × ((grid : Grid) × (m : ℕ) × (chunk : List ℕ) × Reads reader chunk (now bound) (now down) grid m) ⌝ }
-    ensures { λ r. ⌜ ((grid : Grid) (m : ℕ) (chunk : List ℕ) → Reads reader chunk (now (bound .entry)) (now (down .entry)) grid m
+    ensures { λ r. ⌜ ((grid : Grid) (m : ℕ) (chunk : List ℕ)
+        → Reads reader chunk (now (bound .entry)) (now (down .entry)) grid m
         → r ≡ allChunks (reader .form) grid m n) ⌝ }
 {
     if !sizes_fit(reader) {
@@ -93,7 +95,8 @@ fn all_chunks(n: u64, reader: ElementReader, bound: &[u64; 32], down: &[u64; 32]
 // Whether no size passes 2^32 - 1.
 fn sizes_fit(reader: ElementReader) -> bool
     requires { ⌜ elementSizeTest (reader .form) ≡ Passed ⌝ }
-    ensures { λ r. ⌜ ((grid : Grid) (m : ℕ) → reader .«chunk_bytes» ≡ figure (chunkBytes grid m) → r ≡ sizesFit (reader .form) grid m) ⌝ }
+    ensures { λ r. ⌜ ((grid : Grid) (m : ℕ) → reader .«chunk_bytes» ≡ figure (chunkBytes grid m)
+        → r ≡ sizesFit (reader .form) grid m) ⌝ }
 {
     let form = reader.form;
     if form.is_filtered() {
@@ -147,7 +150,8 @@ fn count_each_element(
 ) -> Counted
     requires { ⌜ RunInFile (now file) reader (now chunk) (now bound) (now down) pos n
         × (elementSizeTest (reader .form) ≡ Passed) × (slot + n ≤ reader .count) ⌝ }
-    ensures { λ r. ⌜ ((grid : Grid) (m : ℕ) → Reads reader (now (chunk .entry)) (now (bound .entry)) (now (down .entry)) grid m
+    ensures { λ r. ⌜ ((grid : Grid) (m : ℕ)
+        → Reads reader (now (chunk .entry)) (now (bound .entry)) (now (down .entry)) grid m
         → r ≡ countedOf (elementsFrom (elementsOf (now (file .entry)) reader grid m) pos n slot (accepted []))) ⌝ }
 {
     let stride = reader.form.stride() as usize;

@@ -1,4 +1,5 @@
--- One turn of a loop over the pages of a data block: a law for each way it can go, in the loop's own terms. Assumes nothing.
+-- One turn of a loop over the pages of a data block: a law for each way it can go, in the loop's own terms. Assumes
+-- nothing.
 use Prim.Native.Nat.{ℕ, suc, _+_, _-_, _<_, _≤_}
 use mathlib.Core.Path.{_≡_, refl}
 use mathlib.Core.Bool.{true, false}

@@ -47,14 +47,16 @@ maskAt e pos = cond (filtered (e .form)) (leAt (e .file) (pos + e .form .«offse
 
 -- what the element at pos holds
 unfoldable pub entryAt : Elements → ℕ → Entry
-entryAt e pos = record { address = addressAt (e .file) pos (e .form .«offset_size»); size = sizeAt e pos; mask = maskAt e pos }
+entryAt e pos =
+    record { address = addressAt (e .file) pos (e .form .«offset_size»); size = sizeAt e pos; mask = maskAt e pos }
 
 -- 29 size field over 8 bytes, before 30 size over 2^32 − 1 (value)
 unfoldable pub entryTest : Elements → ℕ → Checked
 entryTest e pos = refuse 29 0 0 (filtered (e .form) && ltb 8 (sizeBytes (e .form))) then sizeTest (sizeAt e pos)
 
--- Element: 28, 1, undefined, 32, 33, dropped, 29, 30: the element of slot s at pos gives no chunk or its record, whose
--- corner is the slot's offsets. A slot whose offsets don't all lie below the present extents is dropped, without refusal.
+-- Element: 28, 1, undefined, 32, 33, dropped, 29, 30: the element of slot s at pos gives no chunk or its record,
+-- whose corner is the slot's offsets. A slot whose offsets don't all lie below the present extents is dropped,
+-- without refusal.
 unfoldable pub element : Elements → ℕ → ℕ → Outcome (Option Rec)
 element e pos s =
     elementSizeTest (e .form)

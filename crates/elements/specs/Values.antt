@@ -14,8 +14,8 @@ use Rattle.elements.specs.declared.Found.the-variants.{Absent, Chunk, Re
 use Rattle.elements.specs.declared.ElementReader.{ElementReader}
 use Rattle.elements.specs.Elements.{Elements, chunkBytes}
 
--- What reading an element and looking up a chunk answer. Refused: the refusal's number and figures. Accepted: number 0, and
--- that there is no chunk or the chunk's entry; the record's corner is the one of the slot that was asked for.
+-- What reading an element and looking up a chunk answer. Refused: the refusal's number and figures. Accepted: number
+-- 0, and that there is no chunk or the chunk's entry; the record's corner is the one of the slot that was asked for.
 unfoldable pub foundOf : Outcome (Option Rec) → Found
 foundOf (refused r) = FoundRefused r
 foundOf (accepted none) = Absent

@@ -50,8 +50,10 @@ impl ElementReader {
     ) -> ElementReader
         requires { ⌜ ((grid : Grid) × (down : List ℕ) × GridNumbers rank (numbering .rotated) (now chunk) down grid) ⌝ }
         ensures { λ r. ⌜ (r .form ≡ form) × (r .count ≡ count)
-            × ((grid : Grid) (bound down : List ℕ) → GridNumbers rank (numbering .rotated) (now (chunk .entry)) down grid
-            → Extents rank (numbering .numbers) bound grid → Reads r (now (chunk .entry)) bound down grid «element_bytes») ⌝ }
+            × ((grid : Grid) (bound down : List ℕ)
+            → GridNumbers rank (numbering .rotated) (now (chunk .entry)) down grid
+            → Extents rank (numbering .numbers) bound grid
+            → Reads r (now (chunk .entry)) bound down grid «element_bytes») ⌝ }
     {
         ElementReader {
             form,
@@ -73,7 +75,8 @@ impl ElementReader {
         down: &[u64; 32],
     ) -> Offsets
         requires { ⌜ ((grid : Grid) × (n : ℕ) × Reads self (now chunk) (now bound) (now down) grid n) ⌝ }
-        ensures { λ r. ⌜ ((grid : Grid) (n : ℕ) → Reads self (now (chunk .entry)) (now (bound .entry)) (now (down .entry)) grid n
+        ensures { λ r. ⌜ ((grid : Grid) (n : ℕ)
+            → Reads self (now (chunk .entry)) (now (bound .entry)) (now (down .entry)) grid n
             → (r ≡ offsetsOf (inExtent grid slot))
             × (now (offsets .exit) ≡ handed grid slot (now (offsets .entry)))) ⌝ }
     {

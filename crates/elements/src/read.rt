@@ -39,7 +39,8 @@ pub fn read_element(
 ) -> Found
     requires { ⌜ ((grid : Grid) × (n : ℕ) × Reads reader (now chunk) (now bound) (now down) grid n)
         × (pos + stride (reader .form) ≤ length (now file)) ⌝ }
-    ensures { λ r. ⌜ ((grid : Grid) (n : ℕ) → Reads reader (now (chunk .entry)) (now (bound .entry)) (now (down .entry)) grid n
+    ensures { λ r. ⌜ ((grid : Grid) (n : ℕ)
+        → Reads reader (now (chunk .entry)) (now (bound .entry)) (now (down .entry)) grid n
         → r ≡ foundOf (element (elementsOf (now (file .entry)) reader grid n) pos slot)) ⌝ }
 {
     if let Checked::Refused(r) = reader.form.test() {
@@ -116,7 +117,8 @@ fn read_entry(file: &[u8], pos: usize, reader: ElementReader, address: u64) -> F
 // The entry of these numbers: 30 where 32 bits don't hold the size.
 fn entry_of(address: u64, size: u64, mask: u32) -> Found
     ensures { λ r. ⌜ ((corner : List ℕ)
-        → r ≡ foundOf (sizeTest size yields recorded corner (record { address = address; size = size; mask = mask }))) ⌝ }
+        → r ≡ foundOf (sizeTest size
+        yields recorded corner (record { address = address; size = size; mask = mask }))) ⌝ }
 {
     match u32_from(size) {
         Narrowed::Value(size) => Found::Chunk(Entry {

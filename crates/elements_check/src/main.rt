@@ -1,5 +1,5 @@
-// Prints what elements hold: every element size at each width of addresses and at another one, defined and undefined; sizes of
-// chunks at the limit of 32 bits; and elements that are refused for two reasons, for the order of the tests.
+// Prints what elements hold: every element size at each width of addresses and at another one, defined and undefined;
+// sizes of chunks at the limit of 32 bits; and elements that are refused for two reasons, for the order of the tests.
 use check_lines::end_line;
 use check_lines::print_number;
 use check_lines::print_refusal;
@@ -25,8 +25,8 @@ fn print_found(found: Found) {
     }
 }
 
-// What the element at the beginning of a file holds for the chunk of a slot, in a dataset with elements of so many bytes;
-// nothing where the file is shorter.
+// What the element at the beginning of a file holds for the chunk of a slot, in a dataset with elements of so many
+// bytes; nothing where the file is shorter.
 fn print_read(file: &[u8], form: Form, slot: u64, element_bytes: u64, grid: ChunkGrid) {
     if let Checked::Refused(r) = grid.test() {
         print_refusal(r);

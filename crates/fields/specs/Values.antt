@@ -15,7 +15,8 @@ use Rattle.fields.specs.declared.bytes.OptionalOffset.the-variants.{Unde
 use Rattle.fields.specs.declared.convert.Exact.{Exact}
 use Rattle.fields.specs.declared.convert.Exact.the-variants.{Fits, Overflows}
 use Rattle.fields.specs.declared.convert.Narrowed.{Narrowed}
-use Rattle.fields.specs.declared.convert.Narrowed.the-variants.{Value as NarrowedValue, Refused as NarrowedRefused}
+use Rattle.fields.specs.declared.convert.Narrowed.the-variants.{Value as NarrowedValue}
+use Rattle.fields.specs.declared.convert.Narrowed.the-variants.{Refused as NarrowedRefused}
 use Rattle.fields.specs.Fields.{widthTest, inFile, addressAt, undefinedAt, sizeTest}
 
 -- An offset or length (number 1 or 2) is read where its width is right and it lies in the file.
@@ -26,13 +27,14 @@ fieldTest number s pos w = widthTest number w then inFile s pos w
 unfoldable pub sizeFieldTest : List ℕ → ℕ → ℕ → Checked
 sizeFieldTest s pos w = refuse 29 0 0 (ltb 8 w) then inFile s pos w
 
--- What reading a field answers. Refused: the refusal's number and figures. Accepted: number 0, and what the field holds.
+-- What reading a field answers. Refused: the refusal's number and figures. Accepted: number 0, and what the field
+-- holds.
 unfoldable pub fieldOf : Outcome ℕ → Field
 fieldOf (refused r) = FieldRefused r
 fieldOf (accepted n) = Value n
 
--- What reading an address answers that may be undefined. Refused: the refusal's number and figures. Accepted: number 0, and
--- that it is undefined or the address.
+-- What reading an address answers that may be undefined. Refused: the refusal's number and figures. Accepted: number
+-- 0, and that it is undefined or the address.
 unfoldable pub optionalOf : Outcome (Option ℕ) → OptionalOffset
 optionalOf (refused r) = OptionalRefused r
 optionalOf (accepted none) = Undefined

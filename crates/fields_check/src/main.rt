@@ -1,5 +1,5 @@
-// Prints what the readers, the stores and the conversions answer at their limits: every width, one byte short, positions near
-// 2^64, all bits set at each width and one less.
+// Prints what the readers, the stores and the conversions answer at their limits: every width, one byte short,
+// positions near 2^64, all bits set at each width and one less.
 use check_lines::end_line;
 use check_lines::print_number;
 use check_lines::print_refusal;

@@ -31,14 +31,16 @@ pub data Tally (P : ℕ → Type 0) : ℕ → ℕ → ℕ → Type 0 where
 abbrev pub Rising : Index → List Rec → Type 0
 Rising i [] = Unit {0}
 Rising i (r ∷ l) =
-    ((q : Rec) → List·Memᴰ q l → (s t : ℕ) → slotOf (i .grid) (r .corner) ≡ At s → slotOf (i .grid) (q .corner) ≡ At t → s < t) × Rising i l
+    ((q : Rec) → List·Memᴰ q l → (s t : ℕ) → slotOf (i .grid) (r .corner) ≡ At s → slotOf (i .grid) (q .corner) ≡ At t
+    → s < t) × Rising i l
 
 -- A list of records with the count that is answered.
 pub record ExactList (i : Index) (l : List Rec) (count : ℕ) : Type 0 where
   -- every record is of a stored chunk: its corner, and what the place of its slot holds
   pub listed : (r : Rec) → List·Memᴰ r l → (s : ℕ) × Stored i (r .corner) s (r .entry)
   -- every stored chunk has its record
-  pub whole : (corner : List ℕ) (s : ℕ) (e : Entry) → Stored i corner s e → List·Memᴰ (record { entry = e; corner = corner }) l
+  pub whole : (corner : List ℕ) (s : ℕ) (e : Entry) → Stored i corner s e
+      → List·Memᴰ (record { entry = e; corner = corner }) l
   -- records rise by slot, so no chunk stands twice
   pub rising : Rising i l
   -- the count is the number of records ..

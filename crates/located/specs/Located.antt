@@ -21,7 +21,8 @@ pub record Located : Type 0 where
 
 -- A place holds an address if it is reached and its address is defined. It holds its element's address, size and mask.
 unfoldable pub heldIn : Located → ℕ → Option Entry
-heldIn l s = cond (l .reached s && not (undefinedElement (l .elements) (l .position s))) (some (entryAt (l .elements) (l .position s))) none
+heldIn l s = cond (l .reached s && not (undefinedElement (l .elements) (l .position s)))
+    (some (entryAt (l .elements) (l .position s))) none
 
 -- the index that it is
 abbrev pub indexOf : Located → Index

@@ -20,14 +20,17 @@ fileOf input = drop (suc (length (lineOf input))) input
 
 -- The line has 4,095 bytes at most before its newline, the file 60,000.
 unfoldable pub fits : List ℕ → Bool
-fits input = ltb (length (lineOf input)) (length input) && leb (length (lineOf input)) 4095 && leb (length (fileOf input)) 60000
+fits input =
+    ltb (length (lineOf input)) (length input) && leb (length (lineOf input)) 4095
+    && leb (length (fileOf input)) 60000
 
 -- The order is R (82) or U (85); to the library these are 0 and 1.
 unfoldable pub orderNumber : List ℕ → Option ℕ
 orderNumber w = cond (isOnly 82 w) (some 0) (cond (isOnly 85 w) (some 1) none)
 
--- The line is `O L address elementbytes order rank` and 3 × rank lengths: the chunk's, the present and the maximum ones. O and L are
--- below 256, other numbers below 2^64; a maximum length may be `*` (42), unlimited. The number of word i, counted from 0:
+-- The line is `O L address elementbytes order rank` and 3 × rank lengths: the chunk's, the present and the maximum
+-- ones. O and L are below 256, other numbers below 2^64; a maximum length may be `*` (42), unlimited. The number of
+-- word i, counted from 0:
 unfoldable pub wordNumber : ℕ → ℕ → List ℕ → Option ℕ
 wordNumber rank i w =
     cond (ltb i 2) (numberOf 255 w)
@@ -54,7 +57,8 @@ withNumber q i n = record {
 abbrev pub noQuestion : Question
 noQuestion = record { «offset_size» = 0; «length_size» = 0; address = 0; «element_bytes» = 0; order = 0; rank = 0 }
 
--- what a line asks for, where the words before word i ask for q and these follow: a line of another form is unreadable; ..
+-- what a line asks for, where the words before word i ask for q and these follow: a line of another form is
+-- unreadable; ..
 unfoldable pub questionFrom : Question → ℕ → List (List ℕ) → Option Question
 questionFrom q i [] = cond (eqb i (6 + 3 * q .rank)) (some q) none
 questionFrom q i (w ∷ ws) = ifNumber (wordNumber (q .rank) i w) none (λ n. questionFrom (withNumber q i n) (suc i) ws)

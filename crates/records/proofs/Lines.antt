@@ -57,8 +57,8 @@ module _ {r : ElementReader} {corner : List ℕ} {line : Line} {chunk : List ℕ
   pub line-begins : line .first * stepOf < 2 ^ 64
   line-begins = omega (arith, line-fits 0 (q .lies .some))
 
--- A run of slots that lie in a line, below the count, is accepted: their corners are an array's, but for dimension `dim`, whose offset grows from
--- `first` by `step`.
+-- A run of slots that lie in a line, below the count, is accepted: their corners are an array's, but for dimension
+-- `dim`, whose offset grows from `first` by `step`.
 pub record Lined (file : List ℕ) (r : ElementReader) (corner : List ℕ) (dim first step pos n : ℕ) (grid : Grid) (m s : ℕ) (l : List Rec) : Type 0 where
   pub chunked : r .«chunk_bytes» ≡ figure (chunkBytes grid m)
   pub is : elementsFrom (elementsOf file r grid m) pos n s (accepted []) ≡ accepted l

@@ -1,4 +1,5 @@
--- The loops that write a run: what is written, and the records that are left stored behind it, make the whole. Assumes nothing.
+-- The loops that write a run: what is written, and the records that are left stored behind it, make the whole.
+-- Assumes nothing.
 use Prim.Native.Nat.{ℕ, _+_, _-_, _*_, _<_, _≤_}
 use mathlib.Core.Path.{_≡_, refl, sym, ap, _∙_}
 use mathlib.Core.List.{List, [], _∷_, _++_}
@@ -34,7 +35,8 @@ other-inv (accepted none) a l h not = h
 other-inv (accepted (some x)) a l h not = absurd (not (x .entry) refl)
 other-inv (refused r) a l h not = absurd (never r l h)
 
--- of n elements whose slots begin at `slot` those from i on are at `from`, and their records, stored at `to`, make W, which ends at `end`
+-- of n elements whose slots begin at `slot` those from i on are at `from`, and their records, stored at `to`, make W,
+-- which ends at `end`
 pub record Left (es : Elements) (n slot from i : ℕ) (out : List ℕ) (to : ℕ) (W : List ℕ) (end : ℕ) : Type 0 where
   pub records : List Rec
   pub is : elementsFrom es from (n - i) (slot + i) (accepted []) ≡ accepted records

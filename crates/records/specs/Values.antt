@@ -11,7 +11,8 @@ use Rattle.elements.specs.Values.{Reads}
 
 -- The reader and the array `chunk` are made of this grid and element size, `corner` begins with the offsets of slot s,
 -- and a line lies from s on.
-pub record ReadsLine (r : ElementReader) (corner : List ℕ) (line : Line) (chunk : List ℕ) (grid : Grid) (n s : ℕ) : Type 0 where
+pub record ReadsLine (r : ElementReader) (corner : List ℕ) (line : Line) (chunk : List ℕ) (grid : Grid) (n s : ℕ) :
+    Type 0 where
   pub bound : List ℕ
   pub down : List ℕ
   pub reads : Reads r chunk bound down grid n

@@ -14,8 +14,8 @@ unfoldable pub refusalOf : Checked → Refusal
 refusalOf Passed = record { number = 0; first = 0; second = 0 }
 refusalOf (Refused r) = r
 
--- What counting the members of a list answers. Refused: the refusal's number and figures. Accepted: number 0, and how many
--- they are.
+-- What counting the members of a list answers. Refused: the refusal's number and figures. Accepted: number 0, and how
+-- many they are.
 unfoldable pub countedOf : {A : Type 0} → Outcome (List A) → Counted
 countedOf (refused r) = CountedRefused r
 countedOf (accepted l) = Count (length l)

@@ -86,8 +86,8 @@ fn count_super(file: &[u8], array: ExtensibleArray, u: u64) -> Counted
     }
 }
 
-// Counts the data blocks of super block u that are pointed to. The super block lies at super_at, which plays no part where the
-// index block names the data blocks.
+// Counts the data blocks of super block u that are pointed to. The super block lies at super_at, which plays no part
+// where the index block names the data blocks.
 fn count_blocks(file: &[u8], array: ExtensibleArray, u: u64, super_at: u64) -> u64
     requires { ⌜ (u < superBlocks (array .geometry .parameters)) × IndexInFile (now file) array
         × EnteredSuper (arrayOf (now file) array) u (At «super_at») ⌝ }

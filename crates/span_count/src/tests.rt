@@ -25,8 +25,8 @@ use refusal::Checked;
 use refusal::Refusal;
 use span_walk::Span;
 
-// The header's 31. Its length may be past 2^64 - 1 itself, so what is looked at is the address of its last byte: the end is
-// past 2^64 - 1 where that is 2^64 - 1 or more.
+// The header's 31. Its length may be past 2^64 - 1 itself, so what is looked at is the address of its last byte: the
+// end is past 2^64 - 1 where that is 2^64 - 1 or more.
 fn test_header_span(address: u64, offset_size: u64, length_size: u64) -> Checked
     ensures { λ r. ⌜ r ≡ spanTest (headerSpan address «offset_size» «length_size») ⌝ }
 {
@@ -90,7 +90,8 @@ pub fn test_index(file: &[u8], array: ExtensibleArray) -> Checked
 // Tests super block u, which lies at `at`: 31, then 20, 25, 26.
 pub fn test_super(file: &[u8], array: ExtensibleArray, u: u64, at: u64) -> Checked
     requires { ⌜ (u < superBlocks (array .geometry .parameters)) × Bounded (array .geometry) ⌝ }
-    ensures { λ r. ⌜ (let a = arrayOf (now (file .entry)) array in at ≡ superAt a u → r ≡ spannedTest a (superBlock u)) ⌝ }
+    ensures { λ r. ⌜ (let a = arrayOf (now (file .entry)) array in at ≡ superAt a u
+        → r ≡ spannedTest a (superBlock u)) ⌝ }
 {
     test_span(
         super_span(array, u, at),

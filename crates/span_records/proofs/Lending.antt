@@ -1,14 +1,11 @@
--- A `&κ mut [T]` that is lent again for a lifetime κ′ of a call, and comes back; and one that is shared for all the time
--- that it has left. It says nothing of this crate. The first stands so in the kit's example `writer`.
---     LentAgain        what the holder keeps while the slice is lent again under the name γ₁: the lender's part at κ′, and
---                      its own borrow at κ, open, with both halves of its ghost variable
---     lends-again      own (the `&κ mut [T]` ((b, o), γ, ys)) ∗ [κ]_q
---                      ⊢ ⇛ ∃ γ₁. own (the `&κ′ mut [T]` ((b, o), γ₁, ys)) ∗ LentAgain γ₁
---     comes-back       given `Room` and that zs is as long as ys:  [†κ′] ∗ LentAgain γ₁ ∗ finally γ₁ zs
---                      ⊢ ⇛ (own (the `&κ mut [T]` ((b, o), γ, zs)) ∗ [κ]_q)
---     shares           own (the `&κ mut [T]` ((b, o), γ, ys)) ∗ [κ]_q
---                      ⊢ ⇛ ∃ γ₁. own (the `&κ [T]` ((b, o), γ₁, ys)) ∗ finally γ ys ∗ [κ]_q
--- Assumes `Given`.
+-- A `&κ mut [T]` that is lent again for a lifetime κ′ of a call, and comes back; and one that is shared for all the
+-- time that it has left. It says nothing of this crate. The first stands so in the kit's example `writer`. LentAgain
+--       what the holder keeps while the slice is lent again under the name γ₁: the lender's part at κ′, and its own
+-- borrow at κ, open, with both halves of its ghost variable lends-again      own (the `&κ mut [T]` ((b, o), γ, ys)) ∗
+-- [κ]_q ⊢ ⇛ ∃ γ₁. own (the `&κ′ mut [T]` ((b, o), γ₁, ys)) ∗ LentAgain γ₁ comes-back       given `Room` and that zs
+-- is as long as ys:  [†κ′] ∗ LentAgain γ₁ ∗ finally γ₁ zs ⊢ ⇛ (own (the `&κ mut [T]` ((b, o), γ, zs)) ∗ [κ]_q) shares
+--           own (the `&κ mut [T]` ((b, o), γ, ys)) ∗ [κ]_q ⊢ ⇛ ∃ γ₁. own (the `&κ [T]` ((b, o), γ₁, ys)) ∗ finally γ
+-- ys ∗ [κ]_q Assumes `Given`.
 use mathlib.Core.Path.{_≡_, sym, ap, subst}
 use Prim.Native.Nat.{ℕ}
 use mathlib.Core.List.{List, [], _∷_}

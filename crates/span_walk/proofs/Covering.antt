@@ -132,8 +132,8 @@ index-inv : (a : Array) (l : List Span) → undefined (a .offsetSize) (a .indexA
     → (m : List Span) × (supersFrom a (superBlocks (a .parameters)) 0 ≡ accepted m) × (l ≡ spanOf a indexBlock ∷ m)
 index-inv a l u h = also-inv _ _ l (yields-inv _ _ l (sym (index-defined a u) ∙ h) .1)
 
--- The spans of a file are accepted, and its index block is defined: the header has its span, and every structure that a list or
--- a lookup of any dataset with this index tests lies in one.
+-- The spans of a file are accepted, and its index block is defined: the header has its span, and every structure that
+-- a list or a lookup of any dataset with this index tests lies in one.
 pub spans-cover : (f : List ℕ) (address o l : ℕ) (s : List Span) → spans f address o l ≡ accepted s
     → undefined o (headerAt f address o l .«index_block_address») ≡ false
     → List·Memᴰ (headerSpan address o l) s × Covered (arrayFrom f (headerAt f address o l) o) s

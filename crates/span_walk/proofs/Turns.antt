@@ -1,4 +1,5 @@
--- The spans of the index block and of a super block, and one turn of a loop over super blocks or data blocks. Assumes nothing.
+-- The spans of the index block and of a super block, and one turn of a loop over super blocks or data blocks. Assumes
+-- nothing.
 use Prim.Native.Nat.{ℕ, suc, _+_, _-_, _<_, _≤_}
 use mathlib.Core.Path.{_≡_, refl}
 use mathlib.Core.Bool.{true, false}

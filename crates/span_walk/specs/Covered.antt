@@ -6,7 +6,8 @@ use mathlib.Core.List.{List, List·Memᴰ}
 use Rattle.ea_geometry.specs.Sizes.{superBlocks, blocks, pages}
 use Rattle.ea_geometry.specs.Place.{inPages, place}
 use Rattle.ea_blocks.specs.Array.{Array}
-use Rattle.ea_blocks.specs.Structures.{Structure, indexBlock, superBlock, dataBlock, dataPage, startOf, extentOf, isDirect, superUndefined}
+use Rattle.ea_blocks.specs.Structures.{Structure, indexBlock, superBlock, dataBlock, dataPage, startOf, extentOf}
+use Rattle.ea_blocks.specs.Structures.{isDirect, superUndefined}
 use Rattle.ea_blocks.specs.Places.{blockReached, structures}
 use Rattle.span_walk.specs.declared.Span.{Span}
 

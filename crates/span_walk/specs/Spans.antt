@@ -9,7 +9,8 @@ use Rattle.ea_header.specs.declared.Parameters.{Parameters}
 use Rattle.ea_geometry.specs.Sizes.{overPage}
 use Rattle.ea_geometry.specs.Extents.{dataExtent, pagedExtent}
 use Rattle.ea_blocks.specs.Array.{Array}
-use Rattle.ea_blocks.specs.Structures.{Structure, indexBlock, superBlock, dataBlock, dataPage, startOf, extentOf, testOf}
+use Rattle.ea_blocks.specs.Structures.{Structure, indexBlock, superBlock, dataBlock, dataPage, startOf, extentOf}
+use Rattle.ea_blocks.specs.Structures.{testOf}
 use Rattle.span_walk.specs.declared.Span.{Span}
 
 -- the header's span, 16 + 6L + O bytes with the sizes as given

@@ -1,5 +1,5 @@
--- The walk of the spans: which test comes when, and which spans it gives. The published count plays no part: spans cover every
--- pointed-to block.
+-- The walk of the spans: which test comes when, and which spans it gives. The published count plays no part: spans
+-- cover every pointed-to block.
 use Prim.Native.Nat.{ℕ, zero, suc, _+_}
 use mathlib.Core.Bool.{cond}
 use mathlib.Core.List.{List, [], _∷_, _++_}
@@ -55,7 +55,8 @@ indexSpans a =
 -- Spans: header at its address (31, 20, ..), 27, ..
 unfoldable pub headTest : List ℕ → ℕ → ℕ → ℕ → Checked
 headTest f address o l =
-    spanTest (headerSpan address o l) then headerTest lookup3 f address o l then servedTest (headerAt f address o l .parameters)
+    spanTest (headerSpan address o l) then headerTest lookup3 f address o l
+    then servedTest (headerAt f address o l .parameters)
 
 -- .. walk with 31 before 20.
 unfoldable pub spans : List ℕ → ℕ → ℕ → ℕ → Spanning

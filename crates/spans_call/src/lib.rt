@@ -21,7 +21,8 @@ pub extern "C" fn cellumaq_test_spans(
 ) -> u64
     ensures { λ r. ⌜ (let s = spansInto (now (file .entry)) address «offset_size» «length_size»
         (now (addresses .entry)) (now (lengths .entry)) in
-        (r ≡ picked which (answered 1 listNumbers s)) × (now (addresses .exit) ≡ filled addressOf s 0 (now (addresses .entry)))
+        (r ≡ picked which (answered 1 listNumbers s))
+        × (now (addresses .exit) ≡ filled addressOf s 0 (now (addresses .entry)))
         × (now (lengths .exit) ≡ filled lengthOf s 0 (now (lengths .entry)))) ⌝ }
 {
     let counted = extensible_array_index_spans(

@@ -14,7 +14,8 @@ use Rattle.structures.specs.declared.Kind.the-variants.{Signed}
 -- its signature's number, 22 header version (version)
 unfoldable pub formTest : ℕ → ℕ → List ℕ → ℕ → Checked
 formTest number signature f pos =
-    signatureTest (Signed number signature) f pos then refuse 22 (getD f (pos + 4) 0) 0 (not (eqb (getD f (pos + 4) 0) 0))
+    signatureTest (Signed number signature) f pos
+    then refuse 22 (getD f (pos + 4) 0) 0 (not (eqb (getD f (pos + 4) 0) 0))
 
 -- 2 length size, 1 offset size
 unfoldable pub sizesTest : ℕ → ℕ → Checked
@@ -23,4 +24,5 @@ sizesTest o l = widthTest 2 l then widthTest 1 o
 -- A header of len bytes at pos: 20, its signature's number, 22, 2, 1, 26.
 unfoldable pub signedHeaderTest : ℕ → ℕ → (List ℕ → ℕ) → List ℕ → ℕ → ℕ → ℕ → ℕ → Checked
 signedHeaderTest number signature sum f pos len o l =
-    inFile f pos len then formTest number signature f pos then sizesTest o l then trailingTest sum (take len (drop pos f))
+    inFile f pos len then formTest number signature f pos then sizesTest o l
+    then trailingTest sum (take len (drop pos f))

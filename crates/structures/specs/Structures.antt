@@ -20,7 +20,9 @@ signatureTest Page f pos = Passed
 
 -- Each block 20, signature, 26, each page 20, 26: the structure of len bytes at pos.
 unfoldable pub structureTest : (List ℕ → ℕ) → Kind → List ℕ → ℕ → ℕ → Checked
-structureTest sum kind f pos len = inFile f pos len then signatureTest kind f pos then trailingTest sum (take len (drop pos f))
+structureTest sum kind f pos len =
+    inFile f pos len then signatureTest kind f pos
+    then trailingTest sum (take len (drop pos f))
 
 -- The pages of a data block: how many elements each has, which are set, each one's test, and where its elements begin.
 pub record Pages : Type 0 where

@@ -23,7 +23,8 @@ pub fn test_header(
     length_size: u64,
 ) -> Checked
     requires { ⌜ 5 ≤ size ⌝ }
-    ensures { λ r. ⌜ r ≡ signedHeaderTest number signature lookup3 (now (file .entry)) address size «offset_size» «length_size» ⌝ }
+    ensures { λ r. ⌜ r
+        ≡ signedHeaderTest number signature lookup3 (now (file .entry)) address size «offset_size» «length_size» ⌝ }
 {
     let inside = ensure_len(file, address, size);
     let Checked::Passed = inside else {

@@ -1,4 +1,5 @@
--- `checksum::hash_from` meets its contract: the blocks that are left, from the words so far, give the hash. Assumes nothing.
+-- `checksum::hash_from` meets its contract: the blocks that are left, from the words so far, give the hash. Assumes
+-- nothing.
 use Prim.Native.Nat.{_-_, _/_, _<_}
 use mathlib.Core.Path.{_≡_, ap, _∙_}
 use native.Mathlib.Omega.{arith}

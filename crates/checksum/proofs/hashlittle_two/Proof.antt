@@ -1,4 +1,5 @@
--- `checksum::hashlittle_two` meets its contract: for each slice the blocks that are left, from its words so far, give its hash. Assumes nothing.
+-- `checksum::hashlittle_two` meets its contract: for each slice the blocks that are left, from its words so far, give
+-- its hash. Assumes nothing.
 use Prim.Native.Nat.{_-_, _<_, _≤_}
 use mathlib.Core.Path.{_≡_, ap, _∙_}
 use native.Mathlib.Omega.{arith}

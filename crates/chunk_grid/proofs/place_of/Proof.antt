@@ -1,4 +1,5 @@
--- `chunk_grid::place_of` meets its contract: i, and what is still to come from place i on, make the answer. Assumes nothing.
+-- `chunk_grid::place_of` meets its contract: i, and what is still to come from place i on, make the answer. Assumes
+-- nothing.
 use mathlib.Core.Path.{_≡_}
 use native.Mathlib.Omega.{arith}
 use borrow.Author.Needs.{needs}

@@ -1,4 +1,5 @@
--- `chunk_slots::slot_of` meets its contract: what is left from place i on, from the sum so far, gives the slot. Assumes nothing.
+-- `chunk_slots::slot_of` meets its contract: what is left from place i on, from the sum so far, gives the slot.
+-- Assumes nothing.
 use lib.Dec.{ltb}
 use borrow.Author.Tests.{lt-ltb, ltb-true, leb-true, leb-false}
 use Rattle.refusal.proofs.Tests.{both, not-both}

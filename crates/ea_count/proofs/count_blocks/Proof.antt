@@ -1,6 +1,7 @@
--- `ea_count::count_blocks` meets its contract. The invariant of each of its three loops: at super block u, at its data block k, and at page p of
--- that, the records that are counted and what the walk gives from there on are the whole (`Invariants`). A refusal, or the count's end, leaves all
--- three loops with the whole's answer. The measures are the super blocks, data blocks and pages that are left. Assumes nothing.
+-- `ea_count::count_blocks` meets its contract. The invariant of each of its three loops: at super block u, at its
+-- data block k, and at page p of that, the records that are counted and what the walk gives from there on are the
+-- whole (`Invariants`). A refusal, or the count's end, leaves all three loops with the whole's answer. The measures
+-- are the super blocks, data blocks and pages that are left. Assumes nothing.
 use mathlib.Core.Path.{refl, sym, ap, subst, _∙_}
 use mathlib.Core.Logic.{inl, inr, ⊎-elim}
 use native.Mathlib.Omega.{arith}

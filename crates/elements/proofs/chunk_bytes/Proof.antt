@@ -1,4 +1,5 @@
--- `elements::chunk_bytes` meets its contract: the lengths that are left, times what there is, are the whole. Assumes nothing.
+-- `elements::chunk_bytes` meets its contract: the lengths that are left, times what there is, are the whole. Assumes
+-- nothing.
 use borrow.Author.Needs.{needs}
 use Prim.Native.Nat.{_-_, _*_, _≤_}
 use mathlib.Core.Path.{_≡_, sym, _∙_}

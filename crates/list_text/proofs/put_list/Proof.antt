@@ -1,4 +1,5 @@
--- `list_text::put_list` meets its contract: the lines, the word, the count and the line end, one behind the other. Assumes nothing.
+-- `list_text::put_list` meets its contract: the lines, the word, the count and the line end, one behind the other.
+-- Assumes nothing.
 use native.Mathlib.Omega.{arith}
 use Rattle.list_text.proofs.Puts.{put-then, put-as}
 use Rattle.list_text.proofs.Lines.{list-parts}

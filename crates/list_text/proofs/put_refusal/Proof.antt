@@ -1,4 +1,5 @@
--- `list_text::put_refusal` meets its contract: the word, the number, the figures and the line end, one behind the other. Assumes nothing.
+-- `list_text::put_refusal` meets its contract: the word, the number, the figures and the line end, one behind the
+-- other. Assumes nothing.
 use native.Mathlib.Omega.{arith}
 use mathlib.Core.List.{append-assoc, append-nil}
 use Rattle.list_text.specs.Printed.{spaced, refusalText}

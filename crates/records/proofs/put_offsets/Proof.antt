@@ -1,4 +1,5 @@
--- `records::put_offsets` meets its contract: what is left of the offsets goes behind those that are stored. Assumes nothing.
+-- `records::put_offsets` meets its contract: what is left of the offsets goes behind those that are stored. Assumes
+-- nothing.
 use borrow.Author.Needs.{needs}
 use Prim.Native.Nat.{ℕ, _+_, _-_, _*_, _≤_}
 use mathlib.Core.Path.{_≡_, refl, _∙_}

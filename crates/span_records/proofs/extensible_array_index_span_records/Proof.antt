@@ -238,7 +238,8 @@ module _ {M : Type 1} (𝓤 : URA M) (H : Heap 𝓤) (A : Atoms 𝓤) (W : Given
               → Sq W ((‵ (flft κ₃ q₃) ⊛ ‵ (flft κ₁ q₁) ⊛ ‵ (flft κ₂ q₂) ⊛ ‵ ftrue) ∷ ‵ (finally T.the-row γ₃ zs) ∷ ‵ (finally u64 γ₂ L) ∷ ‵ (finally u64 γ₁ X) ∷ ‵ (flft κ₀ q₀) ∷ ‵ (fat fullShare si l₂₁ 0 s₂) ∷ ‵ (fdies si l₂₁) ∷ ‵ (fat fullShare ri l₂₀ 0 (vptr b₂ o₂)) ∷ ‵ (fdies ri l₂₀) ∷ ‵ (fat fullShare si l₁₉ 0 s₁) ∷ ‵ (fdies si l₁₉) ∷ ‵ (fat fullShare ri l₁₈ 0 (vptr b₁ o₁)) ∷ ‵ (fdies ri l₁₈) ∷ ‵ (fat fullShare ss l₁₇ 0 s₃) ∷ ‵ (fdies ss l₁₇) ∷ ‵ (fat fullShare rs l₁₆ 0 (vptr b₃ o₃)) ∷ ‵ (fdies rs l₁₆) ∷ ‵ (fat fullShare C′.mir l₁₅ 0 w′) ∷ ‵ (fdies C′.mir l₁₅) ∷ ‵ (fat fullShare sm l₁₄ 0 s₂) ∷ ‵ (fdies sm l₁₄) ∷ ‵ (fat fullShare rm l₁₃ 0 (vptr b₂ o₂)) ∷ ‵ (fdies rm l₁₃) ∷ ‵ (fat fullShare sm l₁₂ 0 s₁) ∷ ‵ (fdies sm l₁₂) ∷ ‵ (fat fullShare rm l₁₁ 0 (vptr b₁ o₁)) ∷ ‵ (fdies rm l₁₁) ∷ ‵ (fat fullShare word l₁₀ 0 (vint w64 m)) ∷ ‵ (fdies word l₁₀) ∷ ‵ (fat fullShare D′.mir l₉ 0 w) ∷ ‵ (fdies D′.mir l₉) ∷ ‵ (fat fullShare word l₈ 0 (vint w64 (length ys))) ∷ ‵ (fdies word l₈) ∷ ‵ (fat fullShare sl3 l₇ 0 s₃) ∷ ‵ (fdies sl3 l₇) ∷ ‵ (fat fullShare sl2 l₆ 0 s₂) ∷ ‵ (fdies sl2 l₆) ∷ ‵ (fat fullShare sl1 l₅ 0 s₁) ∷ ‵ (fdies sl1 l₅) ∷ ‵ (fat fullShare word l₄ 0 (vint w64 len)) ∷ ‵ (fdies word l₄) ∷ ‵ (fat fullShare word l₃ 0 (vint w64 off)) ∷ ‵ (fdies word l₃) ∷ ‵ (fat fullShare word l₂ 0 (vint w64 address)) ∷ ‵ (fdies word l₂) ∷ ‵ (fat fullShare sl0 l₁ 0 s₀) ∷ ‵ (fdies sl0 l₁) ∷ ‵ (froom D′.mir l₀ 0) ∷ ‵ (fdies D′.mir l₀) ∷ []) (runs (𝓣 .C) (𝓣 .Λ) En mir′.t-15 (atRet En Post))
           ends w′ zs put same =
               split ! $ move ! (1 ∷ []) $ split ! $ move ! (1 ∷ []) $ split ! $
-              -- [κ₂'s token; true; κ₁'s; κ₃'s; how the records' name ends, the lengths', the addresses'; κ₀'s token; _21; …]
+              -- [κ₂'s token; true; κ₁'s; κ₃'s; how the records' name ends, the lengths', the addresses'; κ₀'s token;
+              -- _21; …]
               assigns ! (of-opd ! (load ! (from ! (stop !)) (look ! 32 refl))) (from ! (stop !)) (init ! 50 refl (EL.lawful D.the-type D′.the-laws 𝓤 H A W tt .typed r (w ∷ []) is .0)) $
               returns ! (look ! 50 refl) $ forget ! 8 refl $ forget ! 10 refl $ forget ! 12 refl $ forget ! 14 refl $ forget ! 16 refl $ forget ! 18 refl $ forget ! 20 refl $ forget ! 22 refl $ forget ! 24 refl $ forget ! 26 refl $ forget ! 28 refl $ forget ! 30 refl $ forget ! 32 refl $ forget ! 34 refl $ forget ! 36 refl $ forget ! 38 refl $ forget ! 40 refl $ forget ! 42 refl $ forget ! 44 refl $ forget ! 46 refl $ forget ! 48 refl $ forget ! 50 refl $
               move ! (50 ∷ 51 ∷ []) $ free1 ! $ move ! (48 ∷ 49 ∷ []) $ free1 ! $ move ! (46 ∷ 47 ∷ []) $ free1 ! $ move ! (44 ∷ 45 ∷ []) $ free1 ! $ move ! (42 ∷ 43 ∷ []) $ free1 ! $ move ! (40 ∷ 41 ∷ []) $ free1 ! $ move ! (38 ∷ 39 ∷ []) $ free1 ! $ move ! (36 ∷ 37 ∷ []) $ free1 ! $ move ! (34 ∷ 35 ∷ []) $ free1 ! $ move ! (32 ∷ 33 ∷ []) $ free1 ! $ move ! (30 ∷ 31 ∷ []) $ free1 ! $ move ! (28 ∷ 29 ∷ []) $ free1 ! $ move ! (26 ∷ 27 ∷ []) $ free1 ! $ move ! (24 ∷ 25 ∷ []) $ free1 ! $ move ! (22 ∷ 23 ∷ []) $ free1 ! $ move ! (20 ∷ 21 ∷ []) $ free1 ! $ move ! (18 ∷ 19 ∷ []) $ free1 ! $ move ! (16 ∷ 17 ∷ []) $ free1 ! $ move ! (14 ∷ 15 ∷ []) $ free1 ! $ move ! (12 ∷ 13 ∷ []) $ free1 ! $ move ! (10 ∷ 11 ∷ []) $ free1 ! $ move ! (8 ∷ 9 ∷ []) $ free1 ! $ free0 ! $

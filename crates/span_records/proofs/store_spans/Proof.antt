@@ -1,7 +1,7 @@
--- `span_records::store_spans` meets its contract: a walk of its MIR, by hand, with two calls and a loop. The borrow of
--- the records is opened once before the loop and closed once after it; each turn looks into the two lists of numbers and
--- stores one record. All that the proof knows of `test_room` and `stored_number` is that they meet their contracts.
--- Assumes nothing.
+-- `span_records::store_spans` meets its contract: a walk of its MIR, by hand, with two calls and a loop. The borrow
+-- of the records is opened once before the loop and closed once after it; each turn looks into the two lists of
+-- numbers and stores one record. All that the proof knows of `test_room` and `stored_number` is that they meet their
+-- contracts. Assumes nothing.
 use mathlib.Core.Path.{_≡_, refl, sym, ap, subst}
 use mathlib.Core.Logic.{_⊎_, inl, inr}
 use mathlib.Core.WellFounded.{WellFounded, InvImage·wf}

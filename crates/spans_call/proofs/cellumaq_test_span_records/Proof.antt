@@ -1,6 +1,6 @@
--- `spans_call::cellumaq_test_span_records` meets its contract: a walk of its MIR, by hand, with two calls. All that is
--- lent goes on to the first. All that the proof knows of the functions that are called is that they meet their contracts.
--- Assumes nothing.
+-- `spans_call::cellumaq_test_span_records` meets its contract: a walk of its MIR, by hand, with two calls. All that
+-- is lent goes on to the first. All that the proof knows of the functions that are called is that they meet their
+-- contracts. Assumes nothing.
 use mathlib.Core.Path.{_≡_, refl}
 use Prim.Native.Nat.{ℕ, _<_, _^_}
 use mathlib.Core.List.{[], _∷_, List}

@@ -1,4 +1,5 @@
--- `fields::bytes::put_le` meets its contract: what is left of the number goes behind the bytes that are stored. Assumes nothing.
+-- `fields::bytes::put_le` meets its contract: what is left of the number goes behind the bytes that are stored.
+-- Assumes nothing.
 use mathlib.Core.Path.{_≡_, refl, _∙_}
 use Prim.Native.Nat.{_+_, _-_, _≤_}
 use native.Mathlib.Omega.{arith}

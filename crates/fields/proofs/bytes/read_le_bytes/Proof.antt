@@ -1,4 +1,5 @@
--- `fields::bytes::read_le_bytes` meets its contract: after each turn v is the number in the bytes from at + i to at + w. Assumes nothing.
+-- `fields::bytes::read_le_bytes` meets its contract: after each turn v is the number in the bytes from at + i to at +
+-- w. Assumes nothing.
 use mathlib.Core.Path.{_≡_}
 use Prim.Native.Nat.{_+_, _-_, _*_, _^_, _≤_, _<_}
 use native.Mathlib.Omega.{arith}

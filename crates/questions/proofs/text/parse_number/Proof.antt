@@ -1,4 +1,5 @@
--- `questions::text::parse_number` meets its contract: what the digits left come to behind those read is the word's number. Assumes nothing.
+-- `questions::text::parse_number` meets its contract: what the digits left come to behind those read is the word's
+-- number. Assumes nothing.
 use mathlib.Core.Bool.{cond}
 use mathlib.Core.Option.{none, some}
 use mathlib.Core.Path.{_≡_, sym, ap, _∙_}
