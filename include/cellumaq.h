@@ -97,8 +97,9 @@ enum cellumaq_order {
  *
  * All of the struct has to be set. In C that is done by naming fields, `struct cellumaq_dataset d = {.file = ..}`, in
  * C++ by `d{}` and then field by field; what isn't named is 0. A field that is forgotten is refused, with the number
- * beside it if the file isn't refused before; but present lengths of 0 are those of a dataset that has no element: its
- * list is empty, and no corner is in it (10). A field that is added later has a 0 that means what is read without it.
+ * beside it if the file isn't refused before, unless it makes no difference; but present lengths of 0 are those of a
+ * dataset that has no element: its list is empty, and no corner is in it (10). A field that is added later has a 0 that
+ * means what is read without it.
  */
 struct cellumaq_dataset {
     const uint8_t *file;    /* the file from its first byte on, or from its base address on where it has a user block:

@@ -18,7 +18,7 @@ BEGIN {
     group("The lookup", "ea_lookup.Lookup ea_lookup.Call")
     other("Of the program `eals`", "questions list_text eals")
     other("Of the listing of spans", "span_walk ea_spans span_records")
-    other("Worked examples", "ea_worked ea_compared")
+    other("Worked examples", "ea_worked")
     other("What the code's own values stand for, and what theorems speak of", "")
 }
 

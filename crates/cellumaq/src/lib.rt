@@ -74,8 +74,8 @@ pub extern "C" fn cellumaq_list(
 }
 
 // One chunk of a dataset by its corner. Answers the number that `which` asks for: 0, where the refusal is asked for,
-// says that the call is accepted. An accepted answer says what the place of the corner's slot holds, and agrees with
-// an accepted list.
+// says that the call is accepted. An accepted answer says what the place of the corner's slot holds, and for rank 1 to
+// 32 it agrees with an accepted list.
 #[no_mangle]
 pub extern "C" fn cellumaq_lookup(
     file: &[u8],

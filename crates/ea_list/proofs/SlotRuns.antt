@@ -3,7 +3,7 @@ use Prim.Native.Nat.{ℕ, _+_, _-_, _*_, _/_, _%_, _<_, _≤_}
 use mathlib.Core.Path.{_≡_, refl, sym, ap, subst, _∙_}
 use mathlib.Core.Bool.{true, false, not, _&&_}
 use mathlib.Core.List.{List, []}
-use mathlib.Core.Logic.{inl, inr, ⊎-elim}
+use mathlib.Core.Logic.{inr, ⊎-elim}
 use native.Mathlib.Omega.{arith}
 use native.Mathlib.Nat.{mod-lt, div-add-mod'}
 use lib.Arith.{digits-lt}
@@ -39,7 +39,7 @@ use Rattle.ea_blocks.specs.Entered.{EnteredSuper, EnteredBlock}
 use Rattle.ea_blocks.proofs.StructureTests.{page-inside}
 use Rattle.ea_blocks.proofs.Entering.{entered-block-room}
 use Rattle.ea_walk.specs.Walk.{located}
-use Rattle.ea_walk.proofs.Paths.{Ready}
+use Rattle.ea_walk.proofs.Paths.{Ready, entered-ready}
 use Rattle.ea_walk.proofs.Slots.{inline-at, block-at, page-at, inline-slots, past-slots, super-slots, undefined-slots, block-slots, page-slots}
 use Rattle.ea_walk.proofs.Passed.{super-passed, block-passed, page-passed}
 use Rattle.ea_list.specs.Values.{TestedTo, RunIn, blockSlots}
@@ -143,7 +143,7 @@ module _ (f : List ℕ) (array : ExtensibleArray) (s : ℕ) (t : TestedTo f arra
 
     module _ (super : ℕ) (w : EnteredSuper a u (At super)) where
       ready : Ready a u
-      ready = record { named = ⊎-elim (λ (d : (isDirect a u ≡ true) × (super ≡ 0)). inl (d .0)) (λ d. inr (d .0, d .1, d .2)) w }
+      ready = entered-ready a u super w
 
       -- the data block's
       pub block-gap : blockUndefined a u k ≡ true → RunIn a s (Gap (blockElements h u - i))

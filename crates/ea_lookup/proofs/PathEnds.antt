@@ -3,7 +3,6 @@ use Prim.{tt}
 use Prim.Native.Nat.{ℕ, _+_, _/_, _<_, _≤_}
 use mathlib.Core.Path.{_≡_, refl, sym, ap, subst, _∙_}
 use mathlib.Core.Bool.{true, false}
-use mathlib.Core.Logic.{inl, inr, ⊎-elim}
 use native.Mathlib.Omega.{arith}
 use lib.ListN.{length}
 use Rattle.refusal.specs.declared.Refusal.{Refusal}
@@ -31,7 +30,7 @@ use Rattle.ea_blocks.specs.Entered.{EnteredSuper, EnteredBlock, EnteredPage}
 use Rattle.ea_blocks.proofs.StructureTests.{array-passed, inline-inside}
 use Rattle.ea_blocks.proofs.Entering.{entered-block-room, entered-page-room}
 use Rattle.ea_walk.specs.Walk.{located}
-use Rattle.ea_walk.proofs.Paths.{Ready, no-width, no-super, super-refused, no-block, block-refused, in-index}
+use Rattle.ea_walk.proofs.Paths.{Ready, entered-ready, no-width, no-super, super-refused, no-block, block-refused, in-index}
 use Rattle.ea_walk.proofs.Paths.{in-block, in-clear, in-page, page-refused}
 use Rattle.ea_lookup.specs.PathEnds.{endAnswer, PathEnds, BlockEntered}
 
@@ -78,7 +77,7 @@ module _ (a : Array) (v : Served (a .parameters)) (s u k i : ℕ) (b : InBlock (
 
     module _ (super : ℕ) (w : EnteredSuper a u (At super)) where
       ready : Ready a u
-      ready = record { named = ⊎-elim (λ (d : (isDirect a u ≡ true) × (super ≡ 0)). inl (d .0)) (λ d. inr (d .0, d .1, d .2)) w }
+      ready = entered-ready a u super w
 
       -- before its data block
       pub block-ends : (x : Entered) → EnteredBlock a u k x → Stopped x → PathEnds a s x

@@ -3,7 +3,7 @@ use Prim.Native.Nat.{ℕ, _+_, _/_}
 use mathlib.Core.Path.{_≡_, refl, sym, ap, _∙_}
 use mathlib.Core.Bool.{true, false, not, cond}
 use mathlib.Core.List.{List, [], _∷_}
-use mathlib.Core.Logic.{_⊎_, ⊎-elim}
+use mathlib.Core.Logic.{_⊎_, inl, inr, ⊎-elim}
 use Rattle.refusal.specs.declared.Refusal.{Refusal}
 use Rattle.refusal.specs.declared.Checked.{Checked}
 use Rattle.refusal.specs.declared.Checked.the-variants.{Passed, Refused}
@@ -18,6 +18,8 @@ use Rattle.ea_geometry.specs.Place.{inPages, placeIn, place}
 use Rattle.ea_geometry.specs.declared.Place.{Place}
 use Rattle.ea_geometry.specs.declared.Place.the-variants.{Inline, Nowhere}
 use Rattle.ea_blocks.specs.Array.{Array}
+use Rattle.ea_blocks.specs.Entered.{EnteredSuper}
+use Rattle.ea_blocks.specs.declared.enter.Entered.the-variants.{At}
 use Rattle.ea_blocks.specs.Structures.{Structure, superBlock, dataBlock, dataPage, testOf, isDirect, blockAt, superUndefined, blockUndefined, pageSet}
 use Rattle.ea_blocks.specs.Places.{blockReached, reached, positionOf, leadingTo, structures, pointerTest, tested, placeTest}
 use Rattle.ea_walk.specs.Walk.{located}
@@ -25,6 +27,10 @@ use Rattle.ea_walk.specs.Walk.{located}
 -- super block u's data blocks can be read: the index block names them, or the super block has passed its test
 pub record Ready (a : Array) (u : ℕ) : Type 0 where
   pub named : (isDirect a u ≡ true) ⊎ ((isDirect a u ≡ false) × (superUndefined a u ≡ false) × (testOf a (superBlock u) ≡ Passed))
+
+pub entered-ready : (a : Array) (u super : ℕ) → EnteredSuper a u (At super) → Ready a u
+entered-ready a u super w =
+    record { named = ⊎-elim (λ (d : (isDirect a u ≡ true) × (super ≡ 0)). inl (d .0)) (λ d. inr (d .0, d .1, d .2)) w }
 
 module _ (a : Array) (u k : ℕ) (r : Ready a u) where
   pub ready-tested : (inner : List Structure) → tested a (leadingTo a u k inner) ≡ tested a (cond (blockUndefined a u k) [] (dataBlock u k ∷ inner))
