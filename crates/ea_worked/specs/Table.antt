@@ -1,4 +1,4 @@
--- The starred values of document 01's section "Tried values", as one table in its order.
+-- Worked values, as one table: each row is what the definitions compute, and the value.
 use Prim.Native.Nat.{ℕ}
 use mathlib.Core.Path.{_≡_}
 use mathlib.Core.Bool.{Bool, true, false}
