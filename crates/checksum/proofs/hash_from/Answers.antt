@@ -1,6 +1,6 @@
 -- `checksum::hash_from` meets its contract: the blocks that are left, from the words so far, give the hash. Assumes
 -- nothing.
-use Rattle.std.proofs.Common.{◌-◌, ap, ◌∙◌, arith}
+use Rattle.std.proofs.Common.{ap, ◌∙◌, arith}
 use Rattle.checksum.specs.Lookup3.{mixed, final_mixed}
 use Rattle.checksum.proofs.Lookup3.{from_first, turned, ended}
 use Rattle.checksum.proofs.hash_from.Goals as goal

@@ -1,7 +1,7 @@
 -- `checksum::hashlittle_two` meets its contract: for each slice the blocks that are left, from its words so far, give
 -- its hash. Assumes nothing.
-use Rattle.std.proofs.Common.{◌-◌, ap, ◌∙◌, arith}
-use Rattle.checksum.specs.Lookup3.{hashlittle, mixed}
+use Rattle.std.proofs.Common.{ap, ◌∙◌, arith}
+use Rattle.checksum.specs.Lookup3.{mixed}
 use Rattle.checksum.proofs.Lookup3.{opened, of_part, turned}
 use Rattle.checksum.proofs.hashlittle_two.Goals as goal
 

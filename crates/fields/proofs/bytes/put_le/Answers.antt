@@ -1,10 +1,9 @@
 -- `fields::bytes::put_le` meets its contract: what is left of the number goes behind the bytes that are stored.
 -- Assumes nothing.
 use mathlib.Core.Path.{refl, ◌∙◌}
-use Prim.Native.Nat.{◌-◌}
 use native.Mathlib.Omega.{arith}
 use native.Mathlib.Nat.{add-zero, sub-zero}
-use lib.ListN.{length, length-set}
+use lib.ListN.{length-set}
 use Rattle.fields.proofs.Stored.{byte_stored, all_stored}
 use Rattle.fields.proofs.bytes.put_le.Goals as goal
 
