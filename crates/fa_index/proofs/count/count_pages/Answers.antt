@@ -24,7 +24,7 @@ pages-init c =
 pub pages-preserved-in-Absent : goal.pages-preserved-in-Absent
 pages-preserved-in-Absent c =
     let i = c.pages.invariant in
-    let e = c.enter_page_in_turn-turn.ensures i.ahead-is in
+    let e = c.enter_page_in_turn-turn.ensures i.ahead_is in
     page_clear _ i c.pages-test.true (subst (EnteredFixedPage _ _) c.in-Absent.is e.0) e.1
 
 pub overflow_mul-p : goal.overflow_mul-p
@@ -33,13 +33,13 @@ overflow_mul-p c = omega (arith, page_begins _ c.pages.invariant c.pages-test.tr
 pub count_elements-requires : goal.count_elements-requires
 count_elements-requires c =
     let i = c.pages.invariant in
-    let e = c.enter_page_in_turn-turn.ensures i.ahead-is in
+    let e = c.enter_page_in_turn-turn.ensures i.ahead_is in
     page_run _ i c.pages-test.true (subst (EnteredFixedPage _ _) c.in-At.is e.0) c.page_entries-entries.ensures.0
 
 pub overflow_add-total : goal.overflow_add-total
 overflow_add-total c =
     let i = c.pages.invariant in
-    let e = c.enter_page_in_turn-turn.ensures i.ahead-is in
+    let e = c.enter_page_in_turn-turn.ensures i.ahead_is in
     omega (
       arith,
       total-fits _ i c.pages-test.true (subst (EnteredFixedPage _ _) c.in-At.is e.0) c.page_entries-entries.ensures.0 (λ g n q. sym c.in-Count.is ∙ c.count_elements.ensures g n q),
@@ -48,7 +48,7 @@ overflow_add-total c =
 pub pages-preserved : goal.pages-preserved
 pages-preserved c =
     let i = c.pages.invariant in
-    let e = c.enter_page_in_turn-turn.ensures i.ahead-is in
+    let e = c.enter_page_in_turn-turn.ensures i.ahead_is in
     page_counted _ i c.pages-test.true (subst (EnteredFixedPage _ _) c.in-At.is e.0) c.page_entries-entries.ensures.0
     (λ g n q. sym c.in-Count.is ∙ c.count_elements.ensures g n q) e.1
 
@@ -62,10 +62,10 @@ exit c =
       | else-pages-test w ↦
           rw w.refused-is (pages_end _ i w.pages-test.false)
       | then-pages-test+in-Refused w ↦
-          let e = w.enter_page_in_turn-turn.ensures i.ahead-is in
+          let e = w.enter_page_in_turn-turn.ensures i.ahead_is in
           rw w.refused-is (page_refused _ i w.pages-test.true _ (subst (EnteredFixedPage _ _) w.in-Refused.is e.0))
       | then-pages-test+in-At+in-Refused-count_elements w ↦
-          let e = w.enter_page_in_turn-turn.ensures i.ahead-is in
+          let e = w.enter_page_in_turn-turn.ensures i.ahead_is in
           rw w.refused-is
           (run_ends _ i w.pages-test.true (subst (EnteredFixedPage _ _) w.in-At.is e.0) w.page_entries-entries.ensures.0 _
           (λ g n q. sym w.in-Refused-count_elements.is ∙ w.count_elements.ensures g n q))
