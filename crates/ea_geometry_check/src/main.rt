@@ -317,7 +317,10 @@ fn print_worked_place(rt: &impl Print, slot: u64) -> io::Result<()> {
 }
 
 // Every bit of some page bits that begin at byte 1.
-fn print_bits(rt: &impl Print, s: &[u8; 3]) -> io::Result<()> {
+fn print_bits(rt: &impl Print, s: &[u8]) -> io::Result<()> {
+    if s.len() < 3 {
+        return Ok(());
+    }
     for bit in 0..16 {
         print!(rt; "{}", u8::from(page_is_initialized(s, 1, bit)))?;
     }

@@ -5,6 +5,8 @@ use mathlib.Core.Option.{none, some}
 use Prim.Native.Nat.{ℕ, ◌≤◌}
 use lib.ListN.{length}
 use lib.Seq.{length-sets}
+use Rattle.io.specs.Counts.{IsPrefixLen}
+use Rattle.io.proofs.Counting.{prefix_len_of_le}
 use Rattle.refusal.specs.declared.Counted.{Counted}
 use Rattle.refusal.specs.Values.{counted_of}
 use Rattle.records.specs.Records.{list_content}
@@ -28,5 +30,5 @@ module _ (input numbers list : List ℕ) where
   unread r = rw r refl
 
 -- a text that is put lies in its buffer
-pub put_within : {out text out' : List ℕ} {end : ℕ} → Put out 0 text out' end → end ≤ length out → end ≤ length out'
-put_within {out} {text} p h = rw (p.holds, length-sets out 0 text) h
+pub put_within : {out text out' : List ℕ} {end : ℕ} → Put out 0 text out' end → end ≤ length out → IsPrefixLen end out'
+put_within {out} {text} p h = prefix_len_of_le _ _ (rw (p.holds, length-sets out 0 text) h)

@@ -1,5 +1,6 @@
 // What the program answers.
 ghost use Rattle.std.specs.Prelude.{◌≡◌, ◌+◌, ◌*◌, ◌≤◌, length};
+ghost use Rattle.io.specs.Counts.{IsPrefixLen};
 ghost use Rattle.refusal.specs.Values.{counted_of};
 ghost use Rattle.records.specs.Records.{record_length};
 ghost use Rattle.records.specs.Records.{list_content};
@@ -7,11 +8,10 @@ ghost use Rattle.list_text.specs.Printed.{Put};
 ghost use Rattle.eals.specs.Program.{listing_of, counted_text, records_counted, program_text};
 
 use calls::CallNumbers;
-use ea_index::ArrayIndex;
+use ea_list::call::list_at;
 use list_text::{put_list, put_refusal, put_text};
 use questions::{Parsed, Question, file_of, parse};
 use refusal::Counted;
-use walked_index::call::list_at;
 
 // Lists the chunks that a question asks for.
 fn list_chunks(list: &mut [u8], numbers: &[u8], file: &[u8], question: Question) -> Counted
@@ -34,7 +34,7 @@ fn list_chunks(list: &mut [u8], numbers: &[u8], file: &[u8], question: Question)
         rank: question.rank,
         has_maximum: 1,
     };
-    list_at::<ArrayIndex>(
+    list_at(
         file,
         asked,
         &numbers[48..chunk_end],
@@ -62,7 +62,7 @@ pub fn answer(out: &mut [u8], list: &mut [u8], numbers: &mut [u8], input: &[u8])
     requires { (length list.old ≡ 65536) × (32768 ≤ length numbers.old) × (300000 ≤ length out.old) }
     ensures put { Put out.old 0
         (program_text input.now numbers.old list.old) out.new result }
-    ensures in_bounds { result ≤ length out.new }
+    ensures prefix_len { IsPrefixLen result out.new }
 {
     match parse(numbers, input) {
         Parsed::Asked(question) => {

@@ -27,9 +27,9 @@ nonzero_div-q c = chunk_pos _ _ _ _ _ c.requires.1 _ (dim (goal.at.nonzero_div-q
 pub returns-then-i-counts : goal.returns-then-i-counts
 returns-then-i-counts c =
     let l = c.loop-i in
-    let t = both _ _ c.if-i-counts.true in
+    let t = both (ltb _ l.i) _ c.if-i-counts.true in
     λ g n k.
-    past_count g _ _ _ _ _ n k l.i l.slot c.loop-i-test.true (ltb-true 0 l.i t.0) (rw (← c.dim_at-d.ensures) (leb-true _ _ t.1)) ∙ l.invariant.3 ∙ slot_is g _ _ _ _ _ n k
+    past_count g _ _ _ _ _ n k l.i l.slot c.loop-i-test.true (omega (arith, ltb-true _ _ t.0)) (rw (← c.dim_at-d.ensures) (leb-true _ _ t.1)) ∙ l.invariant.3 ∙ slot_is g _ _ _ _ _ n k
 
 pub returns-in_default : goal.returns-in_default
 returns-in_default c =

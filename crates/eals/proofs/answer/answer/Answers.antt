@@ -29,10 +29,10 @@ returns-in-Asked c =
     let told = c.put_counted.ensures in
     let text = asked _ _ _ _ (asked_is (goal.at.returns-in-Asked c).In-Asked) _ _ _ _ c.parse.ensures.numbers_after c.file_of-file.ensures listed.value listed.list_after in
     let put = put_as told.put _ text in
-    record { put = put; in_bounds = put_within put (omega (arith, told.upper_bound, c.requires)) }
+    record { put = put; prefix_len = put_within put (omega (arith, told.upper_bound, c.requires)) }
 
 pub returns-in-Unreadable : goal.returns-in-Unreadable
 returns-in-Unreadable c =
     let told = c.put_text.ensures in
     let put = put_as told _ (unread _ _ _ (unreadable_inv _ (sym c.parse.ensures.value ∙ c.in-Unreadable.is))) in
-    record { put = put; in_bounds = put_within put (omega (arith, told.ends, c.requires)) }
+    record { put = put; prefix_len = put_within put (omega (arith, told.ends, c.requires)) }
