@@ -110,7 +110,7 @@ def equation(name, c, answer):
     order = "UnlimitedFirst" if c.order == "U" else "RowMajor"
     grid = f"given {len(c.chunk)} {nested(c.chunk)} {nested(c.present)} {has_maximum} {nested(c.maximum or [])} {order}"
     return f"""
-pub {name} : answer (leBytes {len(c.file)} {number:#x}) {c.address} {c.offset_size} {c.length_size} {c.list_offset_size} ({grid}) {c.element_bytes}
+pub {name} : answer (le_bytes {len(c.file)} {number:#x}) {c.address} {c.offset_size} {c.length_size} {c.list_offset_size} ({grid}) {c.element_bytes}
     ≡ {expected(answer)}
 unfolding compared
 {name} = refl
