@@ -12,7 +12,7 @@ use refusal::Checked;
 
 // What is read of a call before it is answered: its tests and, where they have passed, the header of its array; else
 // that stands for nothing.
-#[derive(Drop)]
+#[derive(Clone, Copy)]
 pub struct CallRead {
     pub checked: Checked,
     pub header: ExtensibleArrayHeader,
