@@ -1,23 +1,23 @@
 /* How a program asks Cellumaq: for all chunks of a dataset, for one chunk by its corner, and for the reason where there
  * is no answer.
  *
- *     matcher FILE TYPE ADDRESS ROW COLUMN
+ *     matcher FILE ADDRESS ROW COLUMN [fixed]
  *
- * The dataset is described by the program here: numbers of 4 bytes, 11 rows of 13 at present, 15 at most in a row, in
- * chunks of 4 by 4. TYPE is 4 where there may be any number of rows: then the index is an extensible array, and begins
- * at ADDRESS with the bytes "EAHD". It is 3 where there may be 14: then it is a Fixed Array, and begins with "FAHD". In
- * general all of this is in the dataset's object header: the shapes in the dataspace message, the chunk's lengths, the
- * chunk index type and the index address in the data layout message (version 4), the sizes of offsets and lengths in
- * the file's superblock.
+ * The dataset is described by the program here: numbers of 4 bytes, 11 rows of 13 at present, any number of rows of 15
+ * at most, in chunks of 4 by 4. ADDRESS is where its index begins, with the bytes "EAHD"; or, behind the word `fixed`,
+ * with "FAHD": then there may be 14 rows, and the index is a Fixed Array. In general all of this is in the dataset's
+ * object header: the shapes in the dataspace message, the chunk's lengths and the index address in the data layout
+ * message (version 4, chunk index type 4, of a Fixed Array 3), the sizes of offsets and lengths in the file's
+ * superblock.
  *
  *     gcc matcher.c $(pkg-config --cflags --libs cellumaq)
  */
 #include <cellumaq.h>
 #include <inttypes.h>
+#include <stdbool.h>
 #include <stdio.h>
 #include <stdlib.h>
-
-enum { FIXED_ARRAY = 3, EXTENSIBLE_ARRAY = 4 };
+#include <string.h>
 
 /* A file can claim more chunks than a program wants to hold. */
 enum { FIRST_GUESS = 4, RECORDS_MOST = 1000000 };
@@ -33,7 +33,7 @@ static const char *const words[] = {
     [CELLUMAQ_REFUSED_LIST_TOO_SMALL] = "the list is too small for so many records",
     [CELLUMAQ_REFUSED_CORNER] = "no chunk of the present shape begins there",
     [CELLUMAQ_REFUSED_PAST_END] = "a structure ends behind the file; its end, the file's length",
-    [CELLUMAQ_REFUSED_HEADER_SIGNATURE] = "no extensible array begins at the address",
+    [CELLUMAQ_REFUSED_HEADER_SIGNATURE] = "no index begins at the address",
     [CELLUMAQ_REFUSED_HEADER_VERSION] = "the index has a version that is not read",
     [CELLUMAQ_REFUSED_INDEX_BLOCK_SIGNATURE] = "there is no index block where the header names it",
     [CELLUMAQ_REFUSED_DATA_BLOCK_SIGNATURE] = "there is no data block where one is named",
@@ -68,13 +68,13 @@ static void *room_for(size_t length)
     return room;
 }
 
-static struct cellumaq_answer ask_list(int type, const struct cellumaq_dataset *d, uint8_t *list, size_t length)
+static struct cellumaq_answer ask_list(bool fixed, const struct cellumaq_dataset *d, uint8_t *list, size_t length)
 {
-    return type == FIXED_ARRAY ? cellumaq_ask_fixed_list(d, list, length) : cellumaq_ask_list(d, list, length);
+    return fixed ? cellumaq_ask_fixed_list(d, list, length) : cellumaq_ask_list(d, list, length);
 }
 
 /* Prints the records of all chunks; whether there is a list. */
-static int print_list(int type, const struct cellumaq_dataset *d)
+static int print_list(bool fixed, const struct cellumaq_dataset *d)
 {
     uint64_t room = FIRST_GUESS;
     struct cellumaq_answer a;
@@ -83,7 +83,7 @@ static int print_list(int type, const struct cellumaq_dataset *d)
     do {
         free(list);
         list = room_for(room * cellumaq_record_size(d->rank));
-        a = ask_list(type, d, list, room * cellumaq_record_size(d->rank));
+        a = ask_list(fixed, d, list, room * cellumaq_record_size(d->rank));
         room = a.first;
     } while (a.refusal == CELLUMAQ_REFUSED_LIST_TOO_SMALL && room <= RECORDS_MOST);
     for (size_t i = 0; i < a.count; i++)
@@ -99,11 +99,10 @@ static int print_list(int type, const struct cellumaq_dataset *d)
     return a.refusal == CELLUMAQ_ACCEPTED;
 }
 
-static void print_chunk(int type, const struct cellumaq_dataset *d, uint64_t row, uint64_t column)
+static void print_chunk(bool fixed, const struct cellumaq_dataset *d, uint64_t row, uint64_t column)
 {
     const uint64_t corner[] = {row, column};
-    struct cellumaq_answer a = type == FIXED_ARRAY ? cellumaq_ask_fixed_lookup(d, corner)
-                                                   : cellumaq_ask_lookup(d, corner);
+    struct cellumaq_answer a = fixed ? cellumaq_ask_fixed_lookup(d, corner) : cellumaq_ask_lookup(d, corner);
 
     if (a.refusal != CELLUMAQ_ACCEPTED)
         tell("chunk", a);
@@ -136,20 +135,20 @@ static uint8_t *read_file(const char *path, size_t *length)
 int main(int argc, char **argv)
 {
     size_t length;
-    uint8_t *file = argc == 6 ? read_file(argv[1], &length) : NULL;
-    int type = argc == 6 ? atoi(argv[2]) : 0;
+    bool fixed = argc == 6 && strcmp(argv[5], "fixed") == 0;
+    uint8_t *file = argc == 5 || fixed ? read_file(argv[1], &length) : NULL;
 
-    if (file == NULL || (type != FIXED_ARRAY && type != EXTENSIBLE_ARRAY)) {
-        fprintf(stderr, "usage: matcher FILE TYPE ADDRESS ROW COLUMN\n");
+    if (file == NULL) {
+        fprintf(stderr, "usage: matcher FILE ADDRESS ROW COLUMN [fixed]\n");
         return 2;
     }
     struct cellumaq_dataset d = {.file = file, .file_length = length, .offset_size = 8, .length_size = 8,
-                                 .address = strtoull(argv[3], NULL, 10), .element_bytes = 4,
+                                 .address = strtoull(argv[2], NULL, 10), .element_bytes = 4,
                                  .order = CELLUMAQ_UNLIMITED_FIRST, .rank = 2, .chunk = {4, 4}, .present = {11, 13},
-                                 .maximum = {type == FIXED_ARRAY ? 14 : CELLUMAQ_UNLIMITED, 15}};
-    int listed = print_list(type, &d);
+                                 .maximum = {fixed ? 14 : CELLUMAQ_UNLIMITED, 15}};
+    int listed = print_list(fixed, &d);
 
-    print_chunk(type, &d, strtoull(argv[4], NULL, 10), strtoull(argv[5], NULL, 10));
+    print_chunk(fixed, &d, strtoull(argv[3], NULL, 10), strtoull(argv[4], NULL, 10));
     free(file);
     return !listed;
 }

@@ -5,8 +5,8 @@
 
 #include "test.h"
 
-#define EXTENSIBLE "build/example_matcher tests/data/real/edge_ea.bin 4"
-#define FIXED "build/example_matcher tests/data/real/edge_fa.bin 3"
+#define EXTENSIBLE "build/example_matcher tests/data/real/edge_ea.bin"
+#define FIXED "build/example_matcher tests/data/real/edge_fa.bin"
 
 /* All that a stream has; free it. */
 static char *text_of(FILE *stream)
@@ -21,8 +21,8 @@ static char *text_of(FILE *stream)
 static void example(void)
 {
     /* The index, a corner where no chunk begins, an address where there is no index; and both kinds of index. */
-    FILE *run = popen(EXTENSIBLE " 447 8 4; " EXTENSIBLE " 447 8 5; " EXTENSIBLE " 448 8 4; " FIXED " 447 8 4; " FIXED
-                                 " 448 8 4",
+    FILE *run = popen(EXTENSIBLE " 447 8 4; " EXTENSIBLE " 447 8 5; " EXTENSIBLE " 448 8 4; " FIXED
+                                 " 447 8 4 fixed; " FIXED " 448 8 4 fixed",
                       "r"),
          *kept = fopen("examples/matcher.txt", "r");
     char *printed = text_of(run), *expected = text_of(kept);

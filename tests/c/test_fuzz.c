@@ -2,7 +2,7 @@
 #define _DEFAULT_SOURCE
 #include "../fuzz/round.h"
 
-enum { SEED = 7, ROUNDS = 4000 };
+enum { SEED = 7, ROUNDS = 6000 };
 
 static void random_inputs(void)
 {

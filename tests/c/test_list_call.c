@@ -412,7 +412,7 @@ static void element_sizes(void)
         check_element_size(size, &small, 1, refusal, 0);
         if (size >= 17 && size <= 20)
             check_element_size(size, &large, 1, CELLUMAQ_REFUSED_CHUNK_SIZE, large.size);
-        check_element_size(size, &small, 0, samples_fixed && size < 12 ? refusal : CELLUMAQ_ACCEPTED, 0);
+        check_element_size(size, &large, 0, samples_fixed && size < 12 ? refusal : CELLUMAQ_ACCEPTED, 0);
     }
 }
 

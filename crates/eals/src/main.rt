@@ -14,7 +14,7 @@ fn main(rt: HostRuntime) -> io::Result<()> {
     let alloc = rt.alloc();
     let mut input = Vec::new(alloc);
     rt.reader().take(INPUT_BYTES).read_to_end(&mut input)?;
-    let mut numbers = vec![in alloc; 0u8; 32768]?;
+    let mut numbers = vec![in alloc; 0u8; 65536]?;
     let mut list = vec![in alloc; 0u8; 65536]?;
     let mut out = vec![in alloc; 0u8; 300000]?;
     let end = answer(&mut out, &mut list, &mut numbers, &input);
