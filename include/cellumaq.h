@@ -391,19 +391,19 @@ static inline struct cellumaq_answer cellumaq_ask_fixed_lookup(const struct cell
  * tested. An array whose super block minimum isn't 2 or 4, or whose index block names data blocks of more elements than
  * a page, may be read otherwise than the format has it; the HDF5 library writes neither.
  *
- * Time, on a machine that tests a byte in 0.4 ns and reads an element in 6 ns at rank 1, 12 at rank 3, 150 at rank 32:
+ * Time, on a machine that tests a byte in 0.5 ns and reads an element in 23 ns at rank 1, 42 at rank 3, 470 at rank 32:
  * a call of cellumaq_lookup() tests the header, the index block, and at most one super block and one data block (of a
  * paged one its head and one page): under three times the file's bytes and the header, 2 ms for 1 MiB. A call of
  * cellumaq_list() for a file as HDF5 writes it takes a few ms per MiB. But a file can name its blocks again and again,
  * and each is tested and read each time: a hostile file's list takes a time that grows with the square of the file's
- * length. For 1 MiB fewer than 2^20 blocks are tested, together under 2^40 bytes, 8 minutes; and fewer than 2^39
- * elements are read, each twice: under 2 hours at rank 1, 4 at rank 3, 46 at rank 32; for 64 KiB divide by 256. No
+ * length. For 1 MiB fewer than 2^20 blocks are tested, together under 2^40 bytes, 10 minutes; and fewer than 2^39
+ * elements are read, each twice: under 8 hours at rank 1, 13 at rank 3, 144 at rank 32; for 64 KiB divide by 256. No
  * element at or past the published count is read. Who must answer in time takes files of limited length, or calls from
  * a process that can be ended: one that is ended leaves nothing behind.
  *
  * The list of a Fixed Array tests each byte of the data block at most once and reads each element at most twice:
- * whatever a file has, the time grows with its length, not with the square. For 1 MiB it is under 40 ms at rank 1 and
- * 3, 200 at rank 32. The lookup tests the header and the data block, or the data block's head and one page.
+ * whatever a file has, the time grows with its length, not with the square. For 1 MiB it is under 50 ms at rank 1 and
+ * 3, 500 at rank 32. The lookup tests the header and the data block, or the data block's head and one page.
  *
  * The functions that take a struct cellumaq_dataset make the calls that are said there, and store the shapes for each:
  * that takes 4 ns at rank 1, 30 at rank 3, 500 at rank 32.
