@@ -402,7 +402,7 @@ static inline struct cellumaq_answer cellumaq_ask_fixed_lookup(const struct cell
  * a process that can be ended: one that is ended leaves nothing behind.
  *
  * The list of a Fixed Array tests each byte of the data block at most once and reads each element at most twice:
- * whatever a file has, the time grows with its length, not with the square. For 1 MiB it is under 50 ms at rank 1 and
+ * whatever a file has, the time grows with its length, not with the square. For 1 MiB it is under 60 ms at rank 1 and
  * 3, 500 at rank 32. The lookup tests the header and the data block, or the data block's head and one page.
  *
  * The functions that take a struct cellumaq_dataset make the calls that are said there, and store the shapes for each:

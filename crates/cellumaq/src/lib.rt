@@ -98,7 +98,8 @@ pub extern "C" fn cellumaq_lookup(
         × ZeroAccepts answer which result
         × ((x : Option Rec) → answer ≡ accepted x → Answers (call_index call) at x)
         × ((room : ℕ) (l : List Rec) → 0 < rank → list_at call room ≡ accepted l → is_chunk call.grid at ≡ true
-        → (x : Option Rec) × (result ≡ picked which (answered chunk_names found_numbers (accepted x))) × Agrees l at x) }
+        → (x : Option Rec) × (result ≡ picked which (answered chunk_names found_numbers (accepted x)))
+        × Agrees l at x) }
 {
     let numbers = CallNumbers {
         offset_size,
@@ -178,7 +179,8 @@ pub extern "C" fn cellumaq_fixed_lookup(
         × ZeroAccepts answer which result
         × ((x : Option Rec) → answer ≡ accepted x → Answers (fixed_call_index call) at x)
         × ((room : ℕ) (l : List Rec) → 0 < rank → fixed_list_at call room ≡ accepted l → is_chunk call.grid at ≡ true
-        → (x : Option Rec) × (result ≡ picked which (answered chunk_names found_numbers (accepted x))) × Agrees l at x) }
+        → (x : Option Rec) × (result ≡ picked which (answered chunk_names found_numbers (accepted x)))
+        × Agrees l at x) }
 {
     let numbers = CallNumbers {
         offset_size,

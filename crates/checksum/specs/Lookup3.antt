@@ -31,7 +31,8 @@ final_line k w = record { a = w.b; b = sub32 (bit_xor w.c w.b) (rotated w.b k); 
 -- final(a, b, c): seven lines, and the words back under their own names
 unfoldable pub final_mixed : Words → Words
 final_mixed w =
-    let v = final_line 24 (final_line 14 (final_line 4 (final_line 16 (final_line 25 (final_line 11 (final_line 14 w)))))) in
+    let v = final_line 24
+    (final_line 14 (final_line 4 (final_line 16 (final_line 25 (final_line 11 (final_line 14 w)))))) in
     record { a = v.c; b = v.a; c = v.b }
 
 -- a += k[0]; b += k[1]; c += k[2], the first 12 bytes of s as three words. In the tail a byte that is not there adds

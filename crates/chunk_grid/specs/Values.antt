@@ -36,7 +36,8 @@ dim_at u (suc i) = cond (ltb i u) i (suc i)
 
 -- the tests of the counts
 unfoldable pub counts_test : Bool → List ℕ → Checked
-counts_test unlimited_first cs = multiplier_test (drop 1 (to_front (leading_in unlimited_first cs) cs)) then product_test 1 cs
+counts_test unlimited_first cs =
+    multiplier_test (drop 1 (to_front (leading_in unlimited_first cs) cs)) then product_test 1 cs
 
 -- the tests behind those of the shapes, over the extents that the counts are taken from
 unfoldable pub numbering_test : Bool → List ℕ → List ℕ → Checked

@@ -6,8 +6,9 @@ use Rattle.structures.specs.declared.enter.Entered.TheVariants.{Absent, At, Refu
 use Rattle.structures.specs.declared.enter.Ahead.{Ahead}
 use Rattle.structures.specs.Entered.{TestedBy}
 use Rattle.ea_blocks.specs.Array.{Array}
-use Rattle.ea_blocks.specs.Structures.{Structure, super_block, data_block, data_page, test_of, is_direct, super_block_at}
-use Rattle.ea_blocks.specs.Structures.{block_at, data_page_at, super_undefined, block_undefined, page_set}
+use Rattle.ea_blocks.specs.Structures.{Structure, super_block, data_block, data_page, test_of, is_direct}
+use Rattle.ea_blocks.specs.Structures.{super_block_at, block_at, data_page_at}
+use Rattle.ea_blocks.specs.Structures.{super_undefined, block_undefined, page_set}
 
 -- A test that was made ahead of its turn, of one of the structures that `structure` numbers, has the result of that
 -- structure's test.
@@ -20,7 +21,8 @@ abbrev pub EnteredSuper : Array → ℕ → Entered → Type 0
 EnteredSuper a u Absent = (is_direct a u ≡ false) × (super_undefined a u ≡ true)
 EnteredSuper a u (At at) =
     ((is_direct a u ≡ true) × (at ≡ 0))
-    ⊎ ((is_direct a u ≡ false) × (super_undefined a u ≡ false) × (test_of a (super_block u) ≡ Passed) × (at ≡ super_block_at a u))
+    ⊎ ((is_direct a u ≡ false) × (super_undefined a u ≡ false) × (test_of a (super_block u) ≡ Passed)
+    × (at ≡ super_block_at a u))
 EnteredSuper a u (EnteredRefused r) =
     (is_direct a u ≡ false) × (super_undefined a u ≡ false)
     × (test_of a (super_block u) ≡ Refused r)
@@ -28,7 +30,8 @@ EnteredSuper a u (EnteredRefused r) =
 -- Data block k of super block u: its pointer is undefined, it has passed its test, or its test refuses it.
 abbrev pub EnteredBlock : Array → ℕ → ℕ → Entered → Type 0
 EnteredBlock a u k Absent = block_undefined a u k ≡ true
-EnteredBlock a u k (At at) = (block_undefined a u k ≡ false) × (test_of a (data_block u k) ≡ Passed) × (at ≡ block_at a u k)
+EnteredBlock a u k (At at) =
+    (block_undefined a u k ≡ false) × (test_of a (data_block u k) ≡ Passed) × (at ≡ block_at a u k)
 EnteredBlock a u k (EnteredRefused r) = (block_undefined a u k ≡ false) × (test_of a (data_block u k) ≡ Refused r)
 
 -- Page p of it: its bit is clear, it has passed its test, or its test refuses it.

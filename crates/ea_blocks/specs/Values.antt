@@ -44,7 +44,8 @@ pub record PointerInFile (file : List ℕ) (a : ExtensibleArray) (u k super_bloc
   pub inside : direct_super_blocks a.geometry.parameters ≤ u
       → super_block_at + super_extent a.geometry.parameters a.geometry.offset_size u ≤ length file
 
--- There is a page p of data block k of super block u, and its bit lies in the file: in the super block at super_block_at.
+-- There is a page p of data block k of super block u, and its bit lies in the file: in the super block at
+-- super_block_at.
 pub record PageBitInFile (file : List ℕ) (a : ExtensibleArray) (super_block_at u k p : ℕ) : Type 0 where
   pub super : u < super_blocks a.geometry.parameters
   pub block : k < blocks u

@@ -25,7 +25,8 @@ place_in h u k i =
 
 -- Element x of super block u is counted through its data blocks. No such u: no place.
 unfoldable pub in_super_block : Parameters → ℕ → ℕ → Place
-in_super_block h u x = cond (ltb u (super_blocks h)) (place_in h u (x / block_elements h u) (x % block_elements h u)) Nowhere
+in_super_block h u x =
+    cond (ltb u (super_blocks h)) (place_in h u (x / block_elements h u) (x % block_elements h u)) Nowhere
 
 -- Below the inline count: inline. Otherwise e = s − inline count, u = floor(log2(e / m + 1)), and in u element
 -- e − m × (2^u − 1).

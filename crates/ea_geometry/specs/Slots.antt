@@ -1,5 +1,6 @@
 -- Which slot a place is the place of: the same as the place of a slot, said the other way round.
-use Rattle.std.specs.Prelude.{ℕ, suc, ◌+◌, ◌*◌, ◌/◌, ◌<◌, ◌≤◌, Bool, true, false, ◌&&◌, ◌||◌, List, [], ◌∷◌, ◌≡◌, eqb, ltb}
+use Rattle.std.specs.Prelude.{ℕ, suc, ◌+◌, ◌*◌, ◌/◌, ◌<◌, ◌≤◌, Bool, true, false, ◌&&◌, ◌||◌, List, [], ◌∷◌, ◌≡◌}
+use Rattle.std.specs.Prelude.{eqb, ltb}
 use Rattle.ea_header.specs.declared.Parameters.{Parameters}
 use Rattle.ea_geometry.specs.Sizes.{super_blocks, blocks, block_elements, elements_before, page_elements}
 use Rattle.ea_geometry.specs.Sizes.{bit_number}

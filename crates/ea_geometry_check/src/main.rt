@@ -205,7 +205,8 @@ fn power(k: u8) -> u64 {
 
 fn parameters_of(least: u8, bits: u8, page: u8, inline: u8, minimum: u8) -> Parameters
     ensures min_dblk_nelmts_value { (result.min_dblk_nelmts ≡ least) × (result.max_nelmts_bits ≡ bits) }
-    ensures super_blk_min_nelmts_value { (result.super_blk_min_nelmts ≡ minimum) × (result.max_dblk_nelmts_bits ≡ page) }
+    ensures super_blk_min_nelmts_value { (result.super_blk_min_nelmts ≡ minimum)
+        × (result.max_dblk_nelmts_bits ≡ page) }
 {
     Parameters {
         client_id: 0,

@@ -53,7 +53,8 @@ unfoldable pub block_slots : Array → ℕ → ℕ → ℕ → ℕ → ℕ
 block_slots a s u k i =
     let h = a.parameters in
     cond (not (is_direct a u) && super_undefined a u) (first_slot h (u + 1) - s)
-    (cond (not (block_undefined a u k) && in_pages h u) (page_elements h - i % page_elements h) (block_elements h u - i))
+    (cond (not (block_undefined a u k) && in_pages h u) (page_elements h - i % page_elements h)
+    (block_elements h u - i))
 
 -- The same by the slot's place. An inline slot's run goes up to the last of them; behind the last place there is no
 -- end.

@@ -35,8 +35,8 @@ unfoldable pub file : List ℕ
 file =
     -- 0: the header; the index block is at 353
     0x45 ∷ 0x41 ∷ 0x48 ∷ 0x44 ∷ 0 ∷ 1 ∷ 8 ∷ 4 ∷ 1 ∷ 1 ∷ 1 ∷ 1
-    ∷ le_bytes 2 99 ++ le_bytes 2 99 ++ le_bytes 2 99 ++ le_bytes 2 99 ++ le_bytes 2 17 ++ le_bytes 2 99 ++ le_bytes 2 353 ++
-    le_bytes 4 901
+    ∷ le_bytes 2 99 ++ le_bytes 2 99 ++ le_bytes 2 99 ++ le_bytes 2 99 ++ le_bytes 2 17 ++ le_bytes 2 99
+    ++ le_bytes 2 353 ++ le_bytes 4 901
     -- 30: the data block of super block 0
     ++ data_prefix ++ stored 1 ++ le_bytes 4 646
     -- 51: data block 1 of super block 2, slots 6 and 7
@@ -58,8 +58,8 @@ file =
     ++ super_prefix ++ 0b1111_0100 ∷ 0 ∷ 0 ∷ 0
     ∷ le_bytes 2 222 ++ undefined_bytes 2 ++ le_bytes 2 275 ++ undefined_bytes 2 ++ le_bytes 4 1789
     -- 353: the index block; super block 1 is undefined
-    ++ index_prefix ++ stored 0 ++ le_bytes 2 30 ++ undefined_bytes 2 ++ le_bytes 2 80 ++ le_bytes 2 203 ++ le_bytes 2 328
-    ++ le_bytes 4 1544
+    ++ index_prefix ++ stored 0 ++ le_bytes 2 30 ++ undefined_bytes 2 ++ le_bytes 2 80 ++ le_bytes 2 203
+    ++ le_bytes 2 328 ++ le_bytes 4 1544
 
 -- chunk 10 by 5, present 30 by 26, maximum 40 by unlimited; true for order U, false for order R
 abbrev pub grid_in : Bool → Grid

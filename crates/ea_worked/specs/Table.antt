@@ -12,8 +12,8 @@ use Rattle.index.specs.Index.{Rec}
 use Rattle.elements.specs.Elements.{Elements, size_at, element}
 use Rattle.ea_header.specs.Header.{header_bytes}
 use Rattle.ea_header.specs.declared.Parameters.{Parameters}
-use Rattle.ea_geometry.specs.Sizes.{block_elements, direct_super_blocks, direct_pointers, super_pointers, over_page, pages}
-use Rattle.ea_geometry.specs.Sizes.{bitmap_bytes, bit_number}
+use Rattle.ea_geometry.specs.Sizes.{block_elements, direct_super_blocks, direct_pointers, super_pointers, over_page}
+use Rattle.ea_geometry.specs.Sizes.{pages, bitmap_bytes, bit_number}
 use Rattle.ea_geometry.specs.Extents.{index_extent, data_extent}
 use Rattle.ea_geometry.specs.Place.{place}
 use Rattle.ea_geometry.specs.declared.Place.TheVariants.{Inline, Block}

@@ -17,7 +17,8 @@ undefined_run file pos (suc n) stride o =
 -- how many of them are defined
 unfoldable pub defined_count : List ℕ → ℕ → ℕ → ℕ → ℕ → ℕ
 defined_count file pos zero stride o = 0
-defined_count file pos (suc n) stride o = cond (undefined_at file pos o) 0 1 + defined_count file (pos + stride) n stride o
+defined_count file pos (suc n) stride o =
+    cond (undefined_at file pos o) 0 1 + defined_count file (pos + stride) n stride o
 
 -- No size passes 2^32 − 1: filtered, it has 4 bytes at most; unfiltered, it is the chunk's bytes.
 unfoldable pub sizes_fit : Form → Grid → ℕ → Bool

@@ -8,8 +8,8 @@ use Rattle.structures.specs.declared.Kind.TheVariants.{Signed, Page}
 use Rattle.structures.specs.Structures.{signature_test, structure_test, Pages}
 use Rattle.structures.specs.PageBits.{page_bit}
 use Rattle.element_form.specs.Form.{room_test}
-use Rattle.fa_geometry.specs.Layout.{fixed_form, fixed_page_elements, is_paged, fixed_prefix, fixed_page_stride, fixed_page_at}
-use Rattle.fa_geometry.specs.Layout.{fixed_page_extent, page_of_slot, fixed_place, fixed_tested_extent}
+use Rattle.fa_geometry.specs.Layout.{fixed_form, fixed_page_elements, is_paged, fixed_prefix, fixed_page_stride}
+use Rattle.fa_geometry.specs.Layout.{fixed_page_at, fixed_page_extent, page_of_slot, fixed_place, fixed_tested_extent}
 use Rattle.fa_blocks.specs.FixedArray.{FixedArray, fixed_block_at, never_stored}
 
 -- The data block: 20 on its first 6 + O bytes, 35 ("FADB"), 28 (also with no entries), then 20 and 26 of the block or,

@@ -35,7 +35,8 @@ fixed_element_at h o s = fixed_prefix o + s * fixed_stride h o
 unfoldable pub fixed_block_extent : FixedArrayHeader → ℕ → ℕ
 fixed_block_extent h o = fixed_element_at h o h.num_elements + 4
 
--- .. paged, a bit for each page and checksum, then pages, each of elements and checksum. All pages have the full stride; ..
+-- .. paged, a bit for each page and checksum, then pages, each of elements and checksum. All pages have the full
+-- stride; ..
 unfoldable pub fixed_head_extent : FixedArrayHeader → ℕ → ℕ
 fixed_head_extent h o = fixed_prefix o + bit_bytes (fixed_pages h) + 4
 

@@ -63,8 +63,8 @@ fn count_pages(
         × (is_paged array.header ≡ true) }
     ensures { (grid : Grid) (n : ℕ)
         → Reads reader chunk.now bound.now down.now grid n
-        → result ≡ counted_of (pages_from (elements_of file.now reader grid n) (fixed_pages_of (fixed_of file.now array))
-        (fixed_pages array.header) 0 0 (accepted [])) }
+        → result ≡ counted_of (pages_from (elements_of file.now reader grid n)
+        (fixed_pages_of (fixed_of file.now array)) (fixed_pages array.header) 0 0 (accepted [])) }
 {
     let pages = array.pages();
     let page = array.page_elements();

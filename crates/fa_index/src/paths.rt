@@ -15,7 +15,8 @@ use structures::enter::Entered;
 // The path to one of the entries: it ends at no element, at the slot's, or with a refusal.
 pub fn path_of(file: &[u8], array: FixedArray, slot: u64) -> Entered
     requires { Served array × (slot < array.header.num_elements) }
-    ensures { PathEnds (fixed_located (fixed_of file.now array)) file.now (fixed_form array.header array.offset_size) slot result }
+    ensures { PathEnds (fixed_located (fixed_of file.now array)) file.now (fixed_form array.header array.offset_size)
+        slot result }
 {
     if never_stored(array) {
         return Entered::Absent;

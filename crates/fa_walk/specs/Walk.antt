@@ -33,7 +33,8 @@ fixed_located a e = record {
 unfoldable pub fixed_in_block : FixedArray → Elements → Listing
 fixed_in_block a e =
     cond (is_paged a.header) (pages_from e (fixed_pages_of a) (fixed_pages a.header) 0 0 (accepted []))
-    (elements_from e (fixed_block_at a + fixed_element_at a.header a.offset_size 0) a.header.num_elements 0 (accepted []))
+    (elements_from e (fixed_block_at a + fixed_element_at a.header a.offset_size 0) a.header.num_elements 0
+    (accepted []))
 
 -- 27; nothing where nothing was ever stored; the data block, its elements or its pages in slot order
 unfoldable pub fixed_walk : FixedArray → Elements → Listing

@@ -24,7 +24,8 @@ none_set g = record { size = g.size; set = λ (p : ℕ). false; test = g.test; p
 -- treats all pages as unset
 unfoldable pub pages_unset : Call → Listing
 pages_unset c =
-    let a = array_in c in pages_from (elements_in c) (none_set (fixed_pages_of a)) (fixed_pages a.header) 0 0 (accepted [])
+    let a = array_in c in
+    pages_from (elements_in c) (none_set (fixed_pages_of a)) (fixed_pages a.header) 0 0 (accepted [])
 
 -- lists j pages from p on truly, but ends at the first clear one
 unfoldable pub until_clear : Elements → Pages → ℕ → ℕ → ℕ → Listing

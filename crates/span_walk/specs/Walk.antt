@@ -10,7 +10,8 @@ use Rattle.ea_header.specs.Header.{header_at, header_test}
 use Rattle.ea_header.specs.Served.{served_test}
 use Rattle.ea_geometry.specs.Sizes.{super_blocks, blocks}
 use Rattle.ea_blocks.specs.Array.{Array, array_from}
-use Rattle.ea_blocks.specs.Structures.{index_block, super_block, data_block, is_direct, super_undefined, block_undefined}
+use Rattle.ea_blocks.specs.Structures.{index_block, super_block, data_block, is_direct, super_undefined}
+use Rattle.ea_blocks.specs.Structures.{block_undefined}
 use Rattle.span_walk.specs.declared.Span.{Span}
 use Rattle.span_walk.specs.Spans.{header_span, span_of, span_test, spanned_test}
 
@@ -36,7 +37,8 @@ unfoldable pub super_spans : Array → ℕ → Spanning
 super_spans a u =
     let inner = accepted (block_spans a u (blocks u) 0) in
     cond (is_direct a u) inner
-    (cond (super_undefined a u) (accepted []) (spanned_test a (super_block u) yields also (span_of a (super_block u)) inner))
+    (cond (super_undefined a u) (accepted [])
+    (spanned_test a (super_block u) yields also (span_of a (super_block u)) inner))
 
 -- j super blocks from u on
 unfoldable pub supers_from : Array → ℕ → ℕ → Spanning
@@ -58,4 +60,5 @@ head_test f address o l =
 -- .. walk with 31 before 20.
 unfoldable pub spans : List ℕ → ℕ → ℕ → ℕ → Spanning
 spans f address o l =
-    head_test f address o l yields also (header_span address o l) (index_spans (array_from f (header_at f address o l) o))
+    head_test f address o l
+    yields also (header_span address o l) (index_spans (array_from f (header_at f address o l) o))

@@ -79,7 +79,8 @@ pub fn list_at<I: HeadedIndex>(
         let i = I.headed call.file call.address call.offset_size call.length_size in
         let e = elements_read call.file (I.form i) call.grid call.element_bytes (I.count i) in
         let answer = I.header_test call.file call.address call.offset_size call.length_size
-        yields in_room (grid_test call.grid yields I.walk i call.file e) (length list.old / record_length numbers.rank) in
+        yields in_room (grid_test call.grid yields I.walk i call.file e)
+        (length list.old / record_length numbers.rank) in
         (result ≡ counted_of answer)
         × (list.new ≡ list_content answer list.old)
         × ((n : ℕ) → result ≡ Count n → 0 < numbers.rank

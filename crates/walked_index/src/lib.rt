@@ -28,8 +28,8 @@ pub mod lookup;
 
 // An index: its walk tests and counts, its runs are read again without a test, and a path is tested for one slot.
 pub trait WalkedIndex: Copy {
-    // The form of its elements, the number of its slots that are in use, the tests before a lookup's path, its walk, and
-    // where its elements lie: the last three of the bytes of a file, the last two of elements that are read of it.
+    // The form of its elements, the number of its slots that are in use, the tests before a lookup's path, its walk,
+    // and where its elements lie: the last three of the bytes of a file, the last two of elements that are read of it.
     ghost form: { Self → FormValue };
 
     ghost count: { Self → ℕ };
