@@ -4,11 +4,11 @@
  *     matcher FILE ADDRESS ROW COLUMN [fixed]
  *
  * The dataset is described by the program here: numbers of 4 bytes, 11 rows of 13 at present, any number of rows of 15
- * at most, in chunks of 4 by 4. ADDRESS is where its index begins, with the bytes "EAHD"; or, behind the word `fixed`,
- * with "FAHD": then there may be 14 rows, and the index is a Fixed Array. In general all of this is in the dataset's
- * object header: the shapes in the dataspace message, the chunk's lengths and the index address in the data layout
- * message (version 4, chunk index type 4, of a Fixed Array 3), the sizes of offsets and lengths in the file's
- * superblock.
+ * at most, in chunks of 4 by 4. ADDRESS is where its index begins, with the bytes "EAHD". With the word `fixed` there
+ * are 14 rows at most: then the index is a Fixed Array and begins with "FAHD". In general all of this is in the
+ * dataset's object header: the shapes in the dataspace message, the chunk's lengths and the index address in the data
+ * layout message (version 4; chunk index type 4, or 3 for a Fixed Array), the sizes of offsets and lengths in the
+ * file's superblock.
  *
  *     gcc matcher.c $(pkg-config --cflags --libs cellumaq)
  */
