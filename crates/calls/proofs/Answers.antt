@@ -3,19 +3,18 @@
 use Prim.Native.Nat.{ℕ, zero, suc, ◌-◌, ◌<◌, ◌≤◌}
 use mathlib.Core.Path.{◌≡◌, refl, sym, ap, ◌∙◌}
 use mathlib.Core.List.{List, [], ◌∷◌}
-use mathlib.Core.Option.{Option, none, some}
 use native.Mathlib.Omega.{arith}
 use lib.ListN.{length, get_or, replicate, get_or-replicate, length-replicate, get_or-eq_default}
+use Rattle.std.specs.Prelude.{Err, None, Ok, Option, Some}
+use Rattle.index.specs.declared.Entry.{Entry}
+use Rattle.refusal.specs.Refusals.{Outcome}
 use Rattle.refusal.specs.declared.Refusal.{Refusal}
-use Rattle.refusal.specs.declared.Counted.{Counted}
-use Rattle.refusal.specs.Outcome.{Outcome, refused, accepted}
-use Rattle.refusal.specs.Values.{counted_of}
-use Rattle.refusal.proofs.Numbered.{Told}
+use Rattle.refusal.specs.Values.{number_of, counted_of}
+use Rattle.refusal.proofs.Numbers.{number_above}
 use Rattle.index.specs.Index.{Rec}
-use Rattle.elements.specs.declared.Found.{Found}
 use Rattle.elements.specs.Values.{found_of}
 use Rattle.calls.specs.Answer.{answered, picked, list_numbers, found_numbers, chunk_names, ZeroAccepts}
-use Rattle.calls.specs.Values.{refused_answer, counted_answer, found_answer}
+use Rattle.calls.specs.Values.{refused_answer, counted_answer, entry_numbers, found_answer}
 
 -- a number at a place of the answer doesn't depend on what it would be beyond
 pub picked_in : (l : List ℕ) (which : ℕ) → which < length l → get_or l which 0 ≡ picked which l
@@ -36,14 +35,14 @@ picked_none l which h = sym (get_or-eq_default l 0 {n = 0} (omega arith)) ∙ pi
 
 -- the numbers of a refusal that are named, and those beyond
 module _ (which names : ℕ) (r : Refusal) (h : 3 ≤ which) where
-  behind : (k : ℕ) → which ≡ suc (suc (suc k)) → picked which (refused_answer names r) ≡ get_or (replicate names 0) k r.number
+  behind : (k : ℕ) → which ≡ suc (suc (suc k)) → picked which (refused_answer names r) ≡ get_or (replicate names 0) k (number_of r)
   unfolding picked
   behind k e = rw e refl
 
   pub refused_named : which - 3 < names → 0 ≡ picked which (refused_answer names r)
-  refused_named n = sym (behind (which - 3) (omega arith) ∙ get_or-replicate names (which - 3) 0 r.number n)
+  refused_named n = sym (behind (which - 3) (omega arith) ∙ get_or-replicate names (which - 3) 0 (number_of r) n)
 
-  pub refused_beyond : names ≤ which - 3 → r.number ≡ picked which (refused_answer names r)
+  pub refused_beyond : names ≤ which - 3 → number_of r ≡ picked which (refused_answer names r)
   refused_beyond n =
       let z = length-replicate {A = ℕ} names 0 in
       sym (behind (which - 3) (omega arith) ∙ get_or-eq_default (replicate names 0) _ {n = which - 3} (omega (arith, z)))
@@ -68,31 +67,31 @@ picked_zeros (suc (suc (suc (suc which)))) = refl
 
 -- What is answered of a list's count is what is answered of the list.
 counted_same : {A : Type 0} (names : ℕ) (a : Outcome (List A)) → counted_answer names (counted_of a) ≡ answered names list_numbers a
-unfolding counted_answer counted_of answered list_numbers
-counted_same names (refused r) = refl
-counted_same names (accepted l) = refl
+unfolding counted_of answered list_numbers
+counted_same names (Err r) = refl
+counted_same names (Ok l) = refl
 
-pub counted_picked : {A : Type 0} (names which number : ℕ) (counted : Counted) (a : Outcome (List A))
+pub counted_picked : {A : Type 0} (names which number : ℕ) (counted : Outcome ℕ) (a : Outcome (List A))
     → number ≡ picked which (counted_answer names counted) → counted ≡ counted_of a
     → number ≡ picked which (answered names list_numbers a)
-counted_picked names which number counted a n e = n ∙ ap (λ (c : Counted). picked which (counted_answer names c)) e ∙ ap (picked which) (counted_same names a)
+counted_picked names which number counted a n e = n ∙ ap (λ (c : Outcome ℕ). picked which (counted_answer names c)) e ∙ ap (picked which) (counted_same names a)
 
 -- What is answered of what a lookup finds is what is answered of the lookup.
 found_same : (a : Outcome (Option Rec)) → found_answer (found_of a) ≡ answered chunk_names found_numbers a
-unfolding found_answer found_of answered found_numbers
-found_same (refused r) = refl
-found_same (accepted none) = refl
-found_same (accepted (some r)) = refl
+unfolding found_of answered entry_numbers found_numbers
+found_same (Err r) = refl
+found_same (Ok None) = refl
+found_same (Ok (Some r)) = refl
 
-pub found_picked : (which number : ℕ) (found : Found) (a : Outcome (Option Rec)) → number ≡ picked which (found_answer found) → found ≡ found_of a
+pub found_picked : (which number : ℕ) (found : Outcome (Option Entry)) (a : Outcome (Option Rec)) → number ≡ picked which (found_answer found) → found ≡ found_of a
     → number ≡ picked which (answered chunk_names found_numbers a)
-found_picked which number found a n e = n ∙ ap (λ (x : Found). picked which (found_answer x)) e ∙ ap (picked which) (found_same a)
+found_picked which number found a n e = n ∙ ap (λ (x : Outcome (Option Entry)). picked which (found_answer x)) e ∙ ap (picked which) (found_same a)
 
--- The number 0, asked of the refusal, says that the call is accepted, where each refusal has a number above 0.
-pub zero_accepts : {A : Type 0} (names : ℕ) (numbers : A → List ℕ) (a : Outcome A) → Told a → (which number : ℕ)
+-- The number 0, asked of the refusal, says that the call is accepted.
+pub zero_accepts : {A : Type 0} (names : ℕ) (numbers : A → List ℕ) (a : Outcome A) (which number : ℕ)
     → number ≡ picked which (answered names numbers a) → ZeroAccepts a which number
 unfolding picked answered
-zero_accepts names numbers (refused r) t which number e w z =
-    let p : number ≡ r.number = e ∙ rw w refl in
-    absurd (omega (arith, t.above r refl, p))
-zero_accepts names numbers (accepted x) t which number e w z = (x, refl)
+zero_accepts names numbers (Err r) which number e w z =
+    let p : number ≡ number_of r = e ∙ rw w refl in
+    absurd (omega (arith, number_above r, p))
+zero_accepts names numbers (Ok x) which number e w z = (x, refl)

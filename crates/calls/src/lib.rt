@@ -1,15 +1,14 @@
 #![tactic(auto)]
 // What every call from C shares, for any kind of index: the shapes that it is given, and the number that it answers.
 ghost use Rattle.std.specs.Prelude.{◌≡◌};
-ghost use Rattle.chunk_grid.specs.Grid.{grid_test};
-ghost use Rattle.chunk_grid.specs.Values.{grid_of, where_tested};
+ghost use Rattle.chunk_grid.specs.Values.{grids, built};
 ghost use Rattle.calls.specs.Call.{order_of, grid_given};
 ghost use Rattle.calls.specs.Answer.{picked};
 ghost use Rattle.calls.specs.Values.{refused_answer, counted_answer, found_answer};
 
-use chunk_grid::{Built, GridOrder};
-use elements::Found;
-use refusal::{Counted, Refusal};
+use chunk_grid::{ChunkGrid, GridOrder};
+use index::Entry;
+use refusal::Refusal;
 use shapes::grid_from_bytes;
 
 // The numbers that the calls name which list and look up chunks: count, address, size, mask.
@@ -29,6 +28,7 @@ pub struct CallNumbers {
 }
 
 // The order that a number stands for.
+#[tactic(auto, unfolding(crate::specs::Call::order_of))]
 pub fn grid_order(order: u64) -> GridOrder
     ensures { result ≡ order_of order }
 {
@@ -39,10 +39,16 @@ pub fn grid_order(order: u64) -> GridOrder
 }
 
 // The grid of a dataset's shapes, each in 8 bytes a dimension; a maximum is given unless its flag is 0.
-pub fn read_grid(numbers: CallNumbers, chunk: &[u8], present: &[u8], maximum: &[u8]) -> Built
+#[tactic(auto, unfolding(crate::specs::Call::grid_given))]
+pub fn read_grid(
+    numbers: CallNumbers,
+    chunk: &[u8],
+    present: &[u8],
+    maximum: &[u8],
+) -> Result<ChunkGrid, Refusal>
     ensures { let grid = grid_given numbers.order numbers.rank chunk.now present.now
         numbers.has_maximum maximum.now in
-        (result.checked ≡ grid_test grid) × (grid_of result.grid ≡ where_tested result.checked grid) }
+        grids result ≡ built grid }
 {
     let order = grid_order(numbers.order);
     let has_maximum = numbers.has_maximum != 0;
@@ -68,45 +74,45 @@ pub fn refused_number(which: u64, refusal: Refusal, names: u64) -> u64
     ensures { result ≡ picked which (refused_answer names refusal) }
 {
     match which {
-        0 => refusal.number,
-        1 => refusal.first,
-        2 => refusal.second,
+        0 => refusal.number(),
+        1 => refusal.first(),
+        2 => refusal.second(),
         _ => {
             if which - 3 < names {
                 return 0;
             }
-            refusal.number
+            refusal.number()
         }
     }
 }
 
 // The same of a list's answer.
-pub fn counted_number(which: u64, counted: Counted, names: u64) -> u64
+pub fn counted_number(which: u64, counted: Result<u64, Refusal>, names: u64) -> u64
     ensures { result ≡ picked which (counted_answer names counted) }
 {
     match counted {
-        Counted::Count(n) => {
+        Ok(n) => {
             if which == 3 {
                 return n;
             }
             0
         }
-        Counted::Refused(r) => refused_number(which, r, names),
+        Err(r) => refused_number(which, r, names),
     }
 }
 
 // The same of what a lookup finds.
-pub fn found_number(found: Found, which: u64) -> u64
+pub fn found_number(found: Result<Option<Entry>, Refusal>, which: u64) -> u64
     ensures { result ≡ picked which (found_answer found) }
 {
     match found {
-        Found::Chunk(entry) => {
+        Ok(Some(entry)) => {
             let size = entry.size as u64;
             let mask = entry.mask as u64;
             let answer = [0, 0, 0, 1, entry.address, size, mask];
             pick(which, &answer)
         }
-        Found::Absent => 0,
-        Found::Refused(r) => refused_number(which, r, CHUNK_NAMES),
+        Ok(None) => 0,
+        Err(r) => refused_number(which, r, CHUNK_NAMES),
     }
 }

@@ -1,8 +1,6 @@
 #![tactic(auto)]
 // The calls from C: each passes on to the library.
-ghost use Rattle.std.specs.Prelude.{◌≡◌, true, List, ℕ, ◌/◌, ◌<◌, length};
-ghost use Rattle.std.proofs.Math.Option.{Option};
-ghost use Rattle.refusal.specs.Outcome.{accepted};
+ghost use Rattle.std.specs.Prelude.{◌≡◌, true, List, ℕ, ◌/◌, ◌<◌, length, Ok, Option};
 ghost use Rattle.checksum.specs.Lookup3.{lookup3};
 ghost use Rattle.chunk_grid.specs.Grid.{is_chunk};
 ghost use Rattle.shapes.specs.Shapes.{shape_of};
@@ -54,7 +52,7 @@ pub extern "C" fn cellumaq_list(
         (result ≡ picked which (answered chunk_names list_numbers answer))
         × ZeroAccepts answer which result
         × (list.new ≡ list_content answer list.old)
-        × ((l : List Rec) → answer ≡ accepted l → 0 < rank
+        × ((l : List Rec) → answer ≡ Ok l → 0 < rank
         → ExactList (call_index call) (records_in rank (length l) list.new) (length l)) }
 {
     let numbers = CallNumbers {
@@ -96,9 +94,9 @@ pub extern "C" fn cellumaq_lookup(
         let answer = lookup_at call at in
         (result ≡ picked which (answered chunk_names found_numbers answer))
         × ZeroAccepts answer which result
-        × ((x : Option Rec) → answer ≡ accepted x → Answers (call_index call) at x)
-        × ((room : ℕ) (l : List Rec) → 0 < rank → list_at call room ≡ accepted l → is_chunk call.grid at ≡ true
-        → (x : Option Rec) × (result ≡ picked which (answered chunk_names found_numbers (accepted x)))
+        × ((x : Option Rec) → answer ≡ Ok x → Answers (call_index call) at x)
+        × ((room : ℕ) (l : List Rec) → 0 < rank → list_at call room ≡ Ok l → is_chunk call.grid at ≡ true
+        → (x : Option Rec) × (result ≡ picked which (answered chunk_names found_numbers (Ok x)))
         × Agrees l at x) }
 {
     let numbers = CallNumbers {
@@ -137,7 +135,7 @@ pub extern "C" fn cellumaq_fixed_list(
         (result ≡ picked which (answered chunk_names list_numbers answer))
         × ZeroAccepts answer which result
         × (list.new ≡ list_content answer list.old)
-        × ((l : List Rec) → answer ≡ accepted l → 0 < rank
+        × ((l : List Rec) → answer ≡ Ok l → 0 < rank
         → ExactList (fixed_call_index call) (records_in rank (length l) list.new) (length l)) }
 {
     let numbers = CallNumbers {
@@ -177,9 +175,9 @@ pub extern "C" fn cellumaq_fixed_lookup(
         let answer = fixed_lookup_at call at in
         (result ≡ picked which (answered chunk_names found_numbers answer))
         × ZeroAccepts answer which result
-        × ((x : Option Rec) → answer ≡ accepted x → Answers (fixed_call_index call) at x)
-        × ((room : ℕ) (l : List Rec) → 0 < rank → fixed_list_at call room ≡ accepted l → is_chunk call.grid at ≡ true
-        → (x : Option Rec) × (result ≡ picked which (answered chunk_names found_numbers (accepted x)))
+        × ((x : Option Rec) → answer ≡ Ok x → Answers (fixed_call_index call) at x)
+        × ((room : ℕ) (l : List Rec) → 0 < rank → fixed_list_at call room ≡ Ok l → is_chunk call.grid at ≡ true
+        → (x : Option Rec) × (result ≡ picked which (answered chunk_names found_numbers (Ok x)))
         × Agrees l at x) }
 {
     let numbers = CallNumbers {

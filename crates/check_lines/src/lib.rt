@@ -22,7 +22,7 @@ pub fn print_first(rt: &impl Print, numbers: &[u64; 32], n: u64) -> io::Result<(
 }
 
 pub fn print_refusal(rt: &impl Print, r: Refusal) -> io::Result<()> {
-    print!(rt; " refused {} {} {}", r.number, r.first, r.second)
+    print!(rt; " refused {} {} {}", r.number(), r.first(), r.second())
 }
 
 // A number, or a list's length, and where the input goes on.
@@ -63,20 +63,13 @@ pub fn list(out: &mut [u64], s: &[u8], from: usize) -> Item
     ensures { result.value ≤ length out.old }
 {
     let n = number(s, from);
+    let count = n.value.min(out.len() as u64);
     let mut at = n.at;
-    let mut i = 0usize;
-    // The first i members are read, and the input goes on at `at`.
-    while i < out.len() {
-        if n.value <= i as u64 {
-            break;
-        }
+    // The members before this one are read, and the input goes on at `at`.
+    for member in &mut out[..count as usize] {
         let item = number(s, at);
-        out[i] = item.value;
+        *member = item.value;
         at = item.at;
-        i += 1;
     }
-    Item {
-        value: i as u64,
-        at,
-    }
+    Item { value: count, at }
 }

@@ -1,7 +1,7 @@
 -- The checksum in the last 4 bytes of a structure.
 use Rattle.std.specs.Prelude.{ℕ, ◌-◌, not, List, length, take, ◌==◌, nat_lt}
-use Rattle.refusal.specs.declared.Checked.{Checked}
-use Rattle.refusal.specs.Refusals.{refuse, ◌then◌}
+use Rattle.refusal.specs.declared.Refusal.TheVariants.{Checksum, PastEnd}
+use Rattle.refusal.specs.Refusals.{refuse, ◌then◌, Checked}
 use Rattle.fields.specs.LittleEndian.{le_at}
 
 -- The stored checksum is the last 4 bytes of a structure ..
@@ -16,5 +16,5 @@ body_of block = take (length block - 4) block
 -- The sum is lookup3 wherever a file is read; another can stand in its place where an example is computed by hand.
 unfoldable pub trailing_test : (List ℕ → ℕ) → List ℕ → Checked
 trailing_test sum block =
-    refuse 20 4 (length block) (nat_lt (length block) 4)
-    then refuse 26 (stored_of block) (sum (body_of block)) (not (stored_of block == sum (body_of block)))
+    refuse (PastEnd 4 (length block)) (nat_lt (length block) 4)
+    then refuse (Checksum (stored_of block) (sum (body_of block))) (not (stored_of block == sum (body_of block)))

@@ -6,7 +6,7 @@ ghost use Rattle.checksum.specs.Lookup3.{seed, seeded, blocks, hashlittle, looku
 ghost use Rattle.checksum.specs.Trailing.{body_of, trailing_test};
 
 use fields::bytes::{read_u32_le, read_u32_le_padded};
-use refusal::{Checked, Refusal};
+use refusal::Refusal;
 use std::num::{wrapping_add_u32, wrapping_sub_u32};
 
 // The three words of the hash's state.
@@ -20,8 +20,8 @@ pub struct Words {
 // What the tests of two structures answer.
 #[derive(Clone, Copy)]
 pub struct TwoChecked {
-    pub first: Checked,
-    pub second: Checked,
+    pub first: Result<(), Refusal>,
+    pub second: Result<(), Refusal>,
 }
 
 // The checksums of two slices.
@@ -39,7 +39,7 @@ pub fn jenkins_lookup3(s: &[u8]) -> u32
 }
 
 // Tests the checksum in the last 4 bytes of a structure, `block`, against the bytes before it.
-pub fn verify_trailing(block: &[u8]) -> Checked
+pub fn verify_trailing(block: &[u8]) -> Result<(), Refusal>
     ensures { result ≡ trailing_test lookup3 block.now }
 {
     compared(block, jenkins_lookup3(body(block)))
@@ -59,27 +59,19 @@ pub fn verify_trailing_two(one: &[u8], other: &[u8]) -> TwoChecked
 }
 
 // The stored checksum of a structure against the one computed of its body.
-fn compared(block: &[u8], sum: u32) -> Checked
+fn compared(block: &[u8], sum: u32) -> Result<(), Refusal>
     requires { sum ≡ lookup3 (body_of block.now) }
     ensures { result ≡ trailing_test lookup3 block.now }
 {
     if block.len() < 4 {
-        return Checked::Refused(Refusal {
-            number: Refusal::PAST_END,
-            first: 4,
-            second: block.len() as u64,
-        });
+        return Err(Refusal::PastEnd(4, block.len() as u64));
     }
-    let stored = read_u32_le(block, block.len() - 4) as u64;
-    let computed = sum as u64;
-    if stored == computed {
-        return Checked::Passed;
+    let stored = read_u32_le(block, block.len() - 4);
+    if stored == sum {
+        Ok(())
+    } else {
+        Err(Refusal::Checksum(stored as u64, sum as u64))
     }
-    Checked::Refused(Refusal {
-        number: Refusal::CHECKSUM,
-        first: stored,
-        second: computed,
-    })
 }
 
 // The part of a structure before its checksum: empty under 4 bytes.
@@ -202,21 +194,12 @@ fn hashlittle(s: &[u8], initval: u32) -> u32
     hash_from(w, s)
 }
 
-fn lesser(n: usize, m: usize) -> usize
-    ensures { result ≡ min n m }
-{
-    if n < m {
-        return n;
-    }
-    m
-}
-
 // The hashes of s and t, block by block in turn while both have more than 12 bytes left.
 fn hashlittle_two(s: &[u8], t: &[u8], initval: u32) -> TwoHashes
     ensures { (result.first ≡ hashlittle s.now initval)
         × (result.second ≡ hashlittle t.now initval) }
 {
-    let both = lesser(s.len(), t.len());
+    let both = s.len().min(t.len());
     if both == 0 {
         return TwoHashes {
             first: hashlittle(s, initval),

@@ -16,12 +16,12 @@ fn print_prefixes(rt: &impl Print, s: &[u8]) -> io::Result<()> {
 }
 
 fn print_test(rt: &impl Print, block: &[u8]) -> io::Result<()> {
-    let r = checksum::verify_trailing(block).refusal();
+    let (number, stored, computed) = match checksum::verify_trailing(block) {
+        Ok(()) => (0, 0, 0),
+        Err(r) => (r.number(), r.first(), r.second()),
+    };
     println!(rt;
-        "{} {:08x} {:08x} body {}",
-        r.number,
-        r.first,
-        r.second,
+        "{number} {stored:08x} {computed:08x} body {}",
         checksum::body(block).len()
     )
 }

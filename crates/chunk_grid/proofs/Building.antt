@@ -1,23 +1,26 @@
 -- What the loops that build a grid have at each turn. Assumes nothing.
 use Prim.Native.Nat.{ℕ, zero, suc, ◌+◌, ◌-◌, ◌*◌, ◌/◌, ◌%◌, ◌<◌, ◌≤◌, min, max}
 use mathlib.Core.Path.{◌≡◌, refl, sym, ap, ◌∙◌}
-use mathlib.Core.Bool.{Bool, true, false, not, cond, ◌&&◌, ◌||◌}
+use mathlib.Core.Bool.{Bool, true, false, not, ◌&&◌, ◌||◌}
 use mathlib.Core.List.{List, [], ◌∷◌}
 use native.Mathlib.Decide.{ℕ_discrete}
-use native.Mathlib.Nat.{mul_comm, pos_of_ne-zero, div-add-mod', mod-lt, mul-le-mul_left}
+use native.Mathlib.Nat.{mul_comm, pos_of_ne-zero, div-add-mod', mod-lt}
 use native.Mathlib.Numerals.{add-one}
 use native.Mathlib.Omega.{arith}
 use borrow.Author.Tests.{eq-eqb, ne_eqb, eqb-false, lt-ltb, le-ltb, ltb-false}
 use lib.Arith.{digits_div}
-use lib.Dec.{eqb, ltb, leb-suc-suc}
+use lib.Dec.{eqb, ltb}
 use lib.ListN.{length, get_or, take, drop, set, length-set, drop_of_length-le}
 use lib.Seq.{drop-cons, drop-drop, take_all, get_or-set_same, get_or-set_other, ext_get_or}
+use Rattle.std.specs.Prelude.{Err, None, Ok, Option, Some}
+use Rattle.std.specs.Option.{MatchOption, unwrap_or}
+use Rattle.std.specs.List.{AllWithin, HoldsAt}
+use Rattle.std.proofs.Common.{◌≢◌}
+use Rattle.refusal.specs.declared.Refusal.TheVariants.{MaximumRank, PresentRank, Rank, TooManyChunks, Unlimited}
 use Rattle.refusal.proofs.Tests.{refuse_passed, then_passed}
 use Rattle.refusal.specs.declared.Refusal.{Refusal}
-use Rattle.refusal.specs.declared.Checked.TheVariants.{Passed, Refused}
 use Rattle.refusal.specs.Refusals.{largest64, refuse, ◌then◌}
 use Rattle.chunk_grid.specs.Grid.{pairwise, any, ceil_div, first_unlimited, leading_in, to_front, multiplier, multipliers, has_zero, shapes_test, multiplier_test, product_test, given}
-use Rattle.chunk_grid.specs.Values.{place_of}
 use Rattle.chunk_grid.specs.declared.GridOrder.{GridOrder}
 use Rattle.chunk_grid.proofs.Order.{front_nil, length-pairwise}
 use Rattle.chunk_grid.proofs.Members.{take_more, get_d_pairwise, any_at, multiplier_at}
@@ -38,99 +41,92 @@ pub none_zero : (l : List ℕ) (i : ℕ) → has_zero l ≡ false → i < length
 unfolding has_zero
 none_zero l i e h = pos_of_ne-zero (eqb-false (get_or l i 0) 0 (any_at (λ (n : ℕ). eqb n 0) l i e h))
 
--- rounding up
-pub ceil_exact : (a b : ℕ) → 0 < b → a % b ≡ 0 → a / b ≡ ceil_div a b
+-- rounding up, as std says it
+pub rounded_up : (a b : ℕ) → 0 < b → a / b + min 1 (a % b) ≡ ceil_div a b
 unfolding ceil_div
-ceil_exact a b pos e =
+rounded_up a b pos =
     let d = div-add-mod' a b in
-    let s : a + (b - 1) ≡ a / b * b + (b - 1) = omega arith in
-    rw s (sym (digits_div (a / b) (omega arith)))
-
-pub ceil_over : (a b : ℕ) → 0 < b → (a % b ≡ 0 → ⊥) → (a / b + 1 ≡ ceil_div a b) × (a / b + 1 ≤ a)
-unfolding ceil_div
-ceil_over a b pos n =
-    let d = div-add-mod' a b in
-    let r = pos_of_ne-zero n in
     let lt = mod-lt a pos in
-    let m = mul-le-mul_left (a / b) pos in
-    let s : a + (b - 1) ≡ (a / b + 1) * b + (a % b - 1) = omega arith in
-    (rw s (sym (digits_div (a / b + 1) (omega arith))), omega arith)
-
--- the first member that is v
-module _ (v : ℕ) (l : List ℕ) (i : ℕ) where
-  pub place_end : length l ≤ i → place_of v (drop i l) ≡ 0
-  unfolding place_of
-  place_end h = rw (drop_of_length-le l {i = i} h) refl
-
-  pub place_stop : i < length l → get_or l i 0 ≡ v → place_of v (drop i l) ≡ 0
-  unfolding place_of
-  place_stop h e = rw (drop-cons l i 0 h, eq-eqb (get_or l i 0) v e) refl
-
-  pub place_on : i < length l → (get_or l i 0 ≡ v → ⊥) → place_of v (drop i l) ≡ suc (place_of v (drop (i + 1) l))
-  unfolding place_of
-  place_on h n = rw (drop-cons l i 0 h, ne_eqb (get_or l i 0) v n, add-one) refl
-
--- the first unlimited dimension, and whether there is a 0
-pub place-unlimited : (l : List ℕ) → place_of largest64 l ≡ first_unlimited l
-unfolding place_of first_unlimited
-place-unlimited [] = refl
-place-unlimited (c ∷ l) = rw (place-unlimited l) refl
-
-pub place_zero : (l : List ℕ) → ltb (place_of 0 l) (length l) ≡ has_zero l
-unfolding place_of has_zero any
-place_zero [] = refl
-place_zero (c ∷ l) = go (eqb c 0) (place_zero l)
+    go (ℕ_discrete (a % b) 0) d lt
   where
-    go : (t : Bool) → ltb (place_of 0 l) (length l) ≡ has_zero l → ltb (cond t 0 (suc (place_of 0 l))) (suc (length l)) ≡ t || has_zero l
-    go true e = lt-ltb 0 (suc (length l)) (omega arith)
-    go false e = leb-suc-suc (suc (place_of 0 l)) (length l) ∙ e
+    go : Dec (a % b ≡ 0) → a / b * b + a % b ≡ a → a % b < b → a / b + min 1 (a % b) ≡ (a + (b - 1)) / b
+    go (yes e) d lt =
+        let s : a + (b - 1) ≡ a / b * b + (b - 1) = omega arith in
+        let t : a / b + min 1 (a % b) ≡ a / b = omega arith in
+        t ∙ rw s (sym (digits_div (a / b) (omega arith)))
+    go (no n) d lt =
+        let r = pos_of_ne-zero n in
+        let s : a + (b - 1) ≡ (a / b + 1) * b + (a % b - 1) = omega arith in
+        let t : a / b + min 1 (a % b) ≡ a / b + 1 = omega arith in
+        t ∙ rw s (sym (digits_div (a / b + 1) (omega arith)))
 
-pub leads_first : (cs : List ℕ) → first_unlimited cs < length cs → first_unlimited cs ≡ leading_in true cs
-unfolding leading_in
-leads_first cs h = simp (lt-ltb (first_unlimited cs) (length cs) h)
+-- the first unlimited dimension, where it is found ..
+first_at : (l : List ℕ) (i : ℕ) → i < length l → get_or l i 0 ≡ largest64 → ((k : ℕ) → k < i → get_or l k 0 ≡ largest64 → ⊥) → first_unlimited l ≡ i
+unfolding first_unlimited
+first_at [] i h e n = absurd (omega arith)
+first_at (c ∷ l) zero h e n = rw (eq-eqb c largest64 e) refl
+first_at (c ∷ l) (suc i) h e n = rw (ne_eqb c largest64 (n 0 (omega arith)), first_at l i (omega arith) e (λ k lt. n (suc k) (omega arith))) refl
 
-pub leads_none : (cs : List ℕ) → length cs ≤ first_unlimited cs → 0 ≡ leading_in true cs
+pub leads_at : (cs : List ℕ) (i : ℕ) → i < length cs → get_or cs i 0 ≡ largest64 → ((k : ℕ) → k < i → get_or cs k 0 ≡ largest64 → ⊥)
+    → i ≡ leading_in true cs
 unfolding leading_in
-leads_none cs h = simp (le-ltb (first_unlimited cs) (length cs) h)
+leads_at cs i h e n = let f = first_at cs i h e n in simp (f, lt-ltb i (length cs) h)
+
+-- .. and where there is none
+first_none : (l : List ℕ) → ((k : ℕ) → k < length l → get_or l k 0 ≡ largest64 → ⊥) → first_unlimited l ≡ length l
+unfolding first_unlimited
+first_none [] n = refl
+first_none (c ∷ l) n = rw (ne_eqb c largest64 (n 0 (omega arith)), first_none l (λ k lt. n (suc k) (omega arith))) refl
+
+pub leads_none : (cs : List ℕ) → ((k : ℕ) → k < length cs → get_or cs k 0 ≡ largest64 → ⊥) → 0 ≡ leading_in true cs
+unfolding leading_in
+leads_none cs n = let f = first_none cs n in simp (f, le-ltb (length cs) (length cs) (omega arith))
+
+-- the two cases, as std says what a search finds
+pub leads_found : (cs : List ℕ) (found : Option ℕ) → MatchOption found (AllWithin (λ x. x ≢ largest64) cs 0 (length cs))
+    (λ i. (i < length cs) × HoldsAt (λ x. x ≡ largest64) cs i × AllWithin (λ x. x ≢ largest64) cs 0 i)
+    → unwrap_or found 0 ≡ leading_in true cs
+leads_found cs (Some i) h = leads_at cs i h.0 (h.1 0) (λ k lt. h.2 k 0 (omega arith) lt)
+leads_found cs None h = leads_none cs (λ k lt. h k 0 (omega arith) lt)
 
 -- the lengths of the shapes
 module _ (rank : ℕ) (chunk present maximum : List ℕ) (o : GridOrder) where
-  pub rank_over : (has : Bool) → 32 < rank → Refused (record { number = 3; first = 0; second = 0 }) ≡ shapes_test (given rank chunk present has maximum o)
+  pub rank_over : (has : Bool) → 32 < rank → Err Rank ≡ shapes_test (given rank chunk present has maximum o)
   unfolding shapes_test given refuse ◌then◌
   rank_over has h = simp (lt-ltb 32 rank h)
 
   module _ (small : rank ≤ 32) where
-    pub rank_differs : (has : Bool) → (length chunk ≡ rank → ⊥) → Refused (record { number = 3; first = 0; second = 0 }) ≡ shapes_test (given rank chunk present has maximum o)
+    pub rank_differs : (has : Bool) → (length chunk ≡ rank → ⊥) → Err Rank ≡ shapes_test (given rank chunk present has maximum o)
     unfolding shapes_test given refuse ◌then◌
     rank_differs has n = simp (le-ltb 32 rank small, ne_eqb (length chunk) rank n)
 
     module _ (c : length chunk ≡ rank) where
-      pub present_differs : (has : Bool) → (length present ≡ rank → ⊥) → Refused (record { number = 4; first = 0; second = 0 }) ≡ shapes_test (given rank chunk present has maximum o)
+      pub present_differs : (has : Bool) → (length present ≡ rank → ⊥) → Err PresentRank ≡ shapes_test (given rank chunk present has maximum o)
       unfolding shapes_test given refuse ◌then◌
       present_differs has n = simp (le-ltb 32 rank small, eq-eqb (length chunk) rank c, ne_eqb (length present) rank n)
 
       module _ (p : length present ≡ rank) where
-        pub maximum_differs : (length maximum ≡ rank → ⊥) → Refused (record { number = 5; first = 0; second = 0 }) ≡ shapes_test (given rank chunk present true maximum o)
+        pub maximum_differs : (length maximum ≡ rank → ⊥) → Err MaximumRank ≡ shapes_test (given rank chunk present true maximum o)
         unfolding shapes_test given refuse ◌then◌
         maximum_differs n = simp (le-ltb 32 rank small, eq-eqb (length chunk) rank c, eq-eqb (length present) rank p, ne_eqb (length maximum) rank n)
 
-        pub shapes_agree : (has : Bool) → (has ≡ true → length maximum ≡ rank) → Passed ≡ shapes_test (given rank chunk present has maximum o)
+        pub shapes_agree : (has : Bool) → (has ≡ true → length maximum ≡ rank) → Ok tt ≡ shapes_test (given rank chunk present has maximum o)
         unfolding shapes_test given refuse ◌then◌
         shapes_agree true m = simp (le-ltb 32 rank small, eq-eqb (length chunk) rank c, eq-eqb (length present) rank p, eq-eqb (length maximum) rank (m refl))
         shapes_agree false m = simp (le-ltb 32 rank small, eq-eqb (length chunk) rank c, eq-eqb (length present) rank p)
 
 -- the product of the counts
 module _ (p i : ℕ) (l : List ℕ) where
-  pub product_end : length l ≤ i → product_test p (drop i l) ≡ Passed
+  pub product_end : length l ≤ i → product_test p (drop i l) ≡ Ok tt
   unfolding product_test
   product_end h = rw (drop_of_length-le l {i = i} h) refl
 
   module _ (h : i < length l) where
-    pub product-unlimited : get_or l i 0 ≡ largest64 → product_test p (drop i l) ≡ Passed
+    pub product-unlimited : get_or l i 0 ≡ largest64 → product_test p (drop i l) ≡ Ok tt
     unfolding product_test
     product-unlimited e = rw (drop-cons l i 0 h, eq-eqb (get_or l i 0) largest64 e) refl
 
-    pub product_over : (get_or l i 0 ≡ largest64 → ⊥) → largest64 < p * get_or l i 0 → product_test p (drop i l) ≡ Refused (record { number = 8; first = 0; second = 0 })
+    pub product_over : (get_or l i 0 ≡ largest64 → ⊥) → largest64 < p * get_or l i 0 → product_test p (drop i l) ≡ Err TooManyChunks
     unfolding product_test refuse ◌then◌
     product_over n k = rw (drop-cons l i 0 h, ne_eqb (get_or l i 0) largest64 n, lt-ltb largest64 (p * get_or l i 0) k) refl
 
@@ -153,7 +149,7 @@ module _ (cs : List ℕ) (i : ℕ) (low : 0 < i) (high : i ≤ length cs) where
 -- What the test of the multipliers has where the counts cs from place i on are done.
 pub record Tested (cs : List ℕ) (i m : ℕ) : Type 0 where
   pub within : (min 1 (length cs) ≤ i) × (i ≤ length cs)
-  pub tested : multiplier_test (drop i cs) ≡ Passed
+  pub tested : multiplier_test (drop i cs) ≡ Ok tt
   pub front : m ≡ multiplier (drop i cs)
 
 pub tested_none : (cs : List ℕ) → Tested cs (length cs) 1
@@ -163,7 +159,7 @@ tested_none cs =
     record { within = (omega arith, omega arith); tested = rw e refl; front = rw e refl }
 
 -- a refusal behind is one in front
-pub refused_front : (k : ℕ) (cs : List ℕ) (r : Refusal) → multiplier_test (drop k cs) ≡ Refused r → multiplier_test cs ≡ Refused r
+pub refused_front : (k : ℕ) (cs : List ℕ) (r : Refusal) → multiplier_test (drop k cs) ≡ Err r → multiplier_test cs ≡ Err r
 unfolding multiplier_test ◌then◌
 refused_front zero cs r h = h
 refused_front (suc k) [] r h = h
@@ -176,24 +172,24 @@ module _ (cs : List ℕ) (i m : ℕ) (t : Tested cs i m) (more : 1 < i) where
   next_is : next ≡ multiplier (drop (i - 1) cs)
   next_is = rw t.front (multiplier-before cs i (omega arith) t.within.1)
 
-  test_here : multiplier_test (drop (i - 1) cs) ≡ refuse 7 0 0 (eqb (get_or cs (i - 1) 0) largest64) then refuse 8 0 0 (ltb largest64 next)
+  test_here : multiplier_test (drop (i - 1) cs) ≡ refuse Unlimited (eqb (get_or cs (i - 1) 0) largest64) then refuse TooManyChunks (ltb largest64 next)
   unfolding multiplier_test ◌then◌
   test_here =
       let b = before cs i (omega arith) t.within.1 in
-      ap multiplier_test b ∙ rw t.tested (ap (λ (k : ℕ). refuse 7 0 0 (eqb (get_or cs (i - 1) 0) largest64) then refuse 8 0 0 (ltb largest64 k)) (ap multiplier (sym b) ∙ sym next_is))
+      ap multiplier_test b ∙ rw t.tested (ap (λ (k : ℕ). refuse Unlimited (eqb (get_or cs (i - 1) 0) largest64) then refuse TooManyChunks (ltb largest64 k)) (ap multiplier (sym b) ∙ sym next_is))
 
   -- a refusal here is the whole test's
-  refused_here : (r : Refusal) → multiplier_test (drop (i - 1) cs) ≡ Refused r → multiplier_test (drop 1 cs) ≡ Refused r
+  refused_here : (r : Refusal) → multiplier_test (drop (i - 1) cs) ≡ Err r → multiplier_test (drop 1 cs) ≡ Err r
   refused_here r h =
       let e : 1 + (i - 1 - 1) ≡ i - 1 = omega arith in
       refused_front (i - 1 - 1) (drop 1 cs) r (ap multiplier_test (drop-drop (i - 1 - 1) 1 cs ∙ ap (λ (k : ℕ). drop k cs) e) ∙ h)
 
-  pub tested-unlimited : get_or cs (i - 1) 0 ≡ largest64 → multiplier_test (drop 1 cs) ≡ Refused (record { number = 7; first = 0; second = 0 })
+  pub tested-unlimited : get_or cs (i - 1) 0 ≡ largest64 → multiplier_test (drop 1 cs) ≡ Err Unlimited
   unfolding refuse ◌then◌
   tested-unlimited e = refused_here _ (test_here ∙ rw (eq-eqb (get_or cs (i - 1) 0) largest64 e) refl)
 
   module _ (limited : get_or cs (i - 1) 0 ≡ largest64 → ⊥) where
-    pub tested_over : largest64 < next → multiplier_test (drop 1 cs) ≡ Refused (record { number = 8; first = 0; second = 0 })
+    pub tested_over : largest64 < next → multiplier_test (drop 1 cs) ≡ Err TooManyChunks
     unfolding refuse ◌then◌
     tested_over h = refused_here _ (test_here ∙ rw (ne_eqb (get_or cs (i - 1) 0) largest64 limited, lt-ltb largest64 next h) refl)
 
@@ -205,7 +201,7 @@ module _ (cs : List ℕ) (i m : ℕ) (t : Tested cs i m) (more : 1 < i) where
       front = next_is;
     }
 
-pub tested_all : (cs : List ℕ) (i m : ℕ) → Tested cs i m → i ≤ 1 → multiplier_test (drop 1 cs) ≡ Passed
+pub tested_all : (cs : List ℕ) (i m : ℕ) → Tested cs i m → i ≤ 1 → multiplier_test (drop 1 cs) ≡ Ok tt
 unfolding multiplier_test
 tested_all [] i m t low = refl
 tested_all (c ∷ cs) i m t low =
@@ -213,10 +209,10 @@ tested_all (c ∷ cs) i m t low =
     ap (λ (k : ℕ). multiplier_test (drop k (c ∷ cs))) e ∙ t.tested
 
 -- multipliers that pass fit 64 bits
-pub multiplier-fits : (k : ℕ) (cs : List ℕ) → multiplier_test cs ≡ Passed → multiplier (drop k cs) ≤ largest64
+pub multiplier-fits : (k : ℕ) (cs : List ℕ) → multiplier_test cs ≡ Ok tt → multiplier (drop k cs) ≤ largest64
 unfolding multiplier_test multiplier
 multiplier-fits zero [] h = omega arith
-multiplier-fits zero (c ∷ cs) h = ltb-false largest64 _ (refuse_passed _ _ _ _ (then_passed _ _ (then_passed _ _ (sym h)).1).1)
+multiplier-fits zero (c ∷ cs) h = ltb-false largest64 _ (refuse_passed _ _ (then_passed _ _ (then_passed _ _ (sym h)).1).1)
 multiplier-fits (suc k) [] h = omega arith
 multiplier-fits (suc k) (c ∷ cs) h = multiplier-fits k cs (sym (then_passed _ _ (sym h)).0)
 
@@ -251,7 +247,7 @@ module _ (cs : List ℕ) (i : ℕ) (numbers : Bool) (down : List ℕ) (m : Behin
       ap (λ (k : ℕ). k * max (get_or cs (i - 1) 0) 1) (m.each (i - 1) (omega arith) (omega (arith, m.within)) ∙ ap (λ (k : ℕ). multiplier (drop k cs)) e)
       ∙ multiplier-before cs i (omega arith) m.within.1
 
-  pub made_fits : multiplier_test (drop 1 cs) ≡ Passed → product ≤ largest64
+  pub made_fits : multiplier_test (drop 1 cs) ≡ Ok tt → product ≤ largest64
   made_fits t =
       let e : 1 + (i - 1 - 1) ≡ i - 1 = omega arith in
       rw (product_is ∙ ap multiplier (sym (drop-drop (i - 1 - 1) 1 cs ∙ ap (λ (k : ℕ). drop k cs) e))) (multiplier-fits (i - 1 - 1) (drop 1 cs) t)

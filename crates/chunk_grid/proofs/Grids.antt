@@ -10,11 +10,9 @@ use borrow.Author.Tests.{lt-ltb, le-leb, eq-eqb, ne_eqb, ltb-true, ltb-false, le
 use lib.Dec.{ltb, leb, eqb}
 use lib.ListN.{length, drop}
 use lib.Arith.{digits_lt, digits_div, digits_mod}
+use Rattle.std.specs.Prelude.{Ok, Option, Some}
 use Rattle.refusal.proofs.Tests.{refuse_passed, then_passed, by_cond, false_true, both, neither}
-use Rattle.refusal.specs.declared.Checked.TheVariants.{Passed}
 use Rattle.refusal.specs.Refusals.{largest64}
-use Rattle.chunk_grid.specs.declared.Slot.{Slot}
-use Rattle.chunk_grid.specs.declared.Slot.TheVariants.{At}
 use Rattle.chunk_grid.specs.Grid.{Grid, pairwise, every, any, count_of, counts, first_unlimited, leading_in, leading, to_front, from_front, ordered, multiplier, multipliers, has_zero, numbers_nothing, quotients, offsets, below, aligned, is_chunk, total, slot_from, slot_of, shapes_test, grid_test}
 use Rattle.chunk_grid.proofs.Order.{back_front, front_back, length_front, length_back, length-pairwise, pairwise_front, pairwise_back, same_drop, any_front}
 
@@ -153,17 +151,17 @@ pub record Shaped (g : Grid) : Type 0 where
 same_eqb : (a b : ℕ) → not (eqb a b) ≡ false → a ≡ b
 same_eqb a b h = eqb-true a b (not-false _ h)
 
-pub shaped : (g : Grid) → Passed ≡ shapes_test g → Shaped g
+pub shaped : (g : Grid) → Ok tt ≡ shapes_test g → Shaped g
 unfolding shapes_test
 shaped g h =
     let b = then_passed _ _ h in
     let d = then_passed _ _ b.1 in
-    let r = neither (ltb 32 g.rank) (not (eqb (length g.chunk) g.rank)) (refuse_passed _ _ _ _ b.0) in
+    let r = neither (ltb 32 g.rank) (not (eqb (length g.chunk) g.rank)) (refuse_passed _ _ b.0) in
     record {
       small = ltb-false 32 g.rank r.0;
       chunked = same_eqb _ _ r.1;
-      presented = same_eqb _ _ (refuse_passed _ _ _ _ d.0);
-      bounded = λ m. same_eqb _ _ (rw m at (refuse_passed _ _ _ _ d.1));
+      presented = same_eqb _ _ (refuse_passed _ _ d.0);
+      bounded = λ m. same_eqb _ _ (rw m at (refuse_passed _ _ d.1));
     }
 
 -- what an accepted grid keeps to
@@ -178,7 +176,7 @@ extents_length : (t : Bool) (m p : List ℕ) (n : ℕ) → length p ≡ n → (t
 extents_length true m p n h k = k refl
 extents_length false m p n h k = h
 
-pub accepted : (g : Grid) → grid_test g ≡ Passed → Accepted g
+pub accepted : (g : Grid) → grid_test g ≡ Ok tt → Accepted g
 unfolding grid_test counts
 accepted g h =
     let a = then_passed _ _ (sym h) in
@@ -189,7 +187,7 @@ accepted g h =
       chunked = s.chunked;
       presented = s.presented;
       counted = length-pairwise count_of _ g.chunk (x ∙ sym s.chunked) ∙ x;
-      positive = refuse_passed _ _ _ _ (then_passed _ _ a.1).0;
+      positive = refuse_passed _ _ (then_passed _ _ a.1).0;
     }
 
 -- the leading dimension is one of them
@@ -203,17 +201,17 @@ behind : (s c : ℕ) (cs : List ℕ) → has_zero cs ≡ false → below (drop 1
 unfolding quotients multipliers
 behind s c cs z = below-quotients (s % multiplier cs) cs (mod-lt s (multiplier_pos cs)) z
 
-slot_from_lem : (s : ℕ) (cs : List ℕ) → 0 < length cs → has_zero (drop 1 cs) ≡ false → s ≤ largest64 → slot_from (quotients s (multipliers cs)) cs ≡ At s
+slot_from_lem : (s : ℕ) (cs : List ℕ) → 0 < length cs → has_zero (drop 1 cs) ≡ false → s ≤ largest64 → slot_from (quotients s (multipliers cs)) cs ≡ Some s
 unfolding slot_from
 slot_from_lem s [] h z l = absurd (omega arith)
 slot_from_lem s (c ∷ cs) h z l =
     let b : below (drop 1 (quotients s (multipliers (c ∷ cs)))) cs ≡ true = behind s c cs z in
     rw (sum_quotients s c cs, b, le-leb s largest64 l) refl
 
-slot_from_inv : (qs cs : List ℕ) (s : ℕ) → slot_from qs cs ≡ At s → (below (drop 1 qs) (drop 1 cs) ≡ true) × (s ≡ slot_sum qs cs) × (s ≤ largest64)
+slot_from_inv : (qs cs : List ℕ) (s : ℕ) → slot_from qs cs ≡ Some s → (below (drop 1 qs) (drop 1 cs) ≡ true) × (s ≡ slot_sum qs cs) × (s ≤ largest64)
 unfolding slot_from
 slot_from_inv qs cs s =
-    by_cond (λ (x : Slot). x ≡ At s → (below (drop 1 qs) (drop 1 cs) ≡ true) × (s ≡ slot_sum qs cs) × (s ≤ largest64))
+    by_cond (λ (x : Option ℕ). x ≡ Some s → (below (drop 1 qs) (drop 1 cs) ≡ true) × (s ≡ slot_sum qs cs) × (s ≤ largest64))
     (below (drop 1 qs) (drop 1 cs) && leb (slot_sum qs cs) largest64)
     (λ t h.
     let b = both (below (drop 1 qs) (drop 1 cs)) (leb (slot_sum qs cs) largest64) t in
@@ -249,7 +247,7 @@ module _ (g : Grid) (b : Accepted g) where
   zero_chunk = any_front (λ (c : ℕ). eqb c 0) (leading g) g.chunk (omega (arith, lead, b.chunked)) ∙ b.positive
 
   -- the slot of a slot's offsets is that slot
-  pub slot_offsets : (s : ℕ) → 0 < g.rank → numbers_nothing g ≡ false → s ≤ largest64 → slot_of g (offsets g s) ≡ At s
+  pub slot_offsets : (s : ℕ) → 0 < g.rank → numbers_nothing g ≡ false → s ≤ largest64 → slot_of g (offsets g s) ≡ Some s
   unfolding slot_of offsets numbers_nothing
   slot_offsets s r n l =
       let u = leading g in
@@ -281,7 +279,7 @@ module _ (g : Grid) (b : Accepted g) where
       })
 
   -- the offsets of a chunk's slot are that chunk
-  pub offsets_slot : (corner : List ℕ) (s : ℕ) → is_chunk g corner ≡ true → slot_of g corner ≡ At s → (offsets g s ≡ corner) × (numbers_nothing g ≡ false) × (s ≤ largest64)
+  pub offsets_slot : (corner : List ℕ) (s : ℕ) → is_chunk g corner ≡ true → slot_of g corner ≡ Some s → (offsets g s ≡ corner) × (numbers_nothing g ≡ false) × (s ≤ largest64)
   unfolding slot_of offsets numbers_nothing
   offsets_slot corner s a h =
       let ck = chunk_inv g corner a in

@@ -7,4 +7,3 @@ pub mod Numbered
 pub mod Slots
 pub mod Worked
 pub mod Chunks
-pub mod RefusalNumbers

@@ -7,15 +7,16 @@ use native.Mathlib.Omega.{arith}
 use borrow.Author.Tests.{le-ltb}
 use lib.ListN.{length, get_or, take, drop}
 use lib.Seq.{length-take-le, take_all, take_at, drop_at}
+use Rattle.std.specs.Prelude.{Err, Ok}
+use Rattle.refusal.specs.declared.Refusal.TheVariants.{ChunkLength, Rank}
 use Rattle.refusal.proofs.Tests.{refuse_passed, then_passed}
 use Rattle.refusal.specs.declared.Refusal.{Refusal}
-use Rattle.refusal.specs.declared.Checked.{Checked}
-use Rattle.refusal.specs.declared.Checked.TheVariants.{Passed, Refused}
 use Rattle.refusal.specs.Refusals.{largest64, refuse, ◌then◌}
+use Rattle.refusal.specs.Outcome.{◌yields◌}
 use Rattle.chunk_grid.specs.declared.ChunkGrid.{ChunkGrid}
 use Rattle.chunk_grid.specs.declared.GridOrder.{GridOrder}
-use Rattle.chunk_grid.specs.Grid.{Grid, pairwise, any, ceil_div, count_of, counts, leading_in, leading, to_front, ordered, multipliers, has_zero, numbers_nothing, overflows, shapes_test, multiplier_test, product_test, grid_test, is_unlimited_first, given}
-use Rattle.chunk_grid.specs.Values.{grid_of, numbering_test, counts_test, Made, GridNumbers, GridCounts, Extents}
+use Rattle.chunk_grid.specs.Grid.{Grid, pairwise, any, ceil_div, count_of, counts, leading_in, leading, to_front, ordered, multipliers, has_zero, numbers_nothing, overflows, shapes_test, multiplier_test, grid_test, is_unlimited_first, given}
+use Rattle.chunk_grid.specs.Values.{grid_of, grids, built, numbering_test, counts_test, Made, GridNumbers, GridCounts, Extents}
 use Rattle.chunk_grid.proofs.Grids.{shaped, accepted}
 use Rattle.chunk_grid.proofs.Building.{rank_over, shapes_agree}
 
@@ -30,15 +31,21 @@ none_over l zero h = refl
 none_over [] (suc n) h = refl
 none_over (a ∷ l) (suc n) h = rw (le-ltb largest64 a (h 0)) (none_over l n (λ i. h (suc i)))
 
-pub refused_shapes : (g : Grid) (r : Refusal) → Refused r ≡ shapes_test g → Refused r ≡ grid_test g
+pub refused_shapes : (g : Grid) (r : Refusal) → Err r ≡ shapes_test g → Err r ≡ grid_test g
 unfolding grid_test ◌then◌
 refused_shapes g r e = rw (← e) refl
 
-pub refused_by : (g : Grid) (r : Refusal) (test : Checked) → test ≡ Refused r → test ≡ shapes_test g → Refused r ≡ grid_test g
-refused_by g r test e t = refused_shapes g r (sym e ∙ t)
+-- what building a grid comes to, from its test
+pub built_refused : (g : Grid) (r : Refusal) → Err r ≡ grid_test g → grids (Err r) ≡ built g
+unfolding grids built ◌yields◌
+built_refused g r e = rw (← e) refl
+
+pub built_passed : (g : Grid) (k : ChunkGrid) → Ok tt ≡ grid_test g → grid_of k ≡ g → grids (Ok k) ≡ built g
+unfolding grids built ◌yields◌
+built_passed g k t e = rw (e, ← t) refl
 
 -- the arrays of shapes of one rank describe the grid of these shapes
-pub same_grid : (rank : ℕ) (chunk present maximum c p m : List ℕ) (has : Bool) (o : GridOrder) → Passed ≡ shapes_test (given rank chunk present has maximum o)
+pub same_grid : (rank : ℕ) (chunk present maximum c p m : List ℕ) (has : Bool) (o : GridOrder) → Ok tt ≡ shapes_test (given rank chunk present has maximum o)
     → take (length chunk) c ≡ take 32 chunk → take (length present) p ≡ take 32 present → take (length maximum) m ≡ take 32 maximum
     → grid_of (record { rank = rank; chunk = c; present = p; has_maximum = has; maximum = m; order = o }) ≡ given rank chunk present has maximum o
 unfolding grid_of given
@@ -61,18 +68,12 @@ abbrev pub limits_of : Grid → List ℕ
 limits_of g = cond g.has_maximum g.maximum g.present
 
 -- behind the tests of the shapes
-pub tests : (g : Grid) → shapes_test g ≡ Passed → grid_test g ≡ numbering_test g.unlimited_first (limits_of g) g.chunk
+pub tests : (g : Grid) → shapes_test g ≡ Ok tt → grid_test g ≡ numbering_test g.unlimited_first (limits_of g) g.chunk
 unfolding grid_test numbering_test counts_test ordered leading counts ◌then◌
 tests g e = rw e refl
 
--- the counts' tests, from each one's answer
-pub counts-tested : (b : Bool) (counts : List ℕ) (rotated : ℕ) (behind product checked : Checked) → rotated ≡ leading_in b counts
-    → behind ≡ multiplier_test (drop 1 (to_front rotated counts)) → product ≡ product_test 1 counts → checked ≡ behind then product → checked ≡ counts_test b counts
-unfolding counts_test
-counts-tested b counts rotated behind product checked u t p w = w ∙ rw (t, p, u) refl
-
 module _ (b : Bool) (limits chunk : List ℕ) where
-  pub zero_length : has_zero chunk ≡ true → Refused (record { number = 6; first = 0; second = 0 }) ≡ numbering_test b limits chunk
+  pub zero_length : has_zero chunk ≡ true → Err ChunkLength ≡ numbering_test b limits chunk
   unfolding numbering_test refuse ◌then◌
   zero_length z = rw z refl
 
@@ -80,12 +81,12 @@ module _ (b : Bool) (limits chunk : List ℕ) where
   unfolding numbering_test refuse ◌then◌
   no_zero_length z counts c = rw (z, c) refl
 
-  module _ (passed : numbering_test b limits chunk ≡ Passed) where
+  module _ (passed : numbering_test b limits chunk ≡ Ok tt) where
     pub no_zero : has_zero chunk ≡ false
     unfolding numbering_test
-    no_zero = refuse_passed _ _ _ _ (then_passed _ _ (sym passed)).0
+    no_zero = refuse_passed _ _ (then_passed _ _ (sym passed)).0
 
-    pub multipliers_pass : (counts : List ℕ) (rotated : ℕ) → counts ≡ pairwise count_of limits chunk → rotated ≡ leading_in b counts → multiplier_test (drop 1 (to_front rotated counts)) ≡ Passed
+    pub multipliers_pass : (counts : List ℕ) (rotated : ℕ) → counts ≡ pairwise count_of limits chunk → rotated ≡ leading_in b counts → multiplier_test (drop 1 (to_front rotated counts)) ≡ Ok tt
     unfolding numbering_test counts_test
     multipliers_pass counts rotated c u = rw (u, c) (sym (then_passed _ _ (then_passed _ _ (sym passed)).1).0)
 
@@ -102,7 +103,7 @@ made b limits present chunk counts bound down rotated numbers c d u m = record {
 }
 
 -- what is made of a grid, in arrays
-pub numbered : (g : Grid) (chunk counted bound down : List ℕ) (rotated : ℕ) (numbers : Bool) → grid_test g ≡ Passed → take g.rank chunk ≡ g.chunk → overflows g.present ≡ false
+pub numbered : (g : Grid) (chunk counted bound down : List ℕ) (rotated : ℕ) (numbers : Bool) → grid_test g ≡ Ok tt → take g.rank chunk ≡ g.chunk → overflows g.present ≡ false
     → Made g.unlimited_first (limits_of g) g.present g.chunk rotated numbers (take g.rank counted) (take g.rank bound) (take g.rank down)
     → (GridNumbers g.rank rotated chunk down g) × (GridCounts g.rank counted g) × (Extents g.rank numbers bound g)
 unfolding counts leading ordered numbers_nothing
@@ -113,17 +114,17 @@ numbered g chunk counted bound down rotated numbers t c fit m = (
 )
 
 -- For a value of the code: 3 where its rank is over 32, ..
-pub over_32 : (k : ChunkGrid) → 32 < k.rank → Refused (record { number = 3; first = 0; second = 0 }) ≡ grid_test (grid_of k)
+pub over_32 : (k : ChunkGrid) → 32 < k.rank → Err Rank ≡ grid_test (grid_of k)
 unfolding grid_of
 over_32 k h = refused_shapes (grid_of k) _ (rank_over k.rank (take k.rank k.chunk) (take k.rank k.present) (take k.rank k.maximum) k.order k.has_maximum h)
 
-pub rank_small : (k : ChunkGrid) → grid_test (grid_of k) ≡ Passed → k.rank ≤ 32
+pub rank_small : (k : ChunkGrid) → grid_test (grid_of k) ≡ Ok tt → k.rank ≤ 32
 unfolding grid_of given
 rank_small k t = (accepted (grid_of k) t).small
 
 -- .. else its arrays are shapes of one rank.
 module _ (k : ChunkGrid) (small : k.rank ≤ 32) (sizes : (length k.chunk ≡ 32) × (length k.present ≡ 32) × (length k.maximum ≡ 32)) where
-  shapes_pass : shapes_test (grid_of k) ≡ Passed
+  shapes_pass : shapes_test (grid_of k) ≡ Ok tt
   unfolding grid_of
   shapes_pass =
       sym (shapes_agree k.rank (take k.rank k.chunk) (take k.rank k.present) (take k.rank k.maximum) k.order small
@@ -139,7 +140,7 @@ module _ (k : ChunkGrid) (small : k.rank ≤ 32) (sizes : (length k.chunk ≡ 32
   tests_of = rw (← limits_are) (sym (tests (grid_of k) shapes_pass))
 
   -- what is made, at the beginning of longer lists
-  pub numbering_is : grid_test (grid_of k) ≡ Passed → (a b d x y z : List ℕ) (rotated : ℕ) (numbers : Bool) → length a ≡ k.rank → length b ≡ k.rank → length d ≡ k.rank
+  pub numbering_is : grid_test (grid_of k) ≡ Ok tt → (a b d x y z : List ℕ) (rotated : ℕ) (numbers : Bool) → length a ≡ k.rank → length b ≡ k.rank → length d ≡ k.rank
       → overflows (take k.rank k.present) ≡ false
       → Made (is_unlimited_first k.order) (take k.rank (cond k.has_maximum k.maximum k.present)) (take k.rank k.present) (take k.rank k.chunk) rotated numbers a b d
       → ((GridNumbers k.rank rotated k.chunk (d ++ z) (grid_of k)) × (GridCounts k.rank (a ++ x) (grid_of k)) × (Extents k.rank numbers (b ++ y) (grid_of k)))
@@ -152,14 +153,14 @@ module _ (k : ChunkGrid) (small : k.rank ≤ 32) (sizes : (length k.chunk ≡ 32
   )
 
 -- For the shapes that are given.
-pub given_lengths : (rank : ℕ) (chunk present maximum : List ℕ) (has : Bool) (o : GridOrder) → Passed ≡ shapes_test (given rank chunk present has maximum o)
+pub given_lengths : (rank : ℕ) (chunk present maximum : List ℕ) (has : Bool) (o : GridOrder) → Ok tt ≡ shapes_test (given rank chunk present has maximum o)
     → (has ≡ true → length maximum ≡ length chunk) × (length present ≡ length chunk) × (length chunk ≤ 32)
 unfolding given
 given_lengths rank chunk present maximum has o e =
     let s = shaped (given rank chunk present has maximum o) e in
     (λ h. (rw h at (s.bounded h)) ∙ sym s.chunked, s.presented ∙ sym s.chunked, omega (arith, s.chunked, s.small))
 
-pub tests-given : (rank : ℕ) (chunk present maximum : List ℕ) (has : Bool) (o : GridOrder) → Passed ≡ shapes_test (given rank chunk present has maximum o)
+pub tests-given : (rank : ℕ) (chunk present maximum : List ℕ) (has : Bool) (o : GridOrder) → Ok tt ≡ shapes_test (given rank chunk present has maximum o)
     → numbering_test (is_unlimited_first o) (cond has maximum present) chunk ≡ grid_test (given rank chunk present has maximum o)
 unfolding given
 tests-given rank chunk present maximum true o e = sym (tests (given rank chunk present true maximum o) (sym e))

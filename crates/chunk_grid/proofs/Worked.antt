@@ -3,9 +3,9 @@ use Prim.Native.Nat.{ℕ}
 use mathlib.Core.Path.{◌≡◌, refl}
 use mathlib.Core.Bool.{Bool, true, false}
 use mathlib.Core.List.{[], ◌∷◌}
-use Rattle.refusal.specs.declared.Checked.TheVariants.{Passed, Refused}
+use Rattle.std.specs.Prelude.{Err, Ok, Some}
+use Rattle.refusal.specs.declared.Refusal.TheVariants.{Unlimited}
 use Rattle.refusal.specs.Refusals.{largest64, refuse, ◌then◌}
-use Rattle.chunk_grid.specs.declared.Slot.TheVariants.{At}
 use Rattle.chunk_grid.specs.Grid.{Grid, pairwise, every, any, ceil_div, count_of, counts, first_unlimited, leading_in, leading, to_front, from_front, ordered, multiplier, multipliers, has_zero, quotients, offsets, below, total, slot_from, slot_of, shapes_test, multiplier_test, product_test, grid_test}
 
 abbrev pub twenty : Bool → ℕ → ℕ → Grid
@@ -20,11 +20,11 @@ twenty unlimited_first rows columns = record {
 
 -- In order U it is built, and slot 5 is corner (10, 10).
 pub order_U : (rows columns : ℕ)
-    → (grid_test (twenty true rows columns) ≡ Passed) × (offsets (twenty true rows columns) 5 ≡ 10 ∷ 10 ∷ []) × (slot_of (twenty true rows columns) (10 ∷ 10 ∷ []) ≡ At 5)
+    → (grid_test (twenty true rows columns) ≡ Ok tt) × (offsets (twenty true rows columns) 5 ≡ 10 ∷ 10 ∷ []) × (slot_of (twenty true rows columns) (10 ∷ 10 ∷ []) ≡ Some 5)
 unfolding refuse ◌then◌ pairwise every any ceil_div count_of counts first_unlimited leading_in leading to_front from_front ordered multiplier multipliers has_zero quotients offsets below total slot_from slot_of shapes_test multiplier_test product_test grid_test
 order_U rows columns = (refl, refl, refl)
 
 -- In order R it is 7: the unlimited dimension lies behind the leading one.
-pub order_R : (rows columns : ℕ) → grid_test (twenty false rows columns) ≡ Refused (record { number = 7; first = 0; second = 0 })
+pub order_R : (rows columns : ℕ) → grid_test (twenty false rows columns) ≡ Err Unlimited
 unfolding refuse ◌then◌ pairwise any ceil_div count_of counts first_unlimited leading_in leading to_front ordered multiplier has_zero shapes_test multiplier_test product_test grid_test
 order_R rows columns = refl

@@ -1,13 +1,11 @@
 -- The chunk grid: which slot is which chunk's.
 use Rattle.std.specs.Prelude.{ℕ, suc, ◌+◌, ◌-◌, ◌*◌, ◌/◌, ◌%◌, max, Bool, true, false, not, cond, ◌&&◌, ◌||◌}
-use Rattle.std.specs.Prelude.{List, [], ◌∷◌, ◌++◌, eqb, leb, ltb, length, take, drop}
-use Rattle.refusal.specs.declared.Checked.{Checked}
-use Rattle.refusal.specs.declared.Checked.TheVariants.{Passed}
-use Rattle.refusal.specs.Refusals.{largest64, refuse, ◌then◌}
+use Rattle.std.specs.Prelude.{List, [], ◌∷◌, ◌++◌, eqb, leb, ltb, length, take, drop, None, Ok, Option, Some}
+use Rattle.refusal.specs.declared.Refusal.TheVariants.{Rank, PresentRank, MaximumRank, ChunkLength, Unlimited}
+use Rattle.refusal.specs.declared.Refusal.TheVariants.{TooManyChunks, Corner, NumbersNothing, OffsetOverflow}
+use Rattle.refusal.specs.Refusals.{largest64, refuse, ◌then◌, Checked}
 use Rattle.chunk_grid.specs.declared.GridOrder.{GridOrder}
 use Rattle.chunk_grid.specs.declared.GridOrder.TheVariants.{RowMajor, UnlimitedFirst}
-use Rattle.chunk_grid.specs.declared.Slot.{Slot}
-use Rattle.chunk_grid.specs.declared.Slot.TheVariants.{At, NoSlot}
 
 -- What a grid is built from: its rank, the chunk's lengths and the present extents, whether maximum extents are
 -- given, these, and whether the order is U (UnlimitedFirst) or R (RowMajor).
@@ -128,7 +126,7 @@ below l m = every ltb l m
 
 -- 32 grid numbers nothing; 33 offset past 2^64 − 1, of any dimension.
 unfoldable pub offsets_test : Grid → ℕ → Checked
-offsets_test g s = refuse 32 0 0 (numbers_nothing g) then refuse 33 0 0 (overflows (offsets g s))
+offsets_test g s = refuse NumbersNothing (numbers_nothing g) then refuse OffsetOverflow (overflows (offsets g s))
 
 -- A chunk is an aligned corner below the present extents.
 unfoldable pub aligned : List ℕ → List ℕ → Bool
@@ -139,7 +137,7 @@ is_chunk g corner = eqb (length corner) g.rank && aligned corner g.chunk && belo
 
 -- 10 corner of wrong rank, unaligned or not below the extents.
 unfoldable pub corner_test : Grid → List ℕ → Checked
-corner_test g corner = refuse 10 0 0 (not (is_chunk g corner))
+corner_test g corner = refuse Corner (not (is_chunk g corner))
 
 -- Its slot is the sum, over the dimensions in the grid's order, of offset / chunk length times multiplier.
 unfoldable pub total : List ℕ → ℕ
@@ -147,38 +145,39 @@ total [] = 0
 total (a ∷ l) = a + total l
 
 -- It has no slot if a quotient behind the leading one isn't below its count, or if the slot would pass 2^64 − 1.
-unfoldable pub slot_from : List ℕ → List ℕ → Slot
+unfoldable pub slot_from : List ℕ → List ℕ → Option ℕ
 slot_from qs cs =
     let s = total (pairwise ◌*◌ qs (multipliers cs)) in
-    cond (below (drop 1 qs) (drop 1 cs) && leb s largest64) (At s) NoSlot
+    cond (below (drop 1 qs) (drop 1 cs) && leb s largest64) (Some s) None
 
-unfoldable pub slot_of : Grid → List ℕ → Slot
+unfoldable pub slot_of : Grid → List ℕ → Option ℕ
 slot_of g corner = slot_from (pairwise ◌/◌ (to_front (leading g) corner) (to_front (leading g) g.chunk)) (ordered g)
 
 -- 3 rank over 32, or a chunk shape of another rank; 4 present rank differs; 5 maximum rank differs.
 unfoldable pub shapes_test : Grid → Checked
 shapes_test g =
-    refuse 3 0 0 (ltb 32 g.rank || not (eqb (length g.chunk) g.rank))
-    then refuse 4 0 0 (not (eqb (length g.present) g.rank))
-    then refuse 5 0 0 (g.has_maximum && not (eqb (length g.maximum) g.rank))
+    refuse Rank (ltb 32 g.rank || not (eqb (length g.chunk) g.rank))
+    then refuse PresentRank (not (eqb (length g.present) g.rank))
+    then refuse MaximumRank (g.has_maximum && not (eqb (length g.maximum) g.rank))
 
 -- The multipliers from the last forward, each 7 (an unlimited dimension where a count is needed), then 8 (more chunks
 -- than 2^64 − 1 can number): the multipliers of the counts behind the leading one.
 unfoldable pub multiplier_test : List ℕ → Checked
-multiplier_test [] = Passed
+multiplier_test [] = Ok tt
 multiplier_test (c ∷ cs) =
-    multiplier_test cs then refuse 7 0 0 (unlimited c)
-    then refuse 8 0 0 (ltb largest64 (multiplier (c ∷ cs)))
+    multiplier_test cs then refuse Unlimited (unlimited c)
+    then refuse TooManyChunks (ltb largest64 (multiplier (c ∷ cs)))
 
 -- The product of all counts in dimension order, up to an unlimited one, 8.
 unfoldable pub product_test : ℕ → List ℕ → Checked
-product_test p [] = Passed
-product_test p (c ∷ cs) = cond (unlimited c) Passed (refuse 8 0 0 (ltb largest64 (p * c)) then product_test (p * c) cs)
+product_test p [] = Ok tt
+product_test p (c ∷ cs) =
+    cond (unlimited c) (Ok tt) (refuse TooManyChunks (ltb largest64 (p * c)) then product_test (p * c) cs)
 
 -- 3 to 5; 6 a chunk length 0; the multipliers; the product.
 unfoldable pub grid_test : Grid → Checked
 grid_test g =
     shapes_test g
-    then refuse 6 0 0 (has_zero g.chunk)
+    then refuse ChunkLength (has_zero g.chunk)
     then multiplier_test (drop 1 (ordered g))
     then product_test 1 (counts g)

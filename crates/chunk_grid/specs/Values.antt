@@ -1,14 +1,10 @@
 -- What the code's values stand for.
-use Rattle.std.specs.Prelude.{ℕ, zero, suc, ◌≡◌, Bool, false, not, cond, List, [], ◌∷◌, ltb, eqb, take, drop}
-use Rattle.std.proofs.Math.Option.{Option, none, some}
-use Rattle.refusal.specs.declared.Checked.{Checked}
-use Rattle.refusal.specs.declared.Checked.TheVariants.{Passed, Refused}
-use Rattle.refusal.specs.Refusals.{refuse, ◌then◌}
-use Rattle.refusal.specs.Outcome.{Outcome, refused, accepted, ◌yields◌}
+use Rattle.std.specs.Prelude.{Err, None, Ok, Option, Some}
+use Rattle.std.specs.Prelude.{ℕ, zero, suc, ◌≡◌, Bool, true, false, not, cond, List, ltb, take, drop}
+use Rattle.refusal.specs.declared.Refusal.TheVariants.{ChunkLength}
+use Rattle.refusal.specs.Refusals.{refuse, ◌then◌, Checked, Outcome}
+use Rattle.refusal.specs.Outcome.{◌yields◌}
 use Rattle.chunk_grid.specs.declared.ChunkGrid.{ChunkGrid}
-use Rattle.chunk_grid.specs.declared.GridOrder.TheVariants.{RowMajor}
-use Rattle.chunk_grid.specs.declared.Offsets.{Offsets}
-use Rattle.chunk_grid.specs.declared.Offsets.TheVariants.{Inside, Dropped, Refused as OffsetsRefused}
 use Rattle.chunk_grid.specs.Grid.{Grid, pairwise, ceil_div, count_of, counts, leading_in, leading, to_front}
 use Rattle.chunk_grid.specs.Grid.{ordered, multipliers, has_zero, numbers_nothing, offsets, overflows, below}
 use Rattle.chunk_grid.specs.Grid.{offsets_test, multiplier_test, product_test, grid_test, given}
@@ -19,15 +15,14 @@ grid_of k =
     given k.rank (take k.rank k.chunk) (take k.rank k.present) k.has_maximum
     (take k.rank k.maximum) k.order
 
--- a grid where its test has passed, else the one of rank 0
-unfoldable pub where_tested : Checked → Grid → Grid
-where_tested Passed g = g
-where_tested (Refused r) g = given 0 [] [] false [] RowMajor
+-- the grid that an answer's value describes
+unfoldable pub grids : Outcome ChunkGrid → Outcome Grid
+grids (Ok k) = Ok (grid_of k)
+grids (Err r) = Err r
 
--- the place of the first member that is v; the list's length where there is none
-unfoldable pub place_of : ℕ → List ℕ → ℕ
-place_of v [] = 0
-place_of v (c ∷ cs) = cond (eqb c v) 0 (suc (place_of v cs))
+-- what building a grid comes to: the grid, where it passes its test
+unfoldable pub built : Grid → Outcome Grid
+built g = grid_test g yields Ok g
 
 -- the dimension at place i of the grid's order
 unfoldable pub dim_at : ℕ → ℕ → ℕ
@@ -42,7 +37,7 @@ counts_test unlimited_first cs =
 -- the tests behind those of the shapes, over the extents that the counts are taken from
 unfoldable pub numbering_test : Bool → List ℕ → List ℕ → Checked
 numbering_test unlimited_first limits chunk =
-    refuse 6 0 0 (has_zero chunk)
+    refuse ChunkLength (has_zero chunk)
     then counts_test unlimited_first (pairwise count_of limits chunk)
 
 -- what is made where these have passed
@@ -57,7 +52,7 @@ pub record Made (unlimited_first : Bool) (limits present chunk : List ℕ) (rota
 -- What is made of a built grid g once: the leading dimension, and the multipliers in the grid's order, beside the
 -- chunk's lengths.
 pub record GridNumbers (rank rotated : ℕ) (chunk down : List ℕ) (g : Grid) : Type 0 where
-  pub built : grid_test g ≡ Passed
+  pub built : grid_test g ≡ Ok tt
   pub ranked : rank ≡ g.rank
   pub leads : rotated ≡ leading g
   pub chunks : take rank chunk ≡ g.chunk
@@ -77,11 +72,11 @@ pub record Extents (rank : ℕ) (numbers : Bool) (bound : List ℕ) (g : Grid) :
 -- What a slot's offsets come to: 32, 33, else the offsets where all of them lie below the present extents. A slot whose
 -- offsets don't is dropped, without refusal.
 unfoldable pub in_extent : Grid → ℕ → Outcome (Option (List ℕ))
-in_extent g s = offsets_test g s yields accepted (cond (below (offsets g s) g.present) (some (offsets g s)) none)
+in_extent g s = offsets_test g s yields Ok (cond (below (offsets g s) g.present) (Some (offsets g s)) None)
 
--- What computing them answers. Refused: the refusal's number and figures. Accepted: number 0, and that the slot is
--- dropped or lies inside; its offsets are handed over beside the answer.
-unfoldable pub offsets_of : Outcome (Option (List ℕ)) → Offsets
-offsets_of (refused r) = OffsetsRefused r
-offsets_of (accepted none) = Dropped
-offsets_of (accepted (some corner)) = Inside
+-- What computing them answers: the refusal, or whether the slot lies inside; its offsets are handed over beside the
+-- answer.
+unfoldable pub offsets_of : Outcome (Option (List ℕ)) → Outcome Bool
+offsets_of (Err r) = Err r
+offsets_of (Ok None) = Ok false
+offsets_of (Ok (Some corner)) = Ok true

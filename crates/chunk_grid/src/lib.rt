@@ -1,16 +1,13 @@
 #![tactic(auto)]
 // The chunk grid: which slot of a chunk index is which chunk's.
-ghost use Rattle.std.specs.Prelude.{◌≡◌, false, not, cond, ◌-◌, ◌<◌, ◌≤◌, max, length, take, drop};
-ghost use Rattle.refusal.specs.declared.Checked.TheVariants.{Passed, Refused};
-ghost use Rattle.refusal.specs.Refusals.{◌then◌};
+ghost use Rattle.std.specs.Prelude.{◌≡◌, false, not, cond, ◌-◌, ◌<◌, ◌≤◌, length, take, drop, Ok};
 ghost use Rattle.chunk_grid.specs.Grid.{pairwise, ceil_div, count_of, leading_in, to_front, multipliers, has_zero};
 ghost use Rattle.chunk_grid.specs.Grid.{is_unlimited_first, given};
 ghost use Rattle.chunk_grid.specs.Grid.{shapes_test, multiplier_test, product_test, grid_test};
-ghost use Rattle.chunk_grid.specs.Values.{grid_of, where_tested, place_of, dim_at, numbering_test, counts_test, Made};
+ghost use Rattle.chunk_grid.specs.Values.{grid_of, grids, built, dim_at, numbering_test, counts_test, Made};
 ghost use Rattle.chunk_grid.specs.Values.{GridNumbers, GridCounts, Extents};
 
-use fields::convert::{Exact, checked_mul};
-use refusal::{Checked, Refusal};
+use refusal::Refusal;
 
 // How a chunk index numbers its slots: dimensions in their order, or the first unlimited one in front.
 #[derive(Clone, Copy)]
@@ -39,30 +36,8 @@ pub struct Numbering {
     pub numbers: bool,
 }
 
-// What a slot's offsets come to.
-#[derive(Clone, Copy)]
-pub enum Offsets {
-    Inside,
-    Dropped,
-    Refused(Refusal),
-}
-
-// A grid, where its test has passed; else one of rank 0.
-#[derive(Clone, Copy)]
-pub struct Built {
-    pub checked: Checked,
-    pub grid: ChunkGrid,
-}
-
-// The slot of a chunk.
-#[derive(Clone, Copy)]
-pub enum Slot {
-    At(u64),
-    NoSlot,
-}
-
 impl ChunkGrid {
-    // The grid of these shapes; without a maximum its present extents bound it.
+    // The grid of these shapes, where it passes its test; without a maximum its present extents bound it.
     pub fn new(
         rank: u64,
         chunk: &[u64],
@@ -70,46 +45,28 @@ impl ChunkGrid {
         has_maximum: bool,
         maximum: &[u64],
         order: GridOrder,
-    ) -> Built
-        ensures checked { result.checked
-            ≡ grid_test (given rank chunk.now present.now has_maximum
-            maximum.now order) }
-        ensures grid { grid_of result.grid
-            ≡ where_tested result.checked (given rank chunk.now present.now has_maximum
-            maximum.now order) }
+    ) -> Result<ChunkGrid, Refusal>
+        ensures { grids result ≡ built (given rank chunk.now present.now has_maximum maximum.now order) }
     {
-        let shapes = shapes_test(rank, chunk, present, has_maximum, maximum);
-        if let Checked::Refused(r) = shapes {
-            return refused_grid(r);
-        }
-        let checked = if has_maximum {
-            numbering_test(maximum, chunk, order)
-        } else {
-            numbering_test(present, chunk, order)
-        };
-        if let Checked::Refused(r) = checked {
-            return refused_grid(r);
-        }
-        let chunk = padded(chunk);
-        let present = padded(present);
-        let maximum = padded(maximum);
-        let grid = ChunkGrid {
+        shapes_test(rank, chunk, present, has_maximum, maximum)?;
+        let limits = if has_maximum { maximum } else { present };
+        numbering_test(limits, chunk, order)?;
+        Ok(ChunkGrid {
             rank,
-            chunk,
-            present,
+            chunk: padded(chunk),
+            present: padded(present),
             has_maximum,
-            maximum,
+            maximum: padded(maximum),
             order,
-        };
-        Built { checked, grid }
+        })
     }
 
     // Tests a grid; one that `new` has built passes.
-    pub fn test(self) -> Checked
+    pub fn test(self) -> Result<(), Refusal>
         ensures { result ≡ grid_test (grid_of self) }
     {
         if 32 < self.rank {
-            return refused(Refusal::RANK);
+            return Err(Refusal::Rank);
         }
         let rank = self.rank as usize;
         let chunk = self.chunk;
@@ -122,7 +79,7 @@ impl ChunkGrid {
     // reaches into; and the multipliers, in the grid's order. The members behind these `rank` numbers are left as
     // they were.
     pub fn numbering(self, counts: &mut [u64], bound: &mut [u64], down: &mut [u64]) -> Numbering
-        requires { (grid_test (grid_of self) ≡ Passed)
+        requires { (grid_test (grid_of self) ≡ Ok tt)
             × (32 ≤ length counts.old) × (32 ≤ length bound.old) × (32 ≤ length down.old) }
         ensures numbers { GridNumbers self.rank result.rotated self.chunk down.new (grid_of self)
             × GridCounts self.rank counts.new (grid_of self)
@@ -159,70 +116,6 @@ impl ChunkGrid {
     }
 }
 
-// Refused with this number, which names no figures.
-pub fn refused(number: u64) -> Checked
-    ensures { result ≡ Refused (record { number = number; first = 0; second = 0 }) }
-{
-    Checked::Refused(Refusal::plain(number))
-}
-
-pub fn refused_grid(r: Refusal) -> Built
-    ensures { (result.checked ≡ Refused r) × (grid_of result.grid ≡ where_tested (Refused r) (grid_of result.grid)) }
-{
-    let zeros = [0u64; 32];
-    let grid = ChunkGrid {
-        rank: 0,
-        chunk: zeros,
-        present: zeros,
-        has_maximum: false,
-        maximum: zeros,
-        order: GridOrder::RowMajor,
-    };
-    Built {
-        checked: Checked::Refused(r),
-        grid,
-    }
-}
-
-// The second test counts only where the first has passed.
-fn and_then(first: Checked, second: Checked) -> Checked
-    ensures { result ≡ first then second }
-{
-    match first {
-        Checked::Passed => second,
-        Checked::Refused(r) => Checked::Refused(r),
-    }
-}
-
-// The place of the first member of s that is `value`; the length of s where there is none.
-fn place_of(s: &[u64], value: u64) -> usize
-    ensures { result ≡ place_of value s.now }
-{
-    let mut i = 0;
-    // No member before place i is `value`.
-    while i < s.len() {
-        if s[i] == value {
-            return i;
-        }
-        i += 1;
-    }
-    i
-}
-
-fn has_zero(s: &[u64]) -> bool
-    ensures { result ≡ has_zero s.now }
-{
-    place_of(s, 0) < s.len()
-}
-
-// a / b, rounded up.
-pub fn ceil_div(a: u64, b: u64) -> u64
-    requires { 0 < b }
-    ensures { result ≡ ceil_div a b }
-{
-    if a % b == 0 { a / b } else { a / b + 1 }
-}
-
 // A dimension's chunk count.
 fn count_of(extent: u64, length: u64) -> u64
     requires { 0 < length }
@@ -231,7 +124,7 @@ fn count_of(extent: u64, length: u64) -> u64
     if extent == u64::MAX {
         u64::MAX
     } else {
-        ceil_div(extent, length)
+        extent.div_ceil(length)
     }
 }
 
@@ -241,11 +134,9 @@ fn counts_of(counts: &mut [u64], limits: &[u64], chunk: &[u64])
         × (has_zero chunk.now ≡ false) }
     ensures { counts.new ≡ pairwise count_of limits.now chunk.now }
 {
-    let mut i = 0;
     // The first i dimensions' counts are stored.
-    while i < chunk.len() {
+    for i in 0..chunk.len() {
         counts[i] = count_of(limits[i], chunk[i]);
-        i += 1;
     }
 }
 
@@ -255,11 +146,9 @@ fn bounds_of(bound: &mut [u64], present: &[u64], chunk: &[u64])
         × (has_zero chunk.now ≡ false) }
     ensures { bound.new ≡ pairwise ceil_div present.now chunk.now }
 {
-    let mut i = 0;
     // The first i dimensions' numbers are stored.
-    while i < chunk.len() {
-        bound[i] = ceil_div(present[i], chunk[i]);
-        i += 1;
+    for i in 0..chunk.len() {
+        bound[i] = present[i].div_ceil(chunk[i]);
     }
 }
 
@@ -269,85 +158,73 @@ fn leading(order: GridOrder, counts: &[u64]) -> usize
 {
     match order {
         GridOrder::RowMajor => 0,
-        GridOrder::UnlimitedFirst => {
-            let u = place_of(counts, u64::MAX);
-            if u < counts.len() { u } else { 0 }
-        }
+        GridOrder::UnlimitedFirst => counts
+            .iter()
+            .position(|count| *count == u64::MAX)
+            .unwrap_or(0),
     }
-}
-
-fn at_least_one(n: u64) -> u64
-    ensures { result ≡ max n 1 }
-{
-    if n == 0 { 1 } else { n }
 }
 
 // The multipliers from the last dimension forward: the last is 1, each earlier one the next one times the following
 // count. Answers whether none of these counts is 0.
 fn multipliers_of(down: &mut [u64], counts: &[u64], rotated: usize) -> bool
     requires { (length down.old ≡ length counts.now) × (rotated ≤ length counts.now - 1)
-        × (multiplier_test (drop 1 (to_front rotated counts.now)) ≡ Passed) }
+        × (multiplier_test (drop 1 (to_front rotated counts.now)) ≡ Ok tt) }
     ensures { (result ≡ not (has_zero (drop 1 (to_front rotated counts.now))))
         × (down.new ≡ multipliers (to_front rotated counts.now)) }
 {
-    let mut numbers = true;
-    let mut i = counts.len();
-    if i == 0 {
-        return numbers;
+    let rank = counts.len();
+    if rank == 0 {
+        return true;
     }
-    down[i - 1] = 1;
+    down[rank - 1] = 1;
+    let mut numbers = true;
     // The multipliers from place i - 1 on are stored; `numbers` says whether the counts from place i on are all above
     // 0.
-    while 1 < i {
-        i -= 1;
+    for i in (1..rank).rev() {
         let count = counts[dim_at(i, rotated)];
-        down[i - 1] = down[i] * at_least_one(count);
+        down[i - 1] = down[i] * count.max(1);
         numbers = numbers & (count != 0);
     }
     numbers
 }
 
 // Tests the multipliers, from the last dimension forward.
-fn multiplier_test(counts: &[u64], rotated: usize) -> Checked
+fn multiplier_test(counts: &[u64], rotated: usize) -> Result<(), Refusal>
     requires { rotated ≤ length counts.now - 1 }
     ensures { result ≡ multiplier_test (drop 1 (to_front rotated counts.now)) }
 {
     let mut multiplier = 1u64;
-    let mut i = counts.len();
     // The counts from place i on pass, and `multiplier` is the one in front of them.
-    while 1 < i {
-        i -= 1;
+    for i in (1..counts.len()).rev() {
         let count = counts[dim_at(i, rotated)];
         if count == u64::MAX {
-            return refused(Refusal::UNLIMITED);
+            return Err(Refusal::Unlimited);
         }
-        let Exact::Fits(next) = checked_mul(multiplier, at_least_one(count)) else {
-            return refused(Refusal::TOO_MANY_CHUNKS);
+        let Some(next) = multiplier.checked_mul(count.max(1)) else {
+            return Err(Refusal::TooManyChunks);
         };
         multiplier = next;
     }
-    Checked::Passed
+    Ok(())
 }
 
 // Tests the product of all counts in dimension order, up to an unlimited one.
-fn product_test(counts: &[u64]) -> Checked
+fn product_test(counts: &[u64]) -> Result<(), Refusal>
     ensures { result ≡ product_test 1 counts.now }
 {
     let mut product = 1u64;
-    let mut i = 0;
-    // The product of the first i counts, none of them unlimited, fits 64 bits.
-    while i < counts.len() {
-        let count = counts[i];
-        if count == u64::MAX {
-            return Checked::Passed;
+    // The product of the counts so far, none of them unlimited, fits 64 bits.
+    for count in counts {
+        if *count == u64::MAX {
+            return Ok(());
         }
-        let Exact::Fits(next) = checked_mul(product, count) else {
-            return refused(Refusal::TOO_MANY_CHUNKS);
+        let Some(next) = product.checked_mul(*count) else {
+            return Err(Refusal::TooManyChunks);
         };
         product = next;
-        i += 1;
     }
-    Checked::Passed
+    Ok(())
 }
 
 // Makes every number of a grid whose shapes have one rank and that passes its tests.
@@ -363,7 +240,7 @@ fn number(
     requires { (length counts.old ≡ length chunk.now) × (length bound.old ≡ length chunk.now)
         × (length down.old ≡ length chunk.now) × (length limits.now ≡ length chunk.now)
         × (length present.now ≡ length chunk.now)
-        × (numbering_test (is_unlimited_first order) limits.now chunk.now ≡ Passed) }
+        × (numbering_test (is_unlimited_first order) limits.now chunk.now ≡ Ok tt) }
     ensures { Made (is_unlimited_first order) limits.now present.now chunk.now
         result.rotated result.numbers counts.new bound.new down.new }
 {
@@ -394,35 +271,35 @@ fn shapes_test(
     present: &[u64],
     has_maximum: bool,
     maximum: &[u64],
-) -> Checked
+) -> Result<(), Refusal>
     ensures { (o : GridOrder)
         → result ≡ shapes_test (given rank chunk.now present.now has_maximum
         maximum.now o) }
 {
     if 32 < rank {
-        return refused(Refusal::RANK);
+        return Err(Refusal::Rank);
     }
     if chunk.len() as u64 != rank {
-        return refused(Refusal::RANK);
+        return Err(Refusal::Rank);
     }
     if present.len() as u64 != rank {
-        return refused(Refusal::PRESENT_RANK);
+        return Err(Refusal::PresentRank);
     }
     if has_maximum {
         if maximum.len() as u64 != rank {
-            return refused(Refusal::MAXIMUM_RANK);
+            return Err(Refusal::MaximumRank);
         }
     }
-    Checked::Passed
+    Ok(())
 }
 
 // The tests of a grid whose shapes have one rank.
-fn numbering_test(limits: &[u64], chunk: &[u64], order: GridOrder) -> Checked
+fn numbering_test(limits: &[u64], chunk: &[u64], order: GridOrder) -> Result<(), Refusal>
     requires { (length limits.now ≡ length chunk.now) × (length chunk.now ≤ 32) }
     ensures { result ≡ numbering_test (is_unlimited_first order) limits.now chunk.now }
 {
-    if has_zero(chunk) {
-        return refused(Refusal::CHUNK_LENGTH);
+    if chunk.contains(&0) {
+        return Err(Refusal::ChunkLength);
     }
     let mut counts = [0u64; 32];
     let n = chunk.len();
@@ -431,11 +308,11 @@ fn numbering_test(limits: &[u64], chunk: &[u64], order: GridOrder) -> Checked
 }
 
 // The tests of a grid's counts: the multipliers, then the product.
-fn counts_test(counts: &[u64], order: GridOrder) -> Checked
+fn counts_test(counts: &[u64], order: GridOrder) -> Result<(), Refusal>
     ensures { result ≡ counts_test (is_unlimited_first order) counts.now }
 {
-    let rotated = leading(order, counts);
-    and_then(multiplier_test(counts, rotated), product_test(counts))
+    multiplier_test(counts, leading(order, counts))?;
+    product_test(counts)
 }
 
 // The numbers of s in an array, up to 32 of them.
@@ -443,14 +320,7 @@ fn padded(s: &[u64]) -> [u64; 32]
     ensures { take (length s.now) result ≡ take 32 s.now }
 {
     let mut r = [0u64; 32];
-    let mut i = 0;
-    // The first i members of r are those of s.
-    while i < 32 {
-        if s.len() <= i {
-            return r;
-        }
-        r[i] = s[i];
-        i += 1;
-    }
+    let n = s.len().min(32);
+    r[..n].copy_from_slice(&s[..n]);
     r
 }

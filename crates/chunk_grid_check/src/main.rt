@@ -2,15 +2,14 @@
 // Prints what the grids of its input answer: refusals, the numbers of a grid, the offsets of slots, and the slot of a
 // corner. The input is numbers in decimal: how many cases, and each case. A case begins with 0 where its shapes are
 // numbers, else they are bytes; a list is its length and its members.
-ghost use Rattle.std.specs.Prelude.{◌≡◌, ◌≤◌, length};
-ghost use Rattle.refusal.specs.declared.Checked.TheVariants.{Passed};
+ghost use Rattle.std.specs.Prelude.{◌≡◌, ◌≤◌, length, Ok};
 ghost use Rattle.chunk_grid.specs.Grid.{Grid, grid_test};
 ghost use Rattle.chunk_grid.specs.Values.{grid_of, GridNumbers, GridCounts, Extents};
 
 use check_lines::{list, number, print_first, print_numbers, print_refusal};
-use chunk_grid::{Built, ChunkGrid, GridOrder, Numbering, Offsets, Slot};
+use chunk_grid::{ChunkGrid, GridOrder, Numbering};
 use chunk_slots::{corner_test, offsets_in_extent, slot_of};
-use refusal::{Checked, Refusal};
+use refusal::Refusal;
 use shapes::{grid_from_bytes, read_shape};
 use std::io;
 use std::io::Read;
@@ -68,9 +67,9 @@ fn print_slot(
         down,
     );
     match found {
-        Offsets::Inside => {}
-        Offsets::Dropped => print!(rt; " dropped")?,
-        Offsets::Refused(r) => print_refusal(rt, r)?,
+        Ok(true) => {}
+        Ok(false) => print!(rt; " dropped")?,
+        Err(r) => print_refusal(rt, r)?,
     }
     print_first(rt, &offsets, rank)?;
     println!(rt)
@@ -104,14 +103,14 @@ fn print_corner(
     counts: &[u64; 32],
     down: &[u64; 32],
 ) -> io::Result<()>
-    requires { (grid_test (grid_of grid) ≡ Passed)
+    requires { (grid_test (grid_of grid) ≡ Ok tt)
         × (GridNumbers grid.rank numbering.rotated grid.chunk down.now (grid_of grid))
         × (GridCounts grid.rank counts.now (grid_of grid)) }
 {
     print!(rt; "  corner")?;
     print_numbers(rt, corner)?;
     print!(rt; ":")?;
-    if let Checked::Refused(r) = corner_test(grid, corner) {
+    if let Err(r) = corner_test(grid, corner) {
         return print_refusal(rt, r);
     }
     if corner.len() as u64 != grid.rank {
@@ -120,26 +119,27 @@ fn print_corner(
     let chunk = grid.chunk;
     let rotated = numbering.rotated as usize;
     match slot_of(corner, rotated, &chunk, counts, down) {
-        Slot::At(s) => print!(rt; " {s}"),
-        Slot::NoSlot => print!(rt; " none"),
+        Some(slot) => print!(rt; " {slot}"),
+        None => print!(rt; " none"),
     }
 }
 
 // A built grid's numbers, what the slots from `from` to `to` come to, and a corner.
 fn print_built(
     rt: &impl Print,
-    built: Built,
+    built: Result<ChunkGrid, Refusal>,
     from: u64,
     to: u64,
     corner: &[u64],
 ) -> io::Result<()> {
-    let checked = built.checked;
-    if let Checked::Refused(r) = checked {
-        print_refusal(rt, r)?;
-        return println!(rt);
-    }
-    let grid = built.grid;
-    if let Checked::Refused(r) = grid.test() {
+    let grid = match built {
+        Ok(grid) => grid,
+        Err(r) => {
+            print_refusal(rt, r)?;
+            return println!(rt);
+        }
+    };
+    if let Err(r) = grid.test() {
         return print_refusal(rt, r);
     }
     let mut counts = [0u64; 32];
@@ -157,16 +157,11 @@ fn print_built(
 fn bytes_of(out: &mut [u8], numbers: &[u64]) -> usize
     ensures { result ≤ length out.old }
 {
-    let mut i = 0;
-    // The first i numbers are stored.
-    while i < out.len() {
-        if numbers.len() <= i {
-            return i;
-        }
-        out[i] = (numbers[i] % 256) as u8;
-        i += 1;
+    let room = out.len();
+    for (byte, n) in out.iter_mut().zip(numbers) {
+        *byte = (*n % 256) as u8;
     }
-    i
+    numbers.len().min(room)
 }
 
 // A grid whose shapes and corner are given as bytes, without slots.
@@ -204,7 +199,12 @@ fn print_bytes(
 }
 
 // The corner of the first n numbers.
-fn print_shape(rt: &impl Print, built: Built, shape: &[u64; 32], n: u64) -> io::Result<()> {
+fn print_shape(
+    rt: &impl Print,
+    built: Result<ChunkGrid, Refusal>,
+    shape: &[u64; 32],
+    n: u64,
+) -> io::Result<()> {
     if n <= 32 {
         print_built(rt, built, 0, 0, &shape[..n as usize])?;
     }

@@ -11,8 +11,8 @@ use borrow.Author.Tests.{lt-ltb, le-leb, lt-leb, leb-true, ltb-true, not-true}
 use lib.Dec.{leb}
 use lib.ListN.{length, get_or, take, drop, length-take, drop_of_length-le}
 use lib.Seq.{drop-cons, get_or-take}
+use Rattle.std.specs.Prelude.{Ok}
 use Rattle.refusal.proofs.Tests.{both, false_true}
-use Rattle.chunk_grid.specs.declared.Offsets.TheVariants.{Inside}
 use Rattle.chunk_grid.specs.Grid.{Grid, every, ceil_div, ordered, multiplier, multipliers, quotients, offsets, below, numbers_nothing}
 use Rattle.chunk_grid.specs.Values.{dim_at, GridNumbers, Extents, in_extent, offsets_of}
 use Rattle.chunk_slots.specs.AllInside.{all_below, all_inside}
@@ -82,7 +82,7 @@ module _ (g : Grid) (rank u : ℕ) (chunk down : List ℕ) (n : GridNumbers rank
   unasked e = rw (← x.numbering, e) refl
 
   -- what the answer says of each slot
-  pub all_inside_lem : all_inside g k ≡ true → (s : ℕ) → s < k → offsets_of (in_extent g s) ≡ Inside
+  pub all_inside_lem : all_inside g k ≡ true → (s : ℕ) → s < k → offsets_of (in_extent g s) ≡ Ok true
   unfolding all_inside
   all_inside_lem h s l =
       let t = both (not (numbers_nothing g)) _ h in

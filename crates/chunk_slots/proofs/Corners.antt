@@ -11,11 +11,10 @@ use borrow.Author.Tests.{lt-ltb, le-ltb, le-leb, lt-leb, ne_eqb, eqb-false}
 use lib.Dec.{eqb, leb, ltb}
 use lib.ListN.{length, get_or, take, drop, length-take, drop_of_length-le}
 use lib.Seq.{drop-cons, get_or-take, length-take-le}
-use Rattle.refusal.specs.declared.Checked.TheVariants.{Passed, Refused}
+use Rattle.std.specs.Prelude.{Err, None, Ok, Option, Some}
+use Rattle.refusal.specs.declared.Refusal.TheVariants.{Corner}
 use Rattle.refusal.specs.Refusals.{largest64, refuse}
 use Rattle.chunk_grid.specs.declared.ChunkGrid.{ChunkGrid}
-use Rattle.chunk_grid.specs.declared.Slot.{Slot}
-use Rattle.chunk_grid.specs.declared.Slot.TheVariants.{At, NoSlot}
 use Rattle.chunk_grid.specs.Grid.{Grid, pairwise, every, to_front, ordered, multipliers, has_zero, below, aligned, is_chunk, corner_test, total, slot_from, slot_of, grid_test, given}
 use Rattle.chunk_grid.specs.Values.{grid_of, dim_at, GridNumbers, GridCounts}
 use Rattle.refusal.proofs.Tests.{lt_or_ge}
@@ -27,28 +26,28 @@ use Rattle.chunk_slots.proofs.Extents.{leads, rooms, chunk_are}
 
 -- the test of a corner
 module _ (g : Grid) (corner : List ℕ) where
-  no_chunk : is_chunk g corner ≡ false → Refused (record { number = 10; first = 0; second = 0 }) ≡ corner_test g corner
+  no_chunk : is_chunk g corner ≡ false → Err Corner ≡ corner_test g corner
   unfolding corner_test refuse
   no_chunk e = rw e refl
 
-  pub other_rank_lem : (length corner ≡ g.rank → ⊥) → Refused (record { number = 10; first = 0; second = 0 }) ≡ corner_test g corner
+  pub other_rank_lem : (length corner ≡ g.rank → ⊥) → Err Corner ≡ corner_test g corner
   unfolding is_chunk
   other_rank_lem n = no_chunk (rw (ne_eqb (length corner) g.rank n) refl)
 
-  pub unaligned : aligned corner g.chunk ≡ false → Refused (record { number = 10; first = 0; second = 0 }) ≡ corner_test g corner
+  pub unaligned : aligned corner g.chunk ≡ false → Err Corner ≡ corner_test g corner
   unfolding is_chunk
   unaligned e = no_chunk (rw (e, and-false (eqb (length corner) g.rank)) refl)
 
-  pub outside : below corner g.present ≡ false → Refused (record { number = 10; first = 0; second = 0 }) ≡ corner_test g corner
+  pub outside : below corner g.present ≡ false → Err Corner ≡ corner_test g corner
   unfolding is_chunk
   outside e = no_chunk (rw (e, and-false (eqb (length corner) g.rank && aligned corner g.chunk)) refl)
 
-  pub chunk_passes : Chunk g corner → Passed ≡ corner_test g corner
+  pub chunk_passes : Chunk g corner → Ok tt ≡ corner_test g corner
   unfolding corner_test refuse
   chunk_passes k = rw (is_chunk_lem g corner k) refl
 
 -- The test's loop, over the arrays of a built grid; the corner has the grid's rank.
-module _ (k : ChunkGrid) (corner : List ℕ) (t : grid_test (grid_of k) ≡ Passed) (e : length corner ≡ k.rank) where
+module _ (k : ChunkGrid) (corner : List ℕ) (t : grid_test (grid_of k) ≡ Ok tt) (e : length corner ≡ k.rank) where
   abbrev ch : List ℕ
   ch = take (length corner) k.chunk
 
@@ -91,15 +90,15 @@ module _ (k : ChunkGrid) (corner : List ℕ) (t : grid_test (grid_of k) ≡ Pass
     below_step = every_step ltb corner pr i h (omega (arith, size_pr)) ∙ rw (get_or-take (length corner) k.present i 0 h) refl
 
     pub unaligned_here : aligned (drop i corner) (drop i ch) ≡ aligned corner ch → (get_or corner i 0 % get_or k.chunk i 0 ≡ 0 → ⊥)
-        → Refused (record { number = 10; first = 0; second = 0 }) ≡ corner_test (grid_of k) corner
+        → Err Corner ≡ corner_test (grid_of k) corner
     unaligned_here a n = unaligned (grid_of k) corner (aligned_are ∙ sym a ∙ aligned_step ∙ rw (ne_eqb (get_or corner i 0 % get_or k.chunk i 0) 0 n) refl)
 
     pub outside_here : below (drop i corner) (drop i pr) ≡ below corner pr → get_or k.present i 0 ≤ get_or corner i 0
-        → Refused (record { number = 10; first = 0; second = 0 }) ≡ corner_test (grid_of k) corner
+        → Err Corner ≡ corner_test (grid_of k) corner
     outside_here a le = outside (grid_of k) corner (below_are ∙ sym a ∙ below_step ∙ rw (le-ltb (get_or corner i 0) (get_or k.present i 0) le) refl)
 
   pub passes : (i : ℕ) → length corner ≤ i → aligned (drop i corner) (drop i ch) ≡ aligned corner ch → below (drop i corner) (drop i pr) ≡ below corner pr
-      → Passed ≡ corner_test (grid_of k) corner
+      → Ok tt ≡ corner_test (grid_of k) corner
   unfolding grid_of given aligned below
   passes i h a b =
       chunk_passes (grid_of k) corner (record {
@@ -113,8 +112,8 @@ module _ (qs cs ms : List ℕ) where
   abbrev rest : ℕ → ℕ → ℕ
   rest i slot = slot + total (pairwise ◌*◌ (drop i qs) (drop i ms))
 
-  unfoldable pub onward : ℕ → ℕ → Slot
-  onward i slot = cond (below (drop (max i 1) qs) (drop (max i 1) cs) && leb (rest i slot) largest64) (At (rest i slot)) NoSlot
+  unfoldable pub onward : ℕ → ℕ → Option ℕ
+  onward i slot = cond (below (drop (max i 1) qs) (drop (max i 1) cs) && leb (rest i slot) largest64) (Some (rest i slot)) None
 
   module _ (i slot : ℕ) (hq : i < length qs) (hc : i < length cs) (hm : i < length ms) where
     abbrev q : ℕ
@@ -127,12 +126,12 @@ module _ (qs cs ms : List ℕ) where
     unfolding total pairwise
     rest_is = rw (drop-cons qs i 0 hq, drop-cons ms i 0 hm, add-one) (omega arith)
 
-    pub too_large : largest64 < slot + q * m → NoSlot ≡ onward i slot
+    pub too_large : largest64 < slot + q * m → None ≡ onward i slot
     unfolding onward
     too_large h =
         rw (rest_is, lt-leb (rest (i + 1) (slot + q * m)) largest64 (omega arith), and-false (below (drop (max i 1) qs) (drop (max i 1) cs))) refl
 
-    pub not_below : 0 < i → get_or cs i 0 ≤ q → NoSlot ≡ onward i slot
+    pub not_below : 0 < i → get_or cs i 0 ≤ q → None ≡ onward i slot
     unfolding onward below every
     not_below pos h =
         let e : max i 1 ≡ i = omega arith in
@@ -152,7 +151,7 @@ module _ (qs cs ms : List ℕ) where
     unfolding onward
     next_place h = rw (below_on h, ← rest_is) refl
 
-  last_place : (i slot : ℕ) → length qs ≤ i → slot ≤ largest64 → At slot ≡ onward i slot
+  last_place : (i slot : ℕ) → length qs ≤ i → slot ≤ largest64 → Some slot ≡ onward i slot
   unfolding onward total pairwise below every
   last_place i slot h fits =
       rw (drop_of_length-le qs {i = i} h, drop_of_length-le qs {i = max i 1} (omega arith), add-zero, le-leb slot largest64 fits) refl
@@ -214,17 +213,17 @@ module _ (g : Grid) (corner : List ℕ) (u : ℕ) (chunk counts down : List ℕ)
     down_at : get_or M i 0 ≡ get_or down i 0
     down_at = get_or-take (length corner) down i 0 h
 
-    pub past_count : 0 < i → get_or counts (dim_at u i) 0 ≤ quotient → NoSlot ≡ onward Q C M i slot
+    pub past_count : 0 < i → get_or counts (dim_at u i) 0 ≤ quotient → None ≡ onward Q C M i slot
     past_count pos le = not_below Q C M i slot hq hc hm pos (rw (count_at, corner_at i h) le)
 
-    pub past_64 : largest64 < slot + quotient * get_or down i 0 → NoSlot ≡ onward Q C M i slot
+    pub past_64 : largest64 < slot + quotient * get_or down i 0 → None ≡ onward Q C M i slot
     past_64 lt = too_large Q C M i slot hq hc hm (rw (corner_at i h, down_at) lt)
 
     pub one_more : (0 < i → quotient < get_or counts (dim_at u i) 0) → onward Q C M (i + 1) (slot + quotient * get_or down i 0) ≡ onward Q C M i slot
     one_more lt = rw (← corner_at i h, ← down_at) (next_place Q C M i slot hq hc hm (rw (count_at, corner_at i h) lt))
 
   -- behind the last place
-  pub past_places : (i slot : ℕ) → length corner ≤ i → slot ≤ largest64 → At slot ≡ onward (corner_quotients u corner chunk) (in_order (length corner) u counts) (take (length corner) down) i slot
+  pub past_places : (i slot : ℕ) → length corner ≤ i → slot ≤ largest64 → Some slot ≡ onward (corner_quotients u corner chunk) (in_order (length corner) u counts) (take (length corner) down) i slot
   past_places i slot h fits = last_place _ _ _ i slot (rw length_corner h) fits
 
   counts_are : in_order (length corner) u counts ≡ ordered g

@@ -4,7 +4,6 @@ use Prim.Native.Nat.{ℕ, suc, ◌+◌, ◌-◌, ◌*◌, ◌/◌, ◌%◌, ◌<
 use mathlib.Core.Path.{◌≡◌, refl, sym, ap, ◌∙◌}
 use mathlib.Core.Bool.{Bool, true, false, cond, ◌&&◌, ◌||◌, and_assoc, or_assoc, and-true, or-false}
 use mathlib.Core.List.{List, [], ◌∷◌}
-use mathlib.Core.Option.{none, some}
 use mathlib.Core.Logic.{⊎_elim}
 use native.Mathlib.Nat.{pos_of_ne-zero, le-div_iff_mul-le}
 use native.Mathlib.Numerals.{add-one}
@@ -13,10 +12,10 @@ use borrow.Author.Tests.{lt-ltb, le-ltb, ltb-true, ltb-false, eqb-false, not-tru
 use lib.Dec.{ltb, eqb}
 use lib.ListN.{length, get_or, take, drop, set, length-take, drop_of_length-le}
 use lib.Seq.{drop-cons, get_or-take}
-use Rattle.refusal.specs.Refusals.{largest64, refuse, ◌then◌}
-use Rattle.refusal.specs.Outcome.{accepted as accepting, ◌yields◌}
-use Rattle.chunk_grid.specs.declared.Offsets.{Offsets}
-use Rattle.chunk_grid.specs.declared.Offsets.TheVariants.{Inside, Dropped, Refused as OffsetsRefused}
+use Rattle.std.specs.Prelude.{Err, None, Ok, Some}
+use Rattle.refusal.specs.declared.Refusal.TheVariants.{NumbersNothing, OffsetOverflow}
+use Rattle.refusal.specs.Refusals.{largest64, refuse, ◌then◌, Outcome}
+use Rattle.refusal.specs.Outcome.{◌yields◌}
 use Rattle.chunk_grid.specs.Grid.{Grid, pairwise, every, any, ceil_div, leading, to_front, ordered, multipliers, has_zero, numbers_nothing, quotients, offsets, overflows, below, offsets_test}
 use Rattle.chunk_grid.specs.Values.{dim_at, GridNumbers, Extents, in_extent, offsets_of}
 use Rattle.chunk_slots.specs.Values.{shown, handed}
@@ -120,10 +119,10 @@ module _ (slot rank u : ℕ) (chunk bound down : List ℕ) where
           }
 
 -- the answer for a grid that numbers something
-abbrev pub answered : Bool → Bool → Offsets
-answered over inside = cond over (OffsetsRefused (record { number = 33; first = 0; second = 0 })) (cond inside Inside Dropped)
+abbrev pub answered : Bool → Bool → Outcome Bool
+answered over inside = cond over (Err OffsetOverflow) (Ok inside)
 
-picked : (over inside : Bool) (l : List ℕ) → answered over inside ≡ offsets_of (refuse 33 0 0 over yields accepting (cond inside (some l) none))
+picked : (over inside : Bool) (l : List ℕ) → answered over inside ≡ offsets_of (refuse OffsetOverflow over yields Ok (cond inside (Some l) None))
 unfolding offsets_of ◌yields◌ refuse
 picked true inside l = refl
 picked false true l = refl
@@ -262,6 +261,6 @@ module _ (g : Grid) (rank u : ℕ) (chunk down : List ℕ) (n : GridNumbers rank
         turned = (rw (numbered, ← past_is, ← lies_is) (picked over inside (offsets g slot)), handed_is)
 
       -- A grid that numbers nothing.
-      pub unnumbered : numbers ≡ false → (l : List ℕ) → (OffsetsRefused (record { number = 32; first = 0; second = 0 }) ≡ offsets_of (in_extent g slot)) × (l ≡ handed g slot l)
+      pub unnumbered : numbers ≡ false → (l : List ℕ) → (Err NumbersNothing ≡ offsets_of (in_extent g slot)) × (l ≡ handed g slot l)
       unfolding in_extent offsets_test offsets_of ◌yields◌ handed refuse ◌then◌
       unnumbered e l = let z : numbers_nothing g ≡ true = not-false _ (sym x.numbering ∙ e) in (rw z refl, rw z refl)

@@ -7,9 +7,8 @@ use native.Mathlib.Omega.{arith}
 use lib.Dec.{ltb}
 use lib.ListN.{length, take, drop}
 use lib.Seq.{sets, sets-eq, length-sets, take_at}
-use Rattle.refusal.specs.declared.Checked.TheVariants.{Passed}
+use Rattle.std.specs.Prelude.{Ok}
 use Rattle.refusal.proofs.Tests.{by_cond, false_true, both}
-use Rattle.chunk_grid.specs.declared.Offsets.TheVariants.{Inside}
 use Rattle.chunk_grid.specs.Grid.{Grid, pairwise, every, numbers_nothing, offsets, below, grid_test}
 use Rattle.chunk_grid.specs.Values.{in_extent, offsets_of}
 use Rattle.chunk_grid.proofs.Grids.{accepted, length-offsets}
@@ -26,12 +25,12 @@ below-shown (a ∷ l) (b ∷ m) h =
     rw (t.0, below-shown l m t.1) refl
 
 module _ (g : Grid) (s : ℕ) where
-  pub handed_inside : offsets_of (in_extent g s) ≡ Inside → (l : List ℕ) → handed g s l ≡ sets l 0 (offsets g s)
+  pub handed_inside : offsets_of (in_extent g s) ≡ Ok true → (l : List ℕ) → handed g s l ≡ sets l 0 (offsets g s)
   unfolding handed shown
   handed_inside h l = let i = inside_inv g s h in rw (i.0, below-shown (offsets g s) g.present i.2) refl
 
   -- an array that has room for them then begins with them
-  pub handed_corner : grid_test g ≡ Passed → offsets_of (in_extent g s) ≡ Inside → (l : List ℕ) → g.rank ≤ length l → take g.rank (handed g s l) ≡ offsets g s
+  pub handed_corner : grid_test g ≡ Ok tt → offsets_of (in_extent g s) ≡ Ok true → (l : List ℕ) → g.rank ≤ length l → take g.rank (handed g s l) ≡ offsets g s
   handed_corner t h l fits =
       let n = length-offsets g (accepted g t) s in
       let e : sets l 0 (offsets g s) ≡ offsets g s ++ drop (0 + length (offsets g s)) l = sets-eq (offsets g s) l 0 (omega arith) in

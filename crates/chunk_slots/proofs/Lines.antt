@@ -13,9 +13,9 @@ use lib.Arith.{digits_div, digits_mod}
 use lib.Dec.{ltb}
 use lib.ListN.{length, get_or, take, drop, set, length-set, drop_of_length-le}
 use lib.Seq.{take-suc, set_split, get_or-take, get_or-set_same, get_or-set_other, ext_get_or}
+use Rattle.std.specs.Prelude.{Ok}
 use Rattle.refusal.specs.Refusals.{largest64}
 use Rattle.refusal.proofs.Tests.{false_true, both, lt_or_ge}
-use Rattle.chunk_grid.specs.declared.Offsets.TheVariants.{Inside}
 use Rattle.chunk_grid.specs.Grid.{Grid, pairwise, every, leading, to_front, from_front, ordered, multiplier, multipliers, quotients, offsets, below}
 use Rattle.chunk_grid.specs.Values.{dim_at, GridNumbers, Extents, in_extent, offsets_of}
 use Rattle.chunk_slots.specs.Lines.{InLine}
@@ -135,7 +135,7 @@ back_set u l i v k h =
 
 -- For a built grid with its numbers, and a slot in the present extents.
 module _ (g : Grid) (rank u : ℕ) (chunk down : List ℕ) (n : GridNumbers rank u chunk down g) (numbers : Bool) (bound : List ℕ) (x : Extents rank numbers bound g)
-    (slot : ℕ) (h : offsets_of (in_extent g slot) ≡ Inside) {slots rest i : ℕ} (l : Lining slot rank down slots rest i) where
+    (slot : ℕ) (h : offsets_of (in_extent g slot) ≡ Ok true) {slots rest i : ℕ} (l : Lining slot rank down slots rest i) where
   b : Accepted g
   b = accepted g n.built
 
@@ -184,7 +184,7 @@ module _ (g : Grid) (rank u : ℕ) (chunk down : List ℕ) (n : GridNumbers rank
         ∙ back_set (leading g) (pairwise ◌*◌ Q C) i _ (omega arith) (omega arith)
         ∙ rw (chunk_here, ← n.leads) refl
 
-    insides : (j : ℕ) → j < slots → rest + j < get_or bound d 0 → offsets_of (in_extent g (slot + j)) ≡ Inside
+    insides : (j : ℕ) → j < slots → rest + j < get_or bound d 0 → offsets_of (in_extent g (slot + j)) ≡ Ok true
     insides j lt lies =
         let q : below (quotients_by (slot + j) rank down) (in_order rank u bound) ≡ true =
         rw (line_quotients slot rank down room l k (down_pos g rank u chunk down n i k) one j lt)

@@ -1,8 +1,7 @@
 -- Slots in a line.
-use Rattle.std.specs.Prelude.{ℕ, ◌+◌, ◌*◌, ◌<◌, ◌≤◌, ◌≡◌, List, get_or, set}
+use Rattle.std.specs.Prelude.{ℕ, ◌+◌, ◌*◌, ◌<◌, ◌≤◌, ◌≡◌, true, List, get_or, set, Ok}
 use Rattle.refusal.specs.Refusals.{largest64}
 use Rattle.chunk_slots.specs.declared.Line.{Line}
-use Rattle.chunk_grid.specs.declared.Offsets.TheVariants.{Inside}
 use Rattle.chunk_grid.specs.Grid.{Grid, offsets}
 use Rattle.chunk_grid.specs.Values.{in_extent, offsets_of}
 
@@ -12,7 +11,7 @@ use Rattle.chunk_grid.specs.Values.{in_extent, offsets_of}
 pub record InLine (g : Grid) (chunk : List ℕ) (s : ℕ) (r : Line) : Type 0 where
   pub some : 0 < r.slots
   pub within : r.dim < 32
-  pub inside : (j : ℕ) → j < r.slots → offsets_of (in_extent g (s + j)) ≡ Inside
+  pub inside : (j : ℕ) → j < r.slots → offsets_of (in_extent g (s + j)) ≡ Ok true
   pub fits : (j : ℕ) → j < r.slots → (r.first + j) * get_or chunk r.dim 0 ≤ largest64
   pub corner : (j : ℕ) → j < r.slots
       → offsets g (s + j) ≡ set (offsets g s) r.dim ((r.first + j) * get_or chunk r.dim 0)

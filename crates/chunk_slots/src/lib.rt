@@ -1,18 +1,15 @@
 #![tactic(auto)]
 // The slots of a chunk grid: a slot's offsets, the slots in a line, a corner's slot.
-ghost use Rattle.std.specs.Prelude.{◌≡◌, Bool, cond, List, ℕ, ◌*◌, ◌/◌, ◌%◌, ◌<◌, ◌≤◌, min, ltb, length};
-ghost use Rattle.refusal.specs.declared.Checked.TheVariants.{Passed};
+ghost use Rattle.std.specs.Prelude.{◌≡◌, Bool, true, cond, List, ℕ, ◌*◌, ◌/◌, ◌%◌, ◌<◌, ◌≤◌, ltb, length, Ok};
 ghost use Rattle.refusal.specs.Refusals.{largest64};
-ghost use Rattle.chunk_grid.specs.declared.Offsets.TheVariants.{Inside};
 ghost use Rattle.chunk_grid.specs.Grid.{Grid, corner_test, slot_of, grid_test};
 ghost use Rattle.chunk_grid.specs.Values.{grid_of, GridNumbers, GridCounts, Extents, in_extent, offsets_of};
 ghost use Rattle.chunk_slots.specs.Values.{handed};
 ghost use Rattle.chunk_slots.specs.AllInside.{all_inside};
 ghost use Rattle.chunk_slots.specs.Lines.{InLine};
 
-use chunk_grid::{ChunkGrid, Offsets, Slot, ceil_div, dim_at, refused};
-use fields::convert::{Exact, checked_add, checked_mul};
-use refusal::{Checked, Refusal};
+use chunk_grid::{ChunkGrid, dim_at};
+use refusal::Refusal;
 
 // Slots in a line: how many, the dimension in which their offsets differ, and the first one's quotient there.
 #[derive(Clone, Copy)]
@@ -23,27 +20,25 @@ pub struct Line {
 }
 
 // Tests that a corner is a chunk's.
-pub fn corner_test(grid: ChunkGrid, corner: &[u64]) -> Checked
-    requires { grid_test (grid_of grid) ≡ Passed }
+pub fn corner_test(grid: ChunkGrid, corner: &[u64]) -> Result<(), Refusal>
+    requires { grid_test (grid_of grid) ≡ Ok tt }
     ensures { result ≡ corner_test (grid_of grid) corner.now }
 {
     if corner.len() as u64 != grid.rank {
-        return refused(Refusal::CORNER);
+        return Err(Refusal::Corner);
     }
     let chunk = grid.chunk;
     let present = grid.present;
-    let mut i = 0;
     // The first i members are multiples of the chunk's lengths, below the present extents.
-    while i < corner.len() {
+    for i in 0..corner.len() {
         if corner[i] % chunk[i] != 0 {
-            return refused(Refusal::CORNER);
+            return Err(Refusal::Corner);
         }
         if present[i] <= corner[i] {
-            return refused(Refusal::CORNER);
+            return Err(Refusal::Corner);
         }
-        i += 1;
     }
-    Checked::Passed
+    Ok(())
 }
 
 // n / m. (The last multipliers are 1, and a division costs.)
@@ -81,8 +76,9 @@ fn offset_overflows(q: u64, length: u64, bound: u64) -> bool
     }
 }
 
-// The offsets of a slot into the lent array, and whether they lie in the present extents. (For every element: arrays
-// are lent, and quotients are compared with bounds that are made once.)
+// The offsets of a slot into the lent array, and whether they lie in the present extents: 32 where the grid numbers
+// nothing, 33 where one passes 2^64 - 1. (For every element: arrays are lent, and quotients are compared with bounds
+// that are made once.)
 pub fn offsets_in_extent(
     offsets: &mut [u64; 32],
     slot: u64,
@@ -92,7 +88,7 @@ pub fn offsets_in_extent(
     chunk: &[u64; 32],
     bound: &[u64; 32],
     down: &[u64; 32],
-) -> Offsets
+) -> Result<bool, Refusal>
     requires { (g : Grid) × (GridNumbers rank rotated chunk.now down.now g)
         × (Extents rank numbers bound.now g) }
     ensures { (g : Grid) → GridNumbers rank rotated chunk.now down.now g
@@ -100,15 +96,14 @@ pub fn offsets_in_extent(
         → (result ≡ offsets_of (in_extent g slot)) × (offsets.new ≡ handed g slot offsets.old) }
 {
     if !numbers {
-        return Offsets::Refused(Refusal::plain(Refusal::NUMBERS_NOTHING));
+        return Err(Refusal::NumbersNothing);
     }
     let mut rest = slot;
     let mut inside = true;
     let mut over = false;
-    let mut i = 0;
     // The first i places' offsets are stored; `inside` and `over` speak of these places, and `rest` is what is left
     // of the slot.
-    while i < rank {
+    for i in 0..rank {
         let d = dim_at(i, rotated);
         let multiplier = down[i];
         let length = chunk[d];
@@ -118,22 +113,11 @@ pub fn offsets_in_extent(
         offsets[d] = offset_below(q, length, most);
         inside = inside & (q < most);
         over = over | offset_overflows(q, length, most);
-        i += 1;
     }
     if over {
-        return Offsets::Refused(Refusal::plain(Refusal::OFFSET_OVERFLOW));
+        return Err(Refusal::OffsetOverflow);
     }
-    if inside {
-        Offsets::Inside
-    } else {
-        Offsets::Dropped
-    }
-}
-
-fn lesser(a: u64, b: u64) -> u64
-    ensures { result ≡ min a b }
-{
-    if a < b { a } else { b }
+    Ok(inside)
 }
 
 // The line that a slot in the present extents begins. At the first place whose multiplier is 1 the quotient grows
@@ -146,30 +130,28 @@ pub fn line_from(
     down: &[u64; 32],
 ) -> Line
     requires { (g : Grid) × (chunk : List ℕ) × (numbers : Bool) × (GridNumbers rank rotated chunk down.now g)
-        × (Extents rank numbers bound.now g) × (offsets_of (in_extent g slot) ≡ Inside) }
+        × (Extents rank numbers bound.now g) × (offsets_of (in_extent g slot) ≡ Ok true) }
     ensures { (g : Grid) (chunk : List ℕ) (numbers : Bool)
         → GridNumbers rank rotated chunk down.now g → Extents rank numbers bound.now g
-        → offsets_of (in_extent g slot) ≡ Inside → InLine g chunk slot result }
+        → offsets_of (in_extent g slot) ≡ Ok true → InLine g chunk slot result }
 {
     let mut slots = u64::MAX;
     let mut rest = slot;
-    let mut i = 0;
     // The first i places have the same quotients for `slots` slots, and no multiplier 1; `rest` is what is left of
     // the slot.
-    while i < rank {
+    for i in 0..rank {
         let multiplier = down[i];
         if multiplier == 1 {
             let d = dim_at(i, rotated);
             let left = bound[d] - rest;
             return Line {
-                slots: lesser(slots, left),
+                slots: slots.min(left),
                 dim: d as u64,
                 first: rest,
             };
         }
         rest = rest % multiplier;
-        slots = lesser(slots, multiplier - rest);
-        i += 1;
+        slots = slots.min(multiplier - rest);
     }
     Line {
         slots: 1,
@@ -198,16 +180,14 @@ pub fn all_inside(
         return false;
     }
     let mut rests = n;
-    let mut i = 0;
     // At the first i places all quotients lie below their bounds, and the rests that they leave lie below `rests`.
-    while i < rank {
+    for i in 0..rank {
         let d = dim_at(i, rotated);
         let multiplier = down[i];
-        if bound[d] < ceil_div(rests, multiplier) {
+        if bound[d] < rests.div_ceil(multiplier) {
             return false;
         }
         rests = multiplier;
-        i += 1;
     }
     true
 }
@@ -219,7 +199,7 @@ pub fn slot_of(
     chunk: &[u64; 32],
     counts: &[u64; 32],
     down: &[u64; 32],
-) -> Slot
+) -> Option<u64>
     requires { (g : Grid) × (GridNumbers (length corner.now) rotated chunk.now down.now g)
         × (GridCounts (length corner.now) counts.now g) }
     ensures { (g : Grid)
@@ -228,22 +208,14 @@ pub fn slot_of(
         → result ≡ slot_of g corner.now }
 {
     let mut slot = 0u64;
-    let mut i = 0;
     // `slot` is the sum over the first i places, whose quotients lie below their counts, the leading one's aside.
-    while i < corner.len() {
+    for i in 0..corner.len() {
         let d = dim_at(i, rotated);
         let q = corner[d] / chunk[d];
         if (0 < i) & (counts[d] <= q) {
-            return Slot::NoSlot;
+            return None;
         }
-        let Exact::Fits(part) = checked_mul(q, down[i]) else {
-            return Slot::NoSlot;
-        };
-        let Exact::Fits(sum) = checked_add(slot, part) else {
-            return Slot::NoSlot;
-        };
-        slot = sum;
-        i += 1;
+        slot = slot.checked_add(q.checked_mul(down[i])?)?;
     }
-    Slot::At(slot)
+    Some(slot)
 }

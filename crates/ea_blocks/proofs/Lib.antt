@@ -1,4 +1,3 @@
 pub mod StructureTests
 pub mod PointerValues
 pub mod Entering
-pub mod Numbered

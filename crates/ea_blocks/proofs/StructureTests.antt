@@ -7,7 +7,7 @@ use mathlib.Core.List.{List}
 use native.Mathlib.Omega.{arith}
 use lib.ListN.{length}
 use borrow.Author.Tests.{lt-ltb, le-ltb}
-use Rattle.refusal.specs.declared.Checked.TheVariants.{Passed}
+use Rattle.std.specs.Prelude.{Ok}
 use Rattle.refusal.proofs.Tests.{then_inv}
 use Rattle.fields.specs.Fields.{is_width}
 use Rattle.fields.proofs.Widths.{width_le}
@@ -25,41 +25,41 @@ use Rattle.ea_blocks.specs.Values.{IndexInFile, array_of}
 
 module _ (a : Array) where
   -- what the way into an array leaves
-  pub array_passed : array_test a ≡ Passed → Served a.parameters × (test_of a index_block ≡ Passed)
+  pub array_passed : array_test a ≡ Ok tt → Served a.parameters × (test_of a index_block ≡ Ok tt)
   unfolding array_test
   array_passed t = let i = then_inv _ _ t in (tested_serves _ i.0, i.1)
 
   -- what lies in the file behind each passed test
-  pub test_inside : (x : Structure) → test_of a x ≡ Passed → start_of a x + extent_of a x ≤ length a.file
+  pub test_inside : (x : Structure) → test_of a x ≡ Ok tt → start_of a x + extent_of a x ≤ length a.file
   unfolding test_of
   test_inside x t = structure_inside _ _ _ _ _ t
 
-  pub index_inside : test_of a index_block ≡ Passed → a.index_at + index_extent a.parameters a.offset_size ≤ length a.file
+  pub index_inside : test_of a index_block ≡ Ok tt → a.index_at + index_extent a.parameters a.offset_size ≤ length a.file
   unfolding start_of extent_of
   index_inside t = test_inside index_block t
 
-  pub inline_inside : test_of a index_block ≡ Passed
+  pub inline_inside : test_of a index_block ≡ Ok tt
       → a.index_at + inline_element_at a.parameters a.offset_size a.parameters.idx_blk_elmts ≤ length a.file
   unfolding direct_pointers_at
   inline_inside t =
       omega (arith, index_inside t, direct_pointers_inside a.parameters a.offset_size, super_pointers_inside a.parameters a.offset_size)
 
-  pub super_inside : (u : ℕ) → test_of a (super_block u) ≡ Passed → super_block_at a u + super_extent a.parameters a.offset_size u ≤ length a.file
+  pub super_inside : (u : ℕ) → test_of a (super_block u) ≡ Ok tt → super_block_at a u + super_extent a.parameters a.offset_size u ≤ length a.file
   unfolding start_of extent_of
   super_inside u t = test_inside (super_block u) t
 
   module _ (u k : ℕ) where
-    pub block_inside : test_of a (data_block u k) ≡ Passed → in_pages a.parameters u ≡ false
+    pub block_inside : test_of a (data_block u k) ≡ Ok tt → in_pages a.parameters u ≡ false
         → block_at a u k + block_element_at a.parameters a.offset_size (block_elements a.parameters u) + 4 ≤ length a.file
     unfolding start_of extent_of data_extent
     block_inside t q = let i = rw q at (test_inside (data_block u k) t) in omega arith
 
-    pub head_inside : test_of a (data_block u k) ≡ Passed → in_pages a.parameters u ≡ true
+    pub head_inside : test_of a (data_block u k) ≡ Ok tt → in_pages a.parameters u ≡ true
         → block_at a u k + paged_head_extent a.parameters a.offset_size ≤ length a.file
     unfolding start_of extent_of
     head_inside t q = rw q at (test_inside (data_block u k) t)
 
-    pub page_inside : (p : ℕ) → test_of a (data_page u k p) ≡ Passed
+    pub page_inside : (p : ℕ) → test_of a (data_page u k p) ≡ Ok tt
         → data_page_at a u k p + page_elements a.parameters * element_stride a.parameters a.offset_size + 4 ≤ length a.file
     unfolding start_of extent_of page_extent element_at
     page_inside p t = let i = test_inside (data_page u k p) t in omega arith
@@ -84,5 +84,5 @@ module _ (a : Array) where
 
 -- an index block that has passed its test
 pub index_in_file : (f : List ℕ) (a : ExtensibleArray) → Served a.geometry.parameters → is_width a.geometry.offset_size ≡ true
-    → test_of (array_of f a) index_block ≡ Passed → IndexInFile f a
+    → test_of (array_of f a) index_block ≡ Ok tt → IndexInFile f a
 index_in_file f a v w t = record { bounded = record { served = v; width = width_le _ w }; wide = w; inside = index_inside (array_of f a) t }

@@ -1,9 +1,7 @@
 -- The place of a slot in a file: whether it is reached, where its element lies, and the structures that lead to it.
-use Rattle.std.specs.Prelude.{ℕ, ◌+◌, Bool, true, false, not, cond, ◌&&◌, ◌||◌, List, [], ◌∷◌}
-use Rattle.refusal.specs.declared.Checked.{Checked}
-use Rattle.refusal.specs.declared.Checked.TheVariants.{Passed}
-use Rattle.refusal.specs.Refusals.{◌then◌}
-use Rattle.fields.specs.Fields.{width_test}
+use Rattle.std.specs.Prelude.{ℕ, ◌+◌, Bool, true, false, not, cond, ◌&&◌, ◌||◌, List, [], ◌∷◌, Ok}
+use Rattle.refusal.specs.Refusals.{◌then◌, Checked}
+use Rattle.fields.specs.Fields.{offset_size_test}
 use Rattle.ea_geometry.specs.Extents.{inline_element_at, block_element_at, paged_element_at}
 use Rattle.ea_geometry.specs.declared.Place.{Place}
 use Rattle.ea_geometry.specs.declared.Place.TheVariants.{Inline, Block, Page, Nowhere}
@@ -44,14 +42,14 @@ structures a Nowhere = []
 
 -- Pointer: 1. There is a pointer on the way to every place but an inline one.
 unfoldable pub pointer_test : Array → Place → Checked
-pointer_test a (Inline i) = Passed
-pointer_test a (Block u k i) = width_test 1 a.offset_size
-pointer_test a (Page u k i p b) = width_test 1 a.offset_size
-pointer_test a Nowhere = Passed
+pointer_test a (Inline i) = Ok tt
+pointer_test a (Block u k i) = offset_size_test a.offset_size
+pointer_test a (Page u k i p b) = offset_size_test a.offset_size
+pointer_test a Nowhere = Ok tt
 
 -- one structure after the other
 unfoldable pub tested : Array → List Structure → Checked
-tested a [] = Passed
+tested a [] = Ok tt
 tested a (x ∷ l) = test_of a x then tested a l
 
 -- the tests on the way to a place

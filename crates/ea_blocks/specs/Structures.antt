@@ -1,7 +1,7 @@
 -- The structures of an array: where each lies, and its test.
 use Rattle.std.specs.Prelude.{ℕ, ◌+◌, Bool, cond, ltb}
-use Rattle.refusal.specs.declared.Checked.{Checked}
-use Rattle.refusal.specs.Refusals.{◌then◌}
+use Rattle.refusal.specs.declared.Refusal.TheVariants.{IndexBlockSignature, DataBlockSignature, SuperBlockSignature}
+use Rattle.refusal.specs.Refusals.{◌then◌, Checked}
 use Rattle.fields.specs.Fields.{address_at, undefined_at}
 use Rattle.structures.specs.declared.Kind.{Kind}
 use Rattle.structures.specs.declared.Kind.TheVariants.{Signed, Page}
@@ -62,9 +62,9 @@ pub data Structure : Type 0 where
 
 -- 23, 24, 25 index, data, super block signature: "EAIB", "EADB", "EASB". A page has none.
 unfoldable pub kind_of : Structure → Kind
-kind_of index_block = Signed 23 0x4249_4145
-kind_of (super_block u) = Signed 25 0x4253_4145
-kind_of (data_block u k) = Signed 24 0x4244_4145
+kind_of index_block = Signed IndexBlockSignature 0x4249_4145
+kind_of (super_block u) = Signed SuperBlockSignature 0x4253_4145
+kind_of (data_block u k) = Signed DataBlockSignature 0x4244_4145
 kind_of (data_page u k p) = Page
 
 -- where it begins

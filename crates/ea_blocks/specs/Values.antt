@@ -1,5 +1,5 @@
 -- What the code's values stand for.
-use Rattle.std.specs.Prelude.{ℕ, ◌+◌, ◌<◌, ◌≤◌, ◌≡◌, Bool, true, cond, List, length}
+use Rattle.std.specs.Prelude.{ℕ, ◌+◌, ◌<◌, ◌≤◌, ◌≡◌, Bool, true, cond, List, length, None, Option, Some}
 use Rattle.fields.specs.Fields.{is_width}
 use Rattle.checksum.specs.Lookup3.{lookup3}
 use Rattle.ea_header.specs.declared.ExtensibleArrayHeader.{ExtensibleArrayHeader}
@@ -7,8 +7,6 @@ use Rattle.ea_geometry.specs.Bounded.{Bounded}
 use Rattle.ea_geometry.specs.Sizes.{super_blocks, blocks, direct_super_blocks, pages}
 use Rattle.ea_geometry.specs.Extents.{index_extent, super_extent}
 use Rattle.ea_geometry.specs.Place.{in_pages}
-use Rattle.ea_blocks.specs.declared.pointers.Pointer.{Pointer}
-use Rattle.ea_blocks.specs.declared.pointers.Pointer.TheVariants.{Undefined, At}
 use Rattle.ea_blocks.specs.declared.ExtensibleArray.{ExtensibleArray}
 use Rattle.ea_blocks.specs.Array.{Array}
 
@@ -54,6 +52,6 @@ pub record PageBitInFile (file : List ℕ) (a : ExtensibleArray) (super_block_at
   pub paged : in_pages a.geometry.parameters u ≡ true
   pub inside : super_block_at + super_extent a.geometry.parameters a.geometry.offset_size u ≤ length file
 
--- what a pointer says
-unfoldable pub pointer_of : Bool → ℕ → Pointer
-pointer_of undefined address = cond undefined Undefined (At address)
+-- What a pointer says: nothing where it is undefined, else the position of a structure.
+unfoldable pub pointer_of : Bool → ℕ → Option ℕ
+pointer_of undefined address = cond undefined None (Some address)

@@ -6,34 +6,43 @@ ghost use Rattle.ea_blocks.specs.Values.{IndexInFile, PointerInFile, PageBitInFi
 ghost use Rattle.ea_blocks.specs.Entered.{EnteredSuper, EnteredBlock, EnteredPage, TestedAhead};
 
 use crate::ExtensibleArray;
-use crate::pointers::{Pointer, block_pointer, page_set, super_pointer};
+use crate::pointers::{block_pointer, page_set, super_pointer};
 use crate::tests::{test_data_block, test_page, test_super_block, test_two_blocks, test_two_pages};
-use structures::enter::{Ahead, Entered, Tested, Turn, enter_by_result, keep_second};
+use refusal::Refusal;
+use structures::enter::{Ahead, Tested, Turn, keep_second};
 
 // Steps into super block u. Where the index block names its data blocks there is none, and the position is 0.
-pub fn enter_super(file: &[u8], array: ExtensibleArray, u: u64) -> Entered
+pub fn enter_super(file: &[u8], array: ExtensibleArray, u: u64) -> Result<Option<u64>, Refusal>
     requires { (u < super_blocks array.geometry.parameters) × IndexInFile file.now array }
     ensures { let a = array_of file.now array in EnteredSuper a u result }
 {
     if u < array.geometry.direct_super_blocks() {
-        return Entered::At(0);
+        return Ok(Some(0));
     }
-    match super_pointer(file, array, u) {
-        Pointer::Undefined => Entered::Absent,
-        Pointer::At(at) => enter_by_result(test_super_block(file, array, u, at), at),
-    }
+    let Some(at) = super_pointer(file, array, u) else {
+        return Ok(None);
+    };
+    test_super_block(file, array, u, at)?;
+    Ok(Some(at))
 }
 
 // Steps into data block k of super block u, which lies at super_at where the index block doesn't name its data blocks.
-pub fn enter_block(file: &[u8], array: ExtensibleArray, u: u64, k: u64, super_at: u64) -> Entered
+pub fn enter_block(
+    file: &[u8],
+    array: ExtensibleArray,
+    u: u64,
+    k: u64,
+    super_at: u64,
+) -> Result<Option<u64>, Refusal>
     requires { PointerInFile file.now array u k super_at }
     ensures { let a = array_of file.now array in (is_direct a u ≡ false → super_at ≡ super_block_at a u)
         → EnteredBlock a u k result }
 {
-    match block_pointer(file, array, u, k, super_at) {
-        Pointer::Undefined => Entered::Absent,
-        Pointer::At(at) => enter_by_result(test_data_block(file, array, u, at), at),
-    }
+    let Some(at) = block_pointer(file, array, u, k, super_at) else {
+        return Ok(None);
+    };
+    test_data_block(file, array, u, at)?;
+    Ok(Some(at))
 }
 
 // The same in the turn of a walk from data block to data block, by a result that an earlier turn has left.
@@ -43,27 +52,23 @@ pub fn enter_block_in_turn(
     u: u64,
     k: u64,
     super_at: u64,
-    ahead: Ahead,
+    ahead: Option<Ahead>,
 ) -> Turn
     requires { PointerInFile file.now array u k super_at }
     ensures { let a = array_of file.now array in (is_direct a u ≡ false → super_at ≡ super_block_at a u)
         → TestedAhead a (data_block u) ahead → EnteredBlock a u k result.found
         × TestedAhead a (data_block u) result.ahead }
 {
-    match block_pointer(file, array, u, k, super_at) {
-        Pointer::Undefined => Turn {
-            found: Entered::Absent,
+    let Some(at) = block_pointer(file, array, u, k, super_at) else {
+        return Turn {
+            found: Ok(None),
             ahead,
-        },
-        Pointer::At(at) => {
-            let tested = block_result(file, array, u, k, super_at, at, ahead);
-            let checked = tested.checked;
-            let ahead = tested.ahead;
-            Turn {
-                found: enter_by_result(checked, at),
-                ahead,
-            }
-        }
+        };
+    };
+    let tested = block_result(file, array, u, k, super_at, at, ahead);
+    Turn {
+        found: tested.checked.map(|()| Some(at)),
+        ahead: tested.ahead,
     }
 }
 
@@ -76,7 +81,7 @@ fn block_result(
     k: u64,
     super_at: u64,
     at: u64,
-    ahead: Ahead,
+    ahead: Option<Ahead>,
 ) -> Tested
     requires { PointerInFile file.now array u k super_at }
     ensures { let a = array_of file.now array in (is_direct a u ≡ false → super_at ≡ super_block_at a u)
@@ -84,25 +89,25 @@ fn block_result(
         → TestedAhead a (data_block u) ahead → (result.checked ≡ test_of a (data_block u k))
         × TestedAhead a (data_block u) result.ahead }
 {
-    if let Ahead::Known { index, checked } = ahead {
+    if let Some(Ahead { index, checked }) = ahead {
         if index == k {
             return Tested {
                 checked,
-                ahead: Ahead::Unknown,
+                ahead: None,
             };
         }
     }
     let blocks = array.geometry.blocks(u);
     if k + 1 < blocks {
         if !array.geometry.in_pages(u) {
-            if let Pointer::At(next) = block_pointer(file, array, u, k + 1, super_at) {
+            if let Some(next) = block_pointer(file, array, u, k + 1, super_at) {
                 return keep_second(test_two_blocks(file, array, u, at, next), k + 1);
             }
         }
     }
     Tested {
         checked: test_data_block(file, array, u, at),
-        ahead: Ahead::Unknown,
+        ahead: None,
     }
 }
 
@@ -115,16 +120,17 @@ pub fn enter_page(
     u: u64,
     k: u64,
     p: u64,
-) -> Entered
+) -> Result<Option<u64>, Refusal>
     requires { PageBitInFile file.now array super_at u k p × (at ≤ length file.now) }
     ensures { let a = array_of file.now array in super_at ≡ super_block_at a u → at ≡ block_at a u k
         → EnteredPage a u k p result }
 {
     if !page_set(file, array, super_at, u, k, p) {
-        return Entered::Absent;
+        return Ok(None);
     }
     let pos = at + array.geometry.page_at(p);
-    enter_by_result(test_page(file, array, at, p), pos)
+    test_page(file, array, at, p)?;
+    Ok(Some(pos))
 }
 
 // The same in the turn of a walk from page to page, by a result that an earlier turn has left.
@@ -136,7 +142,7 @@ pub fn enter_page_in_turn(
     u: u64,
     k: u64,
     p: u64,
-    ahead: Ahead,
+    ahead: Option<Ahead>,
 ) -> Turn
     requires { PageBitInFile file.now array super_at u k p × (at ≤ length file.now) }
     ensures { let a = array_of file.now array in super_at ≡ super_block_at a u → at ≡ block_at a u k
@@ -145,17 +151,15 @@ pub fn enter_page_in_turn(
 {
     if !page_set(file, array, super_at, u, k, p) {
         return Turn {
-            found: Entered::Absent,
+            found: Ok(None),
             ahead,
         };
     }
     let pos = at + array.geometry.page_at(p);
     let tested = page_result(file, array, super_at, at, u, k, p, ahead);
-    let checked = tested.checked;
-    let ahead = tested.ahead;
     Turn {
-        found: enter_by_result(checked, pos),
-        ahead,
+        found: tested.checked.map(|()| Some(pos)),
+        ahead: tested.ahead,
     }
 }
 
@@ -169,18 +173,18 @@ fn page_result(
     u: u64,
     k: u64,
     p: u64,
-    ahead: Ahead,
+    ahead: Option<Ahead>,
 ) -> Tested
     requires { PageBitInFile file.now array super_at u k p × (at ≤ length file.now) }
     ensures { let a = array_of file.now array in at ≡ block_at a u k
         → TestedAhead a (data_page u k) ahead → (result.checked ≡ test_of a (data_page u k p))
         × TestedAhead a (data_page u k) result.ahead }
 {
-    if let Ahead::Known { index, checked } = ahead {
+    if let Some(Ahead { index, checked }) = ahead {
         if index == p {
             return Tested {
                 checked,
-                ahead: Ahead::Unknown,
+                ahead: None,
             };
         }
     }
@@ -192,6 +196,6 @@ fn page_result(
     }
     Tested {
         checked: test_page(file, array, at, p),
-        ahead: Ahead::Unknown,
+        ahead: None,
     }
 }

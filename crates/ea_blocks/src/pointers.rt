@@ -11,15 +11,8 @@ use fields::address::is_undefined_addr;
 use fields::bytes::read_address;
 use structures::page_bits::page_is_initialized;
 
-// What a pointer says: nothing, or the file's position of a structure.
-#[derive(Clone, Copy)]
-pub enum Pointer {
-    Undefined,
-    At(u64),
-}
-
-// The pointer in the index block to super block u.
-pub fn super_pointer(file: &[u8], array: ExtensibleArray, u: u64) -> Pointer
+// What the pointer in the index block to super block u says: nothing, or the file's position of that.
+pub fn super_pointer(file: &[u8], array: ExtensibleArray, u: u64) -> Option<u64>
     requires { (direct_super_blocks array.geometry.parameters ≤ u)
         × (u < super_blocks array.geometry.parameters) × IndexInFile file.now array }
     ensures { let a = array_of file.now array in result ≡ pointer_of (super_undefined a u) (super_block_at a u) }
@@ -29,7 +22,13 @@ pub fn super_pointer(file: &[u8], array: ExtensibleArray, u: u64) -> Pointer
 }
 
 // The pointer to data block k of super block u: in the index block, or in the super block, which then lies at super_at.
-pub fn block_pointer(file: &[u8], array: ExtensibleArray, u: u64, k: u64, super_at: u64) -> Pointer
+pub fn block_pointer(
+    file: &[u8],
+    array: ExtensibleArray,
+    u: u64,
+    k: u64,
+    super_at: u64,
+) -> Option<u64>
     requires { PointerInFile file.now array u k super_at }
     ensures { let a = array_of file.now array in (is_direct a u ≡ false → super_at ≡ super_block_at a u)
         → result ≡ pointer_of (block_undefined a u k) (block_at a u k) }
@@ -54,14 +53,15 @@ pub fn page_set(file: &[u8], array: ExtensibleArray, super_at: u64, u: u64, k: u
 }
 
 // The pointer in the `width` bytes from pos on.
-fn read_pointer(file: &[u8], pos: u64, width: u64) -> Pointer
+fn read_pointer(file: &[u8], pos: u64, width: u64) -> Option<u64>
     requires { (pos + width ≤ length file.now) × (is_width width ≡ true) }
     ensures { result
         ≡ pointer_of (undefined_at file.now pos width) (address_at file.now pos width) }
 {
     let address = read_address(file, pos as usize, width as usize);
     if is_undefined_addr(address, width) {
-        return Pointer::Undefined;
+        None
+    } else {
+        Some(address.value)
     }
-    Pointer::At(address.value)
 }

@@ -10,38 +10,35 @@ ghost use Rattle.ea_blocks.specs.Structures.{super_block_at, block_at};
 
 use crate::ExtensibleArray;
 use checksum::TwoChecked;
-use refusal::{Checked, Refusal};
+use refusal::Refusal;
 use structures::{Kind, test_structure, test_two_structures};
 
 // "EAIB", "EASB", "EADB"
 const INDEX_BLOCK: Kind = Kind::Signed {
-    number: Refusal::INDEX_BLOCK_SIGNATURE,
+    wrong: Refusal::IndexBlockSignature,
     signature: 0x4249_4145,
 };
 
 const SUPER_BLOCK: Kind = Kind::Signed {
-    number: Refusal::SUPER_BLOCK_SIGNATURE,
+    wrong: Refusal::SuperBlockSignature,
     signature: 0x4253_4145,
 };
 
 const DATA_BLOCK: Kind = Kind::Signed {
-    number: Refusal::DATA_BLOCK_SIGNATURE,
+    wrong: Refusal::DataBlockSignature,
     signature: 0x4244_4145,
 };
 
 // The way into an array: its parameters' test, then its index block's.
-pub fn test_array(file: &[u8], array: ExtensibleArray) -> Checked
+pub fn test_array(file: &[u8], array: ExtensibleArray) -> Result<(), Refusal>
     ensures { result ≡ array_test (array_of file.now array) }
 {
-    let served = array.geometry.parameters.served_test();
-    let Checked::Passed = served else {
-        return served;
-    };
+    array.geometry.parameters.served_test()?;
     test_index_block(file, array)
 }
 
 // Tests the index block.
-pub fn test_index_block(file: &[u8], array: ExtensibleArray) -> Checked
+pub fn test_index_block(file: &[u8], array: ExtensibleArray) -> Result<(), Refusal>
     requires { Served array.geometry.parameters }
     ensures { let a = array_of file.now array in result ≡ test_of a index_block }
 {
@@ -54,7 +51,7 @@ pub fn test_index_block(file: &[u8], array: ExtensibleArray) -> Checked
 }
 
 // Tests super block u, which lies at `at`.
-pub fn test_super_block(file: &[u8], array: ExtensibleArray, u: u64, at: u64) -> Checked
+pub fn test_super_block(file: &[u8], array: ExtensibleArray, u: u64, at: u64) -> Result<(), Refusal>
     requires { (u < super_blocks array.geometry.parameters) × Bounded array.geometry }
     ensures { let a = array_of file.now array in at ≡ super_block_at a u → result ≡ test_of a (super_block u) }
 {
@@ -62,7 +59,7 @@ pub fn test_super_block(file: &[u8], array: ExtensibleArray, u: u64, at: u64) ->
 }
 
 // Tests a data block of super block u, which lies at `at`: its head alone, where it is read by pages.
-pub fn test_data_block(file: &[u8], array: ExtensibleArray, u: u64, at: u64) -> Checked
+pub fn test_data_block(file: &[u8], array: ExtensibleArray, u: u64, at: u64) -> Result<(), Refusal>
     requires { (u < super_blocks array.geometry.parameters) × Bounded array.geometry }
     ensures { (k : ℕ) → let a = array_of file.now array in at ≡ block_at a u k
         → result ≡ test_of a (data_block u k) }
@@ -93,7 +90,7 @@ pub fn test_two_blocks(
 }
 
 // Tests page p of a data block that lies at `at`.
-pub fn test_page(file: &[u8], array: ExtensibleArray, at: u64, p: u64) -> Checked
+pub fn test_page(file: &[u8], array: ExtensibleArray, at: u64, p: u64) -> Result<(), Refusal>
     requires { ((u : ℕ) × (u < super_blocks array.geometry.parameters)
         × (p < pages array.geometry.parameters u)) × Bounded array.geometry
         × (at ≤ length file.now) }

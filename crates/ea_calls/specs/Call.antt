@@ -1,6 +1,7 @@
 -- The extensible array of a call from C, and what the call is answered.
 use Rattle.std.specs.Prelude.{ℕ}
-use Rattle.refusal.specs.Outcome.{Outcome, ◌yields◌, in_room}
+use Rattle.refusal.specs.Refusals.{Outcome}
+use Rattle.refusal.specs.Outcome.{◌yields◌, in_room}
 use Rattle.checksum.specs.Lookup3.{lookup3}
 use Rattle.index.specs.Index.{Index, Listing}
 use Rattle.elements.specs.Elements.{Elements}

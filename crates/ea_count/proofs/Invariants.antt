@@ -7,11 +7,9 @@ use mathlib.Core.List.{List}
 use mathlib.Core.Logic.{◌⊎◌, inl, inr, ⊎_elim}
 use native.Mathlib.Omega.{arith}
 use lib.ListN.{length}
+use Rattle.std.specs.Prelude.{Err, None, Ok, Option, Some}
+use Rattle.refusal.specs.Refusals.{Outcome}
 use Rattle.refusal.specs.declared.Refusal.{Refusal}
-use Rattle.refusal.specs.declared.Checked.{Checked}
-use Rattle.refusal.specs.declared.Checked.TheVariants.{Passed, Refused}
-use Rattle.refusal.specs.declared.Counted.{Counted}
-use Rattle.refusal.specs.declared.Counted.TheVariants.{Count, Refused as CountedRefused}
 use Rattle.element_form.specs.Form.{stride}
 use Rattle.elements.specs.declared.ElementReader.{ElementReader}
 use Rattle.elements.specs.Values.{elements_of}
@@ -27,9 +25,6 @@ use Rattle.ea_geometry.proofs.Counts.{all_few, pages-exact}
 use Rattle.ea_geometry.proofs.Places.{in_pages_over, next_slot}
 use Rattle.ea_blocks.specs.declared.ExtensibleArray.{ExtensibleArray}
 use Rattle.structures.specs.declared.enter.Ahead.{Ahead}
-use Rattle.structures.specs.declared.enter.Ahead.TheVariants.{Unknown}
-use Rattle.structures.specs.declared.enter.Entered.{Entered}
-use Rattle.structures.specs.declared.enter.Entered.TheVariants.{Absent, At, Refused as EnteredRefused}
 use Rattle.ea_blocks.specs.Array.{Array}
 use Rattle.ea_blocks.specs.Structures.{data_block, data_page, is_direct, super_block_at, block_at}
 use Rattle.ea_blocks.specs.Values.{PointerInFile, PageBitInFile, array_of}
@@ -37,7 +32,7 @@ use Rattle.ea_blocks.specs.Entered.{EnteredSuper, EnteredBlock, EnteredPage, Tes
 use Rattle.ea_blocks.proofs.StructureTests.{not_direct}
 use Rattle.ea_blocks.proofs.Entering.{entered_at, entered_super_room, entered_block_room, entered_head_room, entered_page_room}
 use Rattle.ea_count.specs.Values.{WalkFrom}
-use Rattle.ea_count.proofs.WalkStates.{AtSuper, AtBlock, AtPage, BehindBlock, Done, Counts, ends_at, at_first, supers_done, super_ended, super_skip, super_refused, super_in, blocks_done, block-behind, block_ended, block_skip, block_refused, block_run, block_run_refused, block-pages, pages_done, page_skip, page_refused, page_run_refused, page_run_last, page_run_on, slot_few, block_few, count_few, page_ends, paged_behind, unpaged_room}
+use Rattle.ea_count.proofs.WalkStates.{AtSuper, AtBlock, AtPage, BehindBlock, Done, Counts, at_first, supers_done, super_ended, super_skip, super_refused, super_in, blocks_done, block-behind, block_ended, block_skip, block_refused, block_run, block_run_refused, block-pages, pages_done, page_skip, page_refused, page_run_refused, page_run_last, page_run_on, slot_few, block_few, count_few, page_ends, paged_behind, unpaged_room}
 
 -- a data block is open: the count doesn't end it, or its super block names it
 abbrev pub Open : ℕ → ℕ → ℕ → ℕ → Type 0
@@ -77,10 +72,10 @@ PageAt w = AtPage w.file w.array w.reader w.first w.begin w.end w.chunk w.bound 
 abbrev Behind : Setting → ℕ → ℕ → ℕ → ℕ → ℕ → Type 0
 Behind w = BehindBlock w.file w.array w.reader w.first w.begin w.end w.chunk w.bound w.down
 
-abbrev pub Ends : Setting → Checked → ℕ → Type 0
+abbrev pub Ends : Setting → Outcome ℕ → Type 0
 Ends w = Done w.file w.array w.reader w.first w.begin w.end w.chunk w.bound w.down
 
-abbrev pub Run : Setting → ℕ → ℕ → ℕ → Counted → Type 0
+abbrev pub Run : Setting → ℕ → ℕ → ℕ → Outcome ℕ → Type 0
 Run w = Counts w.file w.array w.reader w.first w.begin w.end w.chunk w.bound w.down
 
 -- what doesn't change in the walk
@@ -93,25 +88,23 @@ pub record Fixed (w : Setting) : Type 0 where
   pub small : length w.file < 2 ^ 63
 
 -- at super block u: what is counted, and the walk from there on, are the whole
-pub record InSupers (w : Setting) (refused : Checked) (total slot u : ℕ) : Type 0 where
+pub record InSupers (w : Setting) (total slot u : ℕ) : Type 0 where
   pub fixed : Fixed w
   pub upto : u ≤ w.end
-  pub passes : refused ≡ Passed
   pub state : SuperAt w total slot u
 
 -- at its data block k
-pub record InBlocks (w : Setting) (u blocks elements super : ℕ) (refused : Checked) (total slot : ℕ) (ahead : Ahead) (k : ℕ) : Type 0 where
+pub record InBlocks (w : Setting) (u blocks elements super total slot : ℕ) (ahead : Option Ahead) (k : ℕ) : Type 0 where
   pub fixed : Fixed w
   pub super_lt : u < w.end
   pub blocks_are : blocks ≡ sizes.blocks u
   pub elements_are : elements ≡ block_elements (h_of w) u
   pub upto : k ≤ blocks
-  pub passes : refused ≡ Passed
   pub state : BlockAt w total slot u super k
   pub ahead_is : TestedAhead (a_of w) (data_block u) ahead
 
 -- at page p of it
-pub record InPages (w : Setting) (u blocks elements super k at pages slot : ℕ) (refused : Checked) (total from : ℕ) (ahead : Ahead) (p : ℕ) : Type 0 where
+pub record InPages (w : Setting) (u blocks elements super k at pages slot total from : ℕ) (ahead : Option Ahead) (p : ℕ) : Type 0 where
   pub fixed : Fixed w
   pub super_lt : u < w.end
   pub blocks_are : blocks ≡ sizes.blocks u
@@ -120,7 +113,6 @@ pub record InPages (w : Setting) (u blocks elements super k at pages slot : ℕ)
   pub pages_are : pages ≡ sizes.pages (h_of w) u
   pub paged : in_pages (h_of w) u ≡ true
   pub upto : p ≤ pages
-  pub passes : refused ≡ Passed
   pub state : PageAt w total from slot u super k at p
   pub ahead_is : TestedAhead (a_of w) (data_page u k) ahead
 
@@ -128,7 +120,7 @@ module _ {w : Setting} where
   served : Fixed w → Served (h_of w)
   served x = x.walk.index.bounded.served
 
-  run_few : Fixed w → (pos j s m : ℕ) → Run w pos j s (Count m) → m ≤ j
+  run_few : Fixed w → (pos j s m : ℕ) → Run w pos j s (Ok m) → m ≤ j
   run_few x pos j s m c =
       let b = x.walk.by in
       count_few (elements_of w.file w.reader b.grid b.element_bytes) pos j s m (c b.grid b.element_bytes b.reads)
@@ -144,21 +136,20 @@ module _ {w : Setting} where
     inside = subst (λ (z : ℕ). pos + n * z ≤ length w.file) (own_stride x) le;
   }
 
-  pub supers_first : (slot : ℕ) → Fixed w → slot ≡ first_slot (h_of w) w.begin → InSupers w Passed w.first slot w.begin
+  pub supers_first : (slot : ℕ) → Fixed w → slot ≡ first_slot (h_of w) w.begin → InSupers w w.first slot w.begin
   supers_first slot x e = record {
     fixed = x;
     upto = x.walk.ordered;
-    passes = refl;
     state = subst (λ (s : ℕ). SuperAt w w.first s w.begin) (sym e) (at_first _ _ _ _ _ _ _ _ _ x.walk.few);
   }
 
   -- at a super block
-  module _ {refused : Checked} {total slot u : ℕ} (i : InSupers w refused total slot u) where
-    pub supers_ends : w.end ≤ u → Ends w refused total
-    supers_ends le = ends_at _ _ _ _ _ _ _ _ _ i.passes refl (supers_done _ _ _ _ _ _ _ _ _ _ _ _ i.state le)
+  module _ {total slot u : ℕ} (i : InSupers w total slot u) where
+    pub supers_ends : w.end ≤ u → Ends w (Ok total)
+    supers_ends le = supers_done _ _ _ _ _ _ _ _ _ _ _ _ i.state le
 
-    pub count_ends : w.count ≤ slot → Ends w refused total
-    count_ends le = ends_at _ _ _ _ _ _ _ _ _ i.passes refl (super_ended _ _ _ _ _ _ _ _ _ _ _ _ i.state (let e = i.fixed.counts in omega arith))
+    pub count_ends : w.count ≤ slot → Ends w (Ok total)
+    count_ends le = super_ended _ _ _ _ _ _ _ _ _ _ _ _ i.state (let e = i.fixed.counts in omega arith)
 
     module _ (lt : u < w.end) where
       super_of_lem : u < super_blocks (h_of w)
@@ -181,29 +172,28 @@ module _ {w : Setting} where
         abbrev open_here : slot < w.reader.count
         open_here = let e = i.fixed.counts in omega arith
 
-        pub super_absent : {blocks elements : ℕ} → blocks ≡ sizes.blocks u → elements ≡ block_elements (h_of w) u → EnteredSuper (a_of w) u Absent
-            → InSupers w refused total (slot + blocks * elements) (u + 1)
+        pub super_absent : {blocks elements : ℕ} → blocks ≡ sizes.blocks u → elements ≡ block_elements (h_of w) u → EnteredSuper (a_of w) u (Ok None)
+            → InSupers w total (slot + blocks * elements) (u + 1)
         super_absent b e x =
-            rw (b, e) (record { fixed = i.fixed; upto = omega arith; passes = i.passes; state = super_skip _ _ _ _ _ _ _ _ _ _ _ _ i.state lt open_here x })
+            rw (b, e) (record { fixed = i.fixed; upto = omega arith; state = super_skip _ _ _ _ _ _ _ _ _ _ _ _ i.state lt open_here x })
 
-        pub super_ends : (x : Refusal) → EnteredSuper (a_of w) u (EnteredRefused x) → Ends w (Refused x) total
+        pub super_ends : (x : Refusal) → EnteredSuper (a_of w) u (Err x) → Ends w (Err x)
         super_ends x e = super_refused _ _ _ _ _ _ _ _ _ _ _ _ i.state lt open_here x e
 
-        pub blocks-first : {blocks elements super : ℕ} → blocks ≡ sizes.blocks u → elements ≡ block_elements (h_of w) u → EnteredSuper (a_of w) u (At super)
-            → InBlocks w u blocks elements super refused total slot Unknown 0
+        pub blocks-first : {blocks elements super : ℕ} → blocks ≡ sizes.blocks u → elements ≡ block_elements (h_of w) u → EnteredSuper (a_of w) u (Ok (Some super))
+            → InBlocks w u blocks elements super total slot None 0
         blocks-first b e x = record {
           fixed = i.fixed;
           super_lt = lt;
           blocks_are = b;
           elements_are = e;
           upto = omega arith;
-          passes = i.passes;
           state = super_in _ _ _ _ _ _ _ _ _ _ _ _ i.state lt open_here _ x;
           ahead_is = tt;
         }
 
   -- at a data block
-  module _ {u blocks elements super : ℕ} {refused : Checked} {total slot : ℕ} {ahead : Ahead} {k : ℕ} (i : InBlocks w u blocks elements super refused total slot ahead k) where
+  module _ {u blocks elements super total slot : ℕ} {ahead : Option Ahead} {k : ℕ} (i : InBlocks w u blocks elements super total slot ahead k) where
     super_block_at_lem : u < super_blocks (h_of w)
     super_block_at_lem = let e = i.fixed.walk.supers in let l = i.super_lt in omega arith
 
@@ -211,13 +201,13 @@ module _ {w : Setting} where
     super_here = (super_block_at_lem, served i.fixed)
 
     -- behind the last one
-    pub supers_next : blocks ≤ k → InSupers w refused total slot (u + 1)
+    pub supers_next : blocks ≤ k → InSupers w total slot (u + 1)
     supers_next le =
         let b = i.blocks_are in
         let l = i.upto in
         let z : k ≡ sizes.blocks u = omega arith in
         let m = i.super_lt in
-        record { fixed = i.fixed; upto = omega arith; passes = i.passes; state = blocks_done _ _ _ _ _ _ _ _ _ _ _ _ _ _ i.state z }
+        record { fixed = i.fixed; upto = omega arith; state = blocks_done _ _ _ _ _ _ _ _ _ _ _ _ _ _ i.state z }
 
     module _ (lt : k < blocks) where
       abbrev block_of : k < sizes.blocks u
@@ -231,7 +221,7 @@ module _ {w : Setting} where
         inside = λ le. entered_super_room (a_of w) u super i.state.entered le;
       }
 
-      pub block_found : (found : Entered) (next : Ahead)
+      pub block_found : (found : Outcome (Option ℕ)) (next : Option Ahead)
           → ((is_direct (a_of w) u ≡ false → super ≡ super_block_at (a_of w) u) → TestedAhead (a_of w) (data_block u) ahead → EnteredBlock (a_of w) u k found × TestedAhead (a_of w) (data_block u) next)
           → EnteredBlock (a_of w) u k found × TestedAhead (a_of w) (data_block u) next
       block_found found next e = e (entered_at (a_of w) u super i.state.entered) i.ahead_is
@@ -243,22 +233,21 @@ module _ {w : Setting} where
           let e = i.elements_are in
           omega arith
 
-      pub direct_ends : u < w.directs → w.count ≤ slot → Ends w refused total
+      pub direct_ends : u < w.directs → w.count ≤ slot → Ends w (Ok total)
       direct_ends d le =
           let c = i.fixed.counts in
           let e = i.fixed.direct_ones in
-          ends_at _ _ _ _ _ _ _ _ _ i.passes refl (block_ended _ _ _ _ _ _ _ _ _ _ _ _ _ _ i.state block_of (omega arith) (omega arith))
+          block_ended _ _ _ _ _ _ _ _ _ _ _ _ _ _ i.state block_of (omega arith) (omega arith)
 
       -- behind it, whichever way
-      pub blocks_next : {refused' : Checked} {total' n : ℕ} {next : Ahead} → refused' ≡ Passed → total' ≡ n → Behind w n slot u super k → TestedAhead (a_of w) (data_block u) next
-          → InBlocks w u blocks elements super refused' total' (slot + elements) next (k + 1)
-      blocks_next q d b t = rw (i.elements_are, d) (record {
+      pub blocks_next : {total' n : ℕ} {next : Option Ahead} → total' ≡ n → Behind w n slot u super k → TestedAhead (a_of w) (data_block u) next
+          → InBlocks w u blocks elements super total' (slot + elements) next (k + 1)
+      blocks_next d b t = rw (i.elements_are, d) (record {
         fixed = i.fixed;
         super_lt = i.super_lt;
         blocks_are = i.blocks_are;
         elements_are = refl;
         upto = omega arith;
-        passes = q;
         state = block-behind _ _ _ _ _ _ _ _ _ _ _ _ _ _ b;
         ahead_is = t;
       })
@@ -270,14 +259,14 @@ module _ {w : Setting} where
             let e = i.fixed.direct_ones in
             ⊎_elim (λ q. let y = q.1 in let z = q.0 in ((λ d. omega arith), inl (omega arith))) (λ q. ((λ d. absurd (omega arith)), inr (omega arith))) o
 
-        pub block_absent : EnteredBlock (a_of w) u k Absent → Behind w total slot u super k
+        pub block_absent : EnteredBlock (a_of w) u k (Ok None) → Behind w total slot u super k
         block_absent e = block_skip _ _ _ _ _ _ _ _ _ _ _ _ _ _ i.state block_of opens.0 opens.1 e
 
-        pub block_ends : (x : Refusal) → EnteredBlock (a_of w) u k (EnteredRefused x) → Ends w (Refused x) total
+        pub block_ends : (x : Refusal) → EnteredBlock (a_of w) u k (Err x) → Ends w (Err x)
         block_ends x e = block_refused _ _ _ _ _ _ _ _ _ _ _ _ _ _ i.state block_of opens.0 opens.1 x e
 
-        module _ {at : ℕ} (e : EnteredBlock (a_of w) u k (At at)) where
-          pub pages-first : {pages : ℕ} → in_pages (h_of w) u ≡ true → pages ≡ sizes.pages (h_of w) u → InPages w u blocks elements super k at pages slot refused total slot Unknown 0
+        module _ {at : ℕ} (e : EnteredBlock (a_of w) u k (Ok (Some at))) where
+          pub pages-first : {pages : ℕ} → in_pages (h_of w) u ≡ true → pages ≡ sizes.pages (h_of w) u → InPages w u blocks elements super k at pages slot total slot None 0
           pages-first q n = record {
             fixed = i.fixed;
             super_lt = i.super_lt;
@@ -287,7 +276,6 @@ module _ {w : Setting} where
             pages_are = n;
             paged = q;
             upto = omega arith;
-            passes = i.passes;
             state = block-pages _ _ _ _ _ _ _ _ _ _ _ _ _ _ i.state block_of opens.0 opens.1 _ e q;
             ahead_is = tt;
           }
@@ -306,13 +294,13 @@ module _ {w : Setting} where
             begins : at + in_block ≡ block_at (a_of w) u k + block_element_at (h_of w) (a_of w).offset_size 0
             begins = ap (λ (x : ℕ). x + in_block) e.2 ∙ ap (λ (x : ℕ). block_at (a_of w) u k + x) p
 
-            counted : (x : Counted) → Run w (at + in_block) elements slot x → Run w (at + in_block) (block_elements (h_of w) u) slot x
+            counted : (x : Outcome ℕ) → Run w (at + in_block) elements slot x → Run w (at + in_block) (block_elements (h_of w) u) slot x
             counted x c = subst (λ (n : ℕ). Run w (at + in_block) n slot x) i.elements_are c
 
-            pub unpaged_ends : (x : Refusal) → Run w (at + in_block) elements slot (CountedRefused x) → Ends w (Refused x) total
-            unpaged_ends x c = block_run_refused _ _ _ _ _ _ _ _ _ _ _ _ _ _ i.state block_of opens.0 opens.1 _ e q _ begins x (counted (CountedRefused x) c)
+            pub unpaged_ends : (x : Refusal) → Run w (at + in_block) elements slot (Err x) → Ends w (Err x)
+            unpaged_ends x c = block_run_refused _ _ _ _ _ _ _ _ _ _ _ _ _ _ i.state block_of opens.0 opens.1 _ e q _ begins x (counted (Err x) c)
 
-            module _ {m : ℕ} (c : Run w (at + in_block) elements slot (Count m)) where
+            module _ {m : ℕ} (c : Run w (at + in_block) elements slot (Ok m)) where
               pub unpaged_fits : total + m ≤ 2 ^ 63 + 255
               unpaged_fits =
                   let n = run_few i.fixed _ _ _ m c in
@@ -322,11 +310,11 @@ module _ {w : Setting} where
 
               pub unpaged_behind : Behind w (total + m) slot u super k
               unpaged_behind =
-                  block_run _ _ _ _ _ _ _ _ _ _ _ _ _ _ i.state block_of opens.0 opens.1 _ e q _ begins m (run_few i.fixed _ _ _ m (counted (Count m) c)) (counted (Count m) c)
+                  block_run _ _ _ _ _ _ _ _ _ _ _ _ _ _ i.state block_of opens.0 opens.1 _ e q _ begins m (run_few i.fixed _ _ _ m (counted (Ok m) c)) (counted (Ok m) c)
 
   -- at a page
-  module _ {u blocks elements super k at pages slot : ℕ} {refused : Checked} {total from : ℕ} {ahead : Ahead} {p : ℕ}
-      (i : InPages w u blocks elements super k at pages slot refused total from ahead p) where
+  module _ {u blocks elements super k at pages slot total from : ℕ} {ahead : Option Ahead} {p : ℕ}
+      (i : InPages w u blocks elements super k at pages slot total from ahead p) where
     super_in_pages : u < super_blocks (h_of w)
     super_in_pages = let e = i.fixed.walk.supers in let l = i.super_lt in omega arith
 
@@ -360,7 +348,7 @@ module _ {w : Setting} where
             omega arith,
           )
 
-      pub page_found : (found : Entered) (next : Ahead)
+      pub page_found : (found : Outcome (Option ℕ)) (next : Option Ahead)
           → (super ≡ super_block_at (a_of w) u → at ≡ block_at (a_of w) u k → TestedAhead (a_of w) (data_page u k) ahead → EnteredPage (a_of w) u k p found × TestedAhead (a_of w) (data_page u k) next)
           → EnteredPage (a_of w) u k p found × TestedAhead (a_of w) (data_page u k) next
       page_found found next e = e (entered_at (a_of w) u super i.state.entered (not_direct (a_of w) u (paged_behind (h_of w) u i.paged))) i.state.inside.2 i.ahead_is
@@ -375,8 +363,8 @@ module _ {w : Setting} where
           omega arith
 
       -- the next page, with this state
-      next_page_lem : {total' : ℕ} {next : Ahead} → PageAt w total' (from + page_elements (h_of w)) slot u super k at (p + 1)
-          → TestedAhead (a_of w) (data_page u k) next → InPages w u blocks elements super k at pages slot refused total' (from + w.page) next (p + 1)
+      next_page_lem : {total' : ℕ} {next : Option Ahead} → PageAt w total' (from + page_elements (h_of w)) slot u super k at (p + 1)
+          → TestedAhead (a_of w) (data_page u k) next → InPages w u blocks elements super k at pages slot total' (from + w.page) next (p + 1)
       next_page_lem {total'} s t = record {
         fixed = i.fixed;
         super_lt = i.super_lt;
@@ -386,31 +374,30 @@ module _ {w : Setting} where
         pages_are = i.pages_are;
         paged = i.paged;
         upto = omega arith;
-        passes = i.passes;
         state = subst (λ (n : ℕ). PageAt w total' (from + n) slot u super k at (p + 1)) (sym i.fixed.page_size) s;
         ahead_is = t;
       }
 
-      pub pages_clear : {next : Ahead} → EnteredPage (a_of w) u k p Absent → TestedAhead (a_of w) (data_page u k) next
-          → InPages w u blocks elements super k at pages slot refused total (from + w.page) next (p + 1)
+      pub pages_clear : {next : Option Ahead} → EnteredPage (a_of w) u k p (Ok None) → TestedAhead (a_of w) (data_page u k) next
+          → InPages w u blocks elements super k at pages slot total (from + w.page) next (p + 1)
       pages_clear e t = next_page_lem (page_skip _ _ _ _ _ _ _ _ _ _ _ _ _ _ _ _ _ i.state page_of_lem e) t
 
-      pub page_ends_walk : (x : Refusal) → EnteredPage (a_of w) u k p (EnteredRefused x) → Ends w (Refused x) total
+      pub page_ends_walk : (x : Refusal) → EnteredPage (a_of w) u k p (Err x) → Ends w (Err x)
       page_ends_walk x e = page_refused _ _ _ _ _ _ _ _ _ _ _ _ _ _ _ _ _ i.state page_of_lem x e
 
-      module _ {pos : ℕ} (e : EnteredPage (a_of w) u k p (At pos)) where
+      module _ {pos : ℕ} (e : EnteredPage (a_of w) u k p (Ok (Some pos))) where
         pub page_run : RunInFile w.file w.reader w.chunk w.bound w.down pos w.page
         page_run = run_in_file i.fixed pos w.page (rw i.fixed.page_size (entered_page_room (a_of w) u pos k p e))
 
-        counted_page : (x : Counted) → Run w pos w.page from x → Run w pos (page_elements (h_of w)) from x
+        counted_page : (x : Outcome ℕ) → Run w pos w.page from x → Run w pos (page_elements (h_of w)) from x
         counted_page x c = subst (λ (n : ℕ). Run w pos n from x) i.fixed.page_size c
 
-        pub page_run_ends : (x : Refusal) → Run w pos w.page from (CountedRefused x) → Ends w (Refused x) total
-        page_run_ends x c = page_run_refused _ _ _ _ _ _ _ _ _ _ _ _ _ _ _ _ _ i.state page_of_lem pos e x (counted_page (CountedRefused x) c)
+        pub page_run_ends : (x : Refusal) → Run w pos w.page from (Err x) → Ends w (Err x)
+        page_run_ends x c = page_run_refused _ _ _ _ _ _ _ _ _ _ _ _ _ _ _ _ _ i.state page_of_lem pos e x (counted_page (Err x) c)
 
-        module _ {m : ℕ} (c : Run w pos w.page from (Count m)) where
+        module _ {m : ℕ} (c : Run w pos w.page from (Ok m)) where
           few : m ≤ page_elements (h_of w)
-          few = run_few i.fixed pos (page_elements (h_of w)) from m (counted_page (Count m) c)
+          few = run_few i.fixed pos (page_elements (h_of w)) from m (counted_page (Ok m) c)
 
           pub page_total_fits : total + m ≤ 2 ^ 63 + 255
           page_total_fits =
@@ -425,11 +412,11 @@ module _ {w : Setting} where
           page_last past =
               let y = i.fixed.page_size in
               let d = i.fixed.counts in
-              page_run_last _ _ _ _ _ _ _ _ _ _ _ _ _ _ _ _ _ i.state page_of_lem pos e m few (counted_page (Count m) c) (omega arith) exact
+              page_run_last _ _ _ _ _ _ _ _ _ _ _ _ _ _ _ _ _ i.state page_of_lem pos e m few (counted_page (Ok m) c) (omega arith) exact
 
-          pub pages_on : {next : Ahead} → from + w.page ≤ w.count → TestedAhead (a_of w) (data_page u k) next
-              → InPages w u blocks elements super k at pages slot refused (total + m) (from + w.page) next (p + 1)
+          pub pages_on : {next : Option Ahead} → from + w.page ≤ w.count → TestedAhead (a_of w) (data_page u k) next
+              → InPages w u blocks elements super k at pages slot (total + m) (from + w.page) next (p + 1)
           pages_on le t =
               let y = i.fixed.page_size in
               let d = i.fixed.counts in
-              next_page_lem (page_run_on _ _ _ _ _ _ _ _ _ _ _ _ _ _ _ _ _ i.state page_of_lem pos e m few (counted_page (Count m) c) (omega arith)) t
+              next_page_lem (page_run_on _ _ _ _ _ _ _ _ _ _ _ _ _ _ _ _ _ i.state page_of_lem pos e m few (counted_page (Ok m) c) (omega arith)) t

@@ -8,15 +8,12 @@ use native.Mathlib.Omega.{arith}
 use native.Mathlib.Nat.{mul-le-mul_right}
 use borrow.Author.Tests.{leb-true}
 use lib.Dec.{leb}
+use Rattle.std.specs.Prelude.{Err, None, Ok, Some}
+use Rattle.refusal.specs.Refusals.{Outcome}
 use Rattle.refusal.specs.declared.Refusal.{Refusal}
-use Rattle.refusal.specs.declared.Checked.{Checked}
-use Rattle.refusal.specs.declared.Checked.TheVariants.{Passed, Refused}
-use Rattle.refusal.specs.declared.Counted.{Counted}
-use Rattle.refusal.specs.declared.Counted.TheVariants.{Count, Refused as CountedRefused}
-use Rattle.refusal.specs.Outcome.{accepted}
 use Rattle.refusal.specs.Values.{plus, counted_of}
 use Rattle.refusal.proofs.Tests.{lt_or_ge, both}
-use Rattle.refusal.proofs.Counts.{plus_none, answered, counted_inv}
+use Rattle.refusal.proofs.Counts.{plus_none, counted_inv}
 use Rattle.chunk_grid.specs.Grid.{Grid}
 use Rattle.index.specs.Index.{Listing}
 use Rattle.elements.specs.declared.ElementReader.{ElementReader}
@@ -34,7 +31,6 @@ use Rattle.ea_geometry.specs.Slots.{first_slot}
 use Rattle.ea_geometry.proofs.Counts.{elements_before_few, pages-exact}
 use Rattle.ea_geometry.proofs.Places.{in_pages_over, next_slot}
 use Rattle.ea_blocks.specs.declared.ExtensibleArray.{ExtensibleArray}
-use Rattle.structures.specs.declared.enter.Entered.TheVariants.{Absent, At, Refused as EnteredRefused}
 use Rattle.ea_blocks.specs.Array.{Array}
 use Rattle.ea_blocks.specs.Values.{array_of}
 use Rattle.ea_blocks.specs.Structures.{pages_of, is_direct, block_at}
@@ -58,12 +54,12 @@ module _ (f : List ℕ) (array : ExtensibleArray) (r : ElementReader) (first beg
   es g n = elements_of f r g n
 
   -- the whole
-  abbrev whole : Grid → ℕ → Counted
-  whole g n = plus first (supers_from a (es g n) (end - begin) begin (first_slot h begin) (accepted []))
+  abbrev whole : Grid → ℕ → Outcome ℕ
+  whole g n = plus first (supers_from a (es g n) (end - begin) begin (first_slot h begin) (Ok []))
 
   -- what is left behind super block u, and behind its data block k
   abbrev behind_super : Grid → ℕ → ℕ → Listing
-  behind_super g n u = supers_from a (es g n) (end - (u + 1)) (u + 1) (first_slot h (u + 1)) (accepted [])
+  behind_super g n u = supers_from a (es g n) (end - (u + 1)) (u + 1) (first_slot h (u + 1)) (Ok [])
 
   abbrev behind_block : Grid → ℕ → ℕ → ℕ → Listing
   behind_block g n u k = blocks_from a (es g n) u (blocks u - (k + 1)) (k + 1) (first_slot h u + (k + 1) * block_elements h u) (behind_super g n u)
@@ -72,30 +68,25 @@ module _ (f : List ℕ) (array : ExtensibleArray) (r : ElementReader) (first beg
   abbrev Left : ℕ → (Grid → ℕ → Listing) → Type 0
   Left total rest = (g : Grid) (n : ℕ) → Made g n → plus total (rest g n) ≡ whole g n
 
-  -- done, with this refusal or count
-  abbrev pub Done : Checked → ℕ → Type 0
-  Done refusal total = (g : Grid) (n : ℕ) → Made g n → answered refusal total ≡ whole g n
-
-  -- another refusal and count that are the same
-  pub ends_at : {x x' : Checked} {n n' : ℕ} → x ≡ x' → n ≡ n' → Done x' n' → Done x n
-  unfolding answered
-  ends_at {x} {x'} {n} {n'} e d k = λ g m w. ap (λ (y : Checked). answered y n) e ∙ ap (answered x') d ∙ k g m w
+  -- done, with this count or refusal
+  abbrev pub Done : Outcome ℕ → Type 0
+  Done answer = (g : Grid) (n : ℕ) → Made g n → answer ≡ whole g n
 
   -- n elements from pos on, of the slots from s on, are counted, or refused
-  abbrev pub Counts : ℕ → ℕ → ℕ → Counted → Type 0
-  Counts pos j s x = (g : Grid) (n : ℕ) → Made g n → x ≡ counted_of (elements_from (es g n) pos j s (accepted []))
+  abbrev pub Counts : ℕ → ℕ → ℕ → Outcome ℕ → Type 0
+  Counts pos j s x = (g : Grid) (n : ℕ) → Made g n → x ≡ counted_of (elements_from (es g n) pos j s (Ok []))
 
   -- at super block u, `total` records counted
   pub record AtSuper (total slot u : ℕ) : Type 0 where
     pub few : total ≤ slot
     pub at : slot ≡ first_slot h u
-    pub rest : Left total (λ (g : Grid) (n : ℕ). supers_from a (es g n) (end - u) u slot (accepted []))
+    pub rest : Left total (λ (g : Grid) (n : ℕ). supers_from a (es g n) (end - u) u slot (Ok []))
 
   -- at its data block k
   pub record AtBlock (total slot u super k : ℕ) : Type 0 where
     pub few : total ≤ slot
     pub at : slot ≡ first_slot h u + k * block_elements h u
-    pub entered : EnteredSuper a u (At super)
+    pub entered : EnteredSuper a u (Ok (Some super))
     pub rest : Left total (λ (g : Grid) (n : ℕ). blocks_from a (es g n) u (blocks u - k) k slot (behind_super g n u))
 
   -- at page p of it, which begins at slot `from`
@@ -103,60 +94,58 @@ module _ (f : List ℕ) (array : ExtensibleArray) (r : ElementReader) (first beg
     pub few : total ≤ from
     pub at : from ≡ slot + p * page_elements h
     pub begins : slot ≡ first_slot h u + k * block_elements h u
-    pub entered : EnteredSuper a u (At super)
-    pub inside : EnteredBlock a u k (At block)
+    pub entered : EnteredSuper a u (Ok (Some super))
+    pub inside : EnteredBlock a u k (Ok (Some block))
     pub rest : Left total (λ (g : Grid) (n : ℕ). pages_from (es g n) (pages_of a u k) (pages h u - p) p from (behind_block g n u k))
 
   -- behind data block k
   pub record BehindBlock (total slot u super k : ℕ) : Type 0 where
     pub few : total ≤ slot + block_elements h u
     pub at : slot ≡ first_slot h u + k * block_elements h u
-    pub entered : EnteredSuper a u (At super)
+    pub entered : EnteredSuper a u (Ok (Some super))
     pub rest : Left total (λ (g : Grid) (n : ℕ). behind_block g n u k)
 
   pub at_first : first ≤ first_slot h begin → AtSuper first (first_slot h begin) begin
   at_first le = record { few = le; at = refl; rest = λ g n w. refl }
 
   module _ (total slot u : ℕ) (s : AtSuper total slot u) where
-    pub supers_done : end ≤ u → Done Passed total
-    unfolding answered
-    supers_done le g n w = sym (plus_none total _ (turns.supers_none a (es g n) end u slot (accepted []) le)) ∙ s.rest g n w
+    pub supers_done : end ≤ u → Done (Ok total)
+    supers_done le g n w = sym (plus_none total _ (turns.supers_none a (es g n) end u slot (Ok []) le)) ∙ s.rest g n w
 
-    pub super_ended : r.count ≤ slot → Done Passed total
-    unfolding answered
-    super_ended le g n w = sym (plus_none total _ (turns.supers_past a (es g n) (end - u) u slot (accepted []) le)) ∙ s.rest g n w
+    pub super_ended : r.count ≤ slot → Done (Ok total)
+    super_ended le g n w = sym (plus_none total _ (turns.supers_past a (es g n) (end - u) u slot (Ok []) le)) ∙ s.rest g n w
 
     module _ (lt : u < end) (b : slot < r.count) where
       next_at : slot + blocks u * block_elements h u ≡ first_slot h (u + 1)
       next_at = ap (λ (x : ℕ). x + blocks u * block_elements h u) s.at ∙ next_slot h u
 
-      pub super_skip : EnteredSuper a u Absent → AtSuper total (slot + blocks u * block_elements h u) (u + 1)
+      pub super_skip : EnteredSuper a u (Ok None) → AtSuper total (slot + blocks u * block_elements h u) (u + 1)
       super_skip e = record {
         few = let x = s.few in omega arith;
         at = next_at;
-        rest = λ g n w. ap (plus total) (sym (turns.supers_undefined a (es g n) end u slot (accepted []) lt b e.0 e.1)) ∙ s.rest g n w;
+        rest = λ g n w. ap (plus total) (sym (turns.supers_undefined a (es g n) end u slot (Ok []) lt b e.0 e.1)) ∙ s.rest g n w;
       }
 
-      pub super_refused : (x : Refusal) → EnteredSuper a u (EnteredRefused x) → Done (Refused x) total
-      unfolding answered plus
+      pub super_refused : (x : Refusal) → EnteredSuper a u (Err x) → Done (Err x)
+      unfolding plus
       super_refused x e g n w =
-          ap (plus total) (sym (turns.supers_refused a (es g n) end u slot (accepted []) lt b e.0 e.1 x e.2)) ∙ s.rest g n w
+          ap (plus total) (sym (turns.supers_refused a (es g n) end u slot (Ok []) lt b e.0 e.1 x e.2)) ∙ s.rest g n w
 
-      pub super_in : (super : ℕ) → EnteredSuper a u (At super) → AtBlock total slot u super 0
+      pub super_in : (super : ℕ) → EnteredSuper a u (Ok (Some super)) → AtBlock total slot u super 0
       super_in super e = record {
         few = s.few;
         at = let x = s.at in omega arith;
         entered = e;
         rest = λ g n w.
-            subst (λ (x : ℕ). plus total (blocks_from a (es g n) u (blocks u - 0) 0 slot (supers_from a (es g n) (end - (u + 1)) (u + 1) x (accepted []))) ≡ whole g n) next_at
+            subst (λ (x : ℕ). plus total (blocks_from a (es g n) u (blocks u - 0) 0 slot (supers_from a (es g n) (end - (u + 1)) (u + 1) x (Ok []))) ≡ whole g n) next_at
             (ap (plus total) (sym (into g n)) ∙ s.rest g n w);
       }
         where
-          into : (g : Grid) (n : ℕ) → supers_from a (es g n) (end - u) u slot (accepted [])
-              ≡ blocks_from a (es g n) u (blocks u - 0) 0 slot (supers_from a (es g n) (end - (u + 1)) (u + 1) (slot + blocks u * block_elements h u) (accepted []))
+          into : (g : Grid) (n : ℕ) → supers_from a (es g n) (end - u) u slot (Ok [])
+              ≡ blocks_from a (es g n) u (blocks u - 0) 0 slot (supers_from a (es g n) (end - (u + 1)) (u + 1) (slot + blocks u * block_elements h u) (Ok []))
           into g n =
-              ⊎_elim (λ (d : (is_direct a u ≡ true) × (super ≡ 0)). turns.supers_direct a (es g n) end u slot (accepted []) lt b d.0)
-              (λ d. turns.supers_tested a (es g n) end u slot (accepted []) lt b d.0 d.1 d.2) e
+              ⊎_elim (λ (d : (is_direct a u ≡ true) × (super ≡ 0)). turns.supers_direct a (es g n) end u slot (Ok []) lt b d.0)
+              (λ d. turns.supers_tested a (es g n) end u slot (Ok []) lt b d.0 d.1 d.2) e
 
   -- behind the last data block
   pub blocks_done : (total slot u super k : ℕ) → AtBlock total slot u super k → k ≡ blocks u → AtSuper total slot (u + 1)
@@ -166,7 +155,7 @@ module _ (f : List ℕ) (array : ExtensibleArray) (r : ElementReader) (first beg
         few = s.few;
         at = last;
         rest = λ g n w.
-            subst (λ (x : ℕ). plus total (supers_from a (es g n) (end - (u + 1)) (u + 1) x (accepted [])) ≡ whole g n) (sym last)
+            subst (λ (x : ℕ). plus total (supers_from a (es g n) (end - (u + 1)) (u + 1) x (Ok [])) ≡ whole g n) (sym last)
             (ap (plus total) (sym (turns.blocks_none a (es g n) u (blocks u) k slot (behind_super g n u) (let z : blocks u ≤ k = omega arith in z))) ∙ s.rest g n w);
       }
 
@@ -192,10 +181,9 @@ module _ (f : List ℕ) (array : ExtensibleArray) (r : ElementReader) (first beg
         ap (λ (x : ℕ). blocks_from a (es g n) u (blocks u - (k + 1)) (k + 1) x (behind_super g n u)) z
 
     -- the count ends the data blocks that the index block names, and with them the walk
-    pub block_ended : u < direct_super_blocks h → r.count ≤ slot → Done Passed total
-    unfolding answered
+    pub block_ended : u < direct_super_blocks h → r.count ≤ slot → Done (Ok total)
     block_ended d le g n w =
-        sym (plus_none total _ (turns.blocks_ended a (es g n) u (blocks u) k slot (behind_super g n u) lt (is_direct_lem a u d) le ∙ turns.supers_past a (es g n) _ (u + 1) _ (accepted []) past))
+        sym (plus_none total _ (turns.blocks_ended a (es g n) u (blocks u) k slot (behind_super g n u) lt (is_direct_lem a u d) le ∙ turns.supers_past a (es g n) _ (u + 1) _ (Ok []) past))
         ∙ s.rest g n w
       where
         past : r.count ≤ first_slot h (u + 1)
@@ -211,7 +199,7 @@ module _ (f : List ℕ) (array : ExtensibleArray) (r : ElementReader) (first beg
           ⊎_elim (λ (d : u < direct_super_blocks h). turns.below_count a (es g n) u slot (is_direct_lem a u d) (open' d))
           (λ (d : direct_super_blocks h ≤ u). turns.not_direct a (es g n) u slot (not_direct a u d)) side
 
-      pub block_skip : EnteredBlock a u k Absent → BehindBlock total slot u super k
+      pub block_skip : EnteredBlock a u k (Ok None) → BehindBlock total slot u super k
       block_skip e = record {
         few = let x = s.few in omega arith;
         at = s.at;
@@ -219,12 +207,12 @@ module _ (f : List ℕ) (array : ExtensibleArray) (r : ElementReader) (first beg
         rest = λ g n w. ap (plus total) (sym (behind_is g n) ∙ sym (turns.blocks-undefined a (es g n) u (blocks u) k slot (behind_super g n u) lt (goes g n) e)) ∙ s.rest g n w;
       }
 
-      pub block_refused : (x : Refusal) → EnteredBlock a u k (EnteredRefused x) → Done (Refused x) total
-      unfolding answered plus
+      pub block_refused : (x : Refusal) → EnteredBlock a u k (Err x) → Done (Err x)
+      unfolding plus
       block_refused x e g n w =
           ap (plus total) (sym (turns.blocks_refused a (es g n) u (blocks u) k slot (behind_super g n u) lt (goes g n) e.0 x e.1)) ∙ s.rest g n w
 
-      module _ (block : ℕ) (e : EnteredBlock a u k (At block)) where
+      module _ (block : ℕ) (e : EnteredBlock a u k (Ok (Some block))) where
         -- read unpaged
         module _ (q : in_pages h u ≡ false) (pos : ℕ) (p : pos ≡ block_at a u k + block_element_at h a.offset_size 0) where
           turn : Left total (λ (g : Grid) (n : ℕ). elements_from (es g n) pos (block_elements h u) slot (behind_block g n u k))
@@ -235,7 +223,7 @@ module _ (f : List ℕ) (array : ExtensibleArray) (r : ElementReader) (first beg
               ∙ sym (turns.blocks_unpaged a (es g n) u (blocks u) k slot (behind_super g n u) lt (goes g n) e.0 e.1 q))
               ∙ s.rest g n w
 
-          pub block_run : (m : ℕ) → m ≤ block_elements h u → Counts pos (block_elements h u) slot (Count m) → BehindBlock (total + m) slot u super k
+          pub block_run : (m : ℕ) → m ≤ block_elements h u → Counts pos (block_elements h u) slot (Ok m) → BehindBlock (total + m) slot u super k
           block_run m le c = record {
             few = let x = s.few in omega arith;
             at = s.at;
@@ -243,8 +231,7 @@ module _ (f : List ℕ) (array : ExtensibleArray) (r : ElementReader) (first beg
             rest = λ g n w. sym (run_count (es g n) pos (block_elements h u) slot m (sym (c g n w)) total (behind_block g n u k)) ∙ turn g n w;
           }
 
-          pub block_run_refused : (x : Refusal) → Counts pos (block_elements h u) slot (CountedRefused x) → Done (Refused x) total
-          unfolding answered
+          pub block_run_refused : (x : Refusal) → Counts pos (block_elements h u) slot (Err x) → Done (Err x)
           block_run_refused x c g n w = sym (run_refused (es g n) pos (block_elements h u) slot x (sym (c g n w)) total (behind_block g n u k)) ∙ turn g n w
 
         -- read by pages
@@ -283,7 +270,7 @@ module _ (f : List ℕ) (array : ExtensibleArray) (r : ElementReader) (first beg
       behind_page : Grid → ℕ → Listing
       behind_page g n = pages_from (es g n) (pages_of a u k) (pages h u - (p + 1)) (p + 1) (from + page_elements h) (behind_block g n u k)
 
-      pub page_skip : EnteredPage a u k p Absent → AtPage total (from + page_elements h) slot u super k block (p + 1)
+      pub page_skip : EnteredPage a u k p (Ok None) → AtPage total (from + page_elements h) slot u super k block (p + 1)
       page_skip e = record {
         few = let x = s.few in omega arith;
         at = next_from;
@@ -293,12 +280,12 @@ module _ (f : List ℕ) (array : ExtensibleArray) (r : ElementReader) (first beg
         rest = λ g n w. ap (plus total) (sym (page_turns.pages_clear (es g n) (pages_of a u k) (pages h u) p from (behind_block g n u k) lt e)) ∙ s.rest g n w;
       }
 
-      pub page_refused : (x : Refusal) → EnteredPage a u k p (EnteredRefused x) → Done (Refused x) total
-      unfolding answered plus
+      pub page_refused : (x : Refusal) → EnteredPage a u k p (Err x) → Done (Err x)
+      unfolding plus
       page_refused x e g n w =
           ap (plus total) (sym (page_turns.pages_refused (es g n) (pages_of a u k) (pages h u) p from (behind_block g n u k) lt e.0 x e.1)) ∙ s.rest g n w
 
-      module _ (pos : ℕ) (e : EnteredPage a u k p (At pos)) where
+      module _ (pos : ℕ) (e : EnteredPage a u k p (Ok (Some pos))) where
         -- the page's elements in front of what is left, where the count ends in it and where it doesn't
         run_last : r.count < from + page_elements h → Left total (λ (g : Grid) (n : ℕ). elements_from (es g n) pos (page_elements h) from (behind_block g n u k))
         run_last past g n w =
@@ -315,14 +302,13 @@ module _ (f : List ℕ) (array : ExtensibleArray) (r : ElementReader) (first beg
             ∙ sym (page_turns.pages_set (es g n) (pages_of a u k) (pages h u) p from (behind_block g n u k) lt e.0 e.1 le))
             ∙ s.rest g n w
 
-        pub page_run_refused : (x : Refusal) → Counts pos (page_elements h) from (CountedRefused x) → Done (Refused x) total
-        unfolding answered
+        pub page_run_refused : (x : Refusal) → Counts pos (page_elements h) from (Err x) → Done (Err x)
         page_run_refused x c g n w =
             ⊎_elim (λ (past : r.count < from + page_elements h). sym (run_refused (es g n) pos (page_elements h) from x (sym (c g n w)) total _) ∙ run_last past g n w)
             (λ (le : from + page_elements h ≤ r.count). sym (run_refused (es g n) pos (page_elements h) from x (sym (c g n w)) total _) ∙ run_on le g n w)
             (lt_or_ge r.count (from + page_elements h))
 
-        module _ (m : ℕ) (le : m ≤ page_elements h) (c : Counts pos (page_elements h) from (Count m)) where
+        module _ (m : ℕ) (le : m ≤ page_elements h) (c : Counts pos (page_elements h) from (Ok m)) where
           pub page_run_last : r.count < from + page_elements h → pages h u * page_elements h ≡ block_elements h u → BehindBlock (total + m) slot u super k
           page_run_last past exact =
               let x = s.few in
@@ -361,7 +347,7 @@ block_few h v small u k lt hk =
     omega arith
 
 -- a run counts no more records than it has elements
-pub count_few : (es : Elements) (pos j s m : ℕ) → Count m ≡ counted_of (elements_from es pos j s (accepted [])) → m ≤ j
+pub count_few : (es : Elements) (pos j s m : ℕ) → Ok m ≡ counted_of (elements_from es pos j s (Ok [])) → m ≤ j
 count_few es pos j s m e = let i = counted_inv _ m e in let n = run_length es pos j s i.0 i.1 in omega (arith, i.2)
 
 -- a page of a paged block ends in the block

@@ -1,7 +1,6 @@
 #![tactic(auto)]
 // The walk that tests and counts, behind the inline elements.
-ghost use Rattle.std.specs.Prelude.{◌≡◌, [], ℕ, ◌-◌};
-ghost use Rattle.refusal.specs.Outcome.{accepted};
+ghost use Rattle.std.specs.Prelude.{◌≡◌, [], ℕ, ◌-◌, Ok};
 ghost use Rattle.refusal.specs.Values.{plus};
 ghost use Rattle.chunk_grid.specs.Grid.{Grid};
 ghost use Rattle.elements.specs.Values.{elements_of, Reads};
@@ -14,8 +13,7 @@ use ea_blocks::ExtensibleArray;
 use ea_blocks::enter::{enter_block_in_turn, enter_page_in_turn, enter_super};
 use element_runs::count::count_elements;
 use elements::ElementReader;
-use refusal::{Checked, Counted};
-use structures::enter::{Ahead, Entered};
+use refusal::Refusal;
 
 pub mod walk;
 
@@ -31,44 +29,33 @@ pub fn count_blocks(
     chunk: &[u64; 32],
     bound: &[u64; 32],
     down: &[u64; 32],
-) -> Counted
+) -> Result<u64, Refusal>
     requires { WalkFrom file.now array reader chunk.now bound.now down.now first begin end }
     ensures { (grid : Grid) (n : ℕ)
         → Reads reader chunk.now bound.now down.now grid n
         → result ≡ plus first (supers_from (array_of file.now array) (elements_of file.now reader grid n)
-        (end - begin) begin (first_slot array.geometry.parameters begin) (accepted [])) }
+        (end - begin) begin (first_slot array.geometry.parameters begin) (Ok [])) }
 {
     let geometry = array.geometry;
     let count = reader.count;
     let directs = geometry.direct_super_blocks();
     let page = geometry.page_elements();
-    let mut refused = Checked::Passed;
     let mut total = first;
     let mut slot = geometry.first_slot(begin);
-    let mut u = begin;
     // What is counted, and the walk from super block u on, are the whole.
-    'supers: while u < end {
+    'supers: for u in begin..end {
         if count <= slot {
             break 'supers;
         }
         let blocks = geometry.blocks(u);
         let elements = geometry.block_elements(u);
-        let super_at = match enter_super(file, array, u) {
-            Entered::Absent => {
-                slot += blocks * elements;
-                u += 1;
-                continue 'supers;
-            }
-            Entered::At(at) => at,
-            Entered::Refused(r) => {
-                refused = Checked::Refused(r);
-                break 'supers;
-            }
+        let Some(super_at) = enter_super(file, array, u)? else {
+            slot += blocks * elements;
+            continue 'supers;
         };
-        let mut block_ahead = Ahead::Unknown;
-        let mut k = 0;
+        let mut block_ahead = None;
         // What is counted, and the walk from its data block k on, are the whole.
-        'blocks: while k < blocks {
+        'blocks: for k in 0..blocks {
             if u < directs {
                 if count <= slot {
                     break 'supers;
@@ -76,71 +63,34 @@ pub fn count_blocks(
             }
             let turn = enter_block_in_turn(file, array, u, k, super_at, block_ahead);
             block_ahead = turn.ahead;
-            let found = turn.found;
-            let at = match found {
-                Entered::Absent => {
-                    slot += elements;
-                    k += 1;
-                    continue 'blocks;
-                }
-                Entered::At(at) => at,
-                Entered::Refused(r) => {
-                    refused = Checked::Refused(r);
-                    break 'supers;
-                }
+            let Some(at) = turn.found? else {
+                slot += elements;
+                continue 'blocks;
             };
             if geometry.in_pages(u) {
                 let pages = geometry.pages(u);
                 let mut from = slot;
-                let mut page_ahead = Ahead::Unknown;
-                let mut p = 0;
+                let mut page_ahead = None;
                 // What is counted, and the walk from its page p on, are the whole.
-                'pages: while p < pages {
+                'pages: for p in 0..pages {
                     let turn = enter_page_in_turn(file, array, super_at, at, u, k, p, page_ahead);
                     page_ahead = turn.ahead;
-                    let found = turn.found;
-                    let pos = match found {
-                        Entered::Absent => {
-                            from += page;
-                            p += 1;
-                            continue 'pages;
-                        }
-                        Entered::At(pos) => pos,
-                        Entered::Refused(r) => {
-                            refused = Checked::Refused(r);
-                            break 'supers;
-                        }
+                    let Some(pos) = turn.found? else {
+                        from += page;
+                        continue 'pages;
                     };
-                    match count_elements(file, pos, page, from, reader, chunk, bound, down) {
-                        Counted::Count(n) => total += n,
-                        Counted::Refused(r) => {
-                            refused = Checked::Refused(r);
-                            break 'supers;
-                        }
-                    }
+                    total += count_elements(file, pos, page, from, reader, chunk, bound, down)?;
                     if count < from + page {
                         break 'pages;
                     }
                     from += page;
-                    p += 1;
                 }
             } else {
                 let pos = at + geometry.block_element_at(0);
-                match count_elements(file, pos, elements, slot, reader, chunk, bound, down) {
-                    Counted::Count(n) => total += n,
-                    Counted::Refused(r) => {
-                        refused = Checked::Refused(r);
-                        break 'supers;
-                    }
-                }
+                total += count_elements(file, pos, elements, slot, reader, chunk, bound, down)?;
             }
             slot += elements;
-            k += 1;
         }
-        u += 1;
     }
-    match refused {
-        Checked::Passed => Counted::Count(total),
-        Checked::Refused(r) => Counted::Refused(r),
-    }
+    Ok(total)
 }

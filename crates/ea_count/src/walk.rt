@@ -14,8 +14,8 @@ use ea_blocks::ExtensibleArray;
 use ea_blocks::tests::test_array;
 use element_runs::count::count_elements;
 use elements::ElementReader;
-use fields::bytes::{ensure_width, is_width};
-use refusal::{Checked, Counted, Refusal};
+use fields::bytes::is_width;
+use refusal::Refusal;
 
 // Tests the structures of an array in slot order, and counts the records of its elements.
 pub fn count_walk(
@@ -25,45 +25,40 @@ pub fn count_walk(
     chunk: &[u64; 32],
     bound: &[u64; 32],
     down: &[u64; 32],
-) -> Counted
+) -> Result<u64, Refusal>
     requires { ReadBy (form_of array.geometry.parameters array.geometry.offset_size) reader
         chunk.now bound.now down.now }
     ensures { (grid : Grid) (n : ℕ)
         → Reads reader chunk.now bound.now down.now grid n
         → result ≡ counted_of (walk (array_of file.now array) (elements_of file.now reader grid n)) }
 {
-    if let Checked::Refused(r) = test_array(file, array) {
-        return Counted::Refused(r);
-    }
+    test_array(file, array)?;
     let geometry = array.geometry;
     if !is_width(geometry.offset_size) {
         return count_unreadable(array, reader);
     }
     let pos = array.index_at + geometry.inline_element_at(0);
     let inline = geometry.parameters.idx_blk_elmts as u64;
-    let counted = count_elements(file, pos, inline, 0, reader, chunk, bound, down);
-    let Counted::Count(n) = counted else {
-        return counted;
-    };
+    let n = count_elements(file, pos, inline, 0, reader, chunk, bound, down)?;
     let supers = geometry.super_blocks();
     count_blocks(file, array, reader, n, 0, supers, chunk, bound, down)
 }
 
 // What is behind the index block's test where the offset size isn't a width: the refusal of the first element, or of
 // the first pointer where there are no inline elements; nothing where the count is 0.
-fn count_unreadable(array: ExtensibleArray, reader: ElementReader) -> Counted
+fn count_unreadable(array: ExtensibleArray, reader: ElementReader) -> Result<u64, Refusal>
     requires { (form_of array.geometry.parameters array.geometry.offset_size ≡ reader.form)
         × (is_width array.geometry.offset_size ≡ false) }
     ensures { (file : List ℕ) (grid : Grid) (n : ℕ)
         → result ≡ counted_of (from_inline (array_of file array) (elements_of file reader grid n)) }
 {
     if reader.count == 0 {
-        return Counted::Count(0);
+        return Ok(0);
     }
-    let checked = if array.geometry.parameters.idx_blk_elmts == 0 {
-        ensure_width(array.geometry.offset_size, Refusal::OFFSET_SIZE)
-    } else {
-        reader.form.test()
-    };
-    Counted::Refused(checked.refusal())
+    if array.geometry.parameters.idx_blk_elmts == 0 {
+        return Err(Refusal::OffsetSize(array.geometry.offset_size));
+    }
+    reader.form.test()?;
+    // No element's size passes that test: the offset size isn't a width.
+    Ok(0)
 }

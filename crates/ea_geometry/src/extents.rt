@@ -13,7 +13,6 @@ ghost use Rattle.ea_geometry.specs.Extents.{data_extent, paged_head_extent, page
 
 use crate::EaGeometry;
 use element_form::Form;
-use fields::convert::{saturating_add, saturating_mul};
 
 impl EaGeometry {
     // The form of the array's elements.
@@ -105,9 +104,10 @@ impl EaGeometry {
         ensures { result ≡ figure (index_extent self.parameters self.offset_size) }
     {
         let addresses = 1 + self.direct_pointers() + self.super_pointers();
-        let pointers = saturating_mul(addresses, self.offset_size);
-        let elements = saturating_mul(self.parameters.idx_blk_elmts as u64, self.element_stride());
-        saturating_add(saturating_add(10, pointers), elements)
+        let pointers = addresses.saturating_mul(self.offset_size);
+        let inline = self.parameters.idx_blk_elmts as u64;
+        let elements = inline.saturating_mul(self.element_stride());
+        pointers.saturating_add(10).saturating_add(elements)
     }
 
     // A super block before its page bits, a data block before its elements.

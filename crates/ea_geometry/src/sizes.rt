@@ -59,8 +59,7 @@ impl EaGeometry {
         ensures { result ≡ direct_super_blocks self.parameters }
     {
         let minimum = self.parameters.super_blk_min_nelmts as u64;
-        let all = self.super_blocks();
-        if minimum < all { minimum } else { all }
+        minimum.min(self.super_blocks())
     }
 
     // The data blocks of the super blocks before u.

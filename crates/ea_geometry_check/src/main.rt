@@ -151,37 +151,16 @@ impl Array {
     }
 }
 
+// a / b, and 0 for b = 0.
 fn quotient(a: u64, b: u64) -> u64 {
-    if b == 0 {
-        return 0;
-    }
-    a / b
-}
-
-fn minimum_of(a: u64, b: u64) -> u64 {
-    if a < b {
-        return a;
-    }
-    b
+    a.checked_div(b).unwrap_or(0)
 }
 
 // Whether a place is inline slot s.
 fn is_inline(p: Place, s: u64) -> bool {
     match p {
         Place::Inline(i) => i == s,
-        Place::Block {
-            super_block: _,
-            block: _,
-            element: _,
-        } => false,
-        Place::Page {
-            super_block: _,
-            block: _,
-            element: _,
-            page: _,
-            bit: _,
-        } => false,
-        Place::Nowhere => false,
+        _ => false,
     }
 }
 
@@ -236,7 +215,7 @@ fn compare_parameters(log: u8, bits: u8, page: u8, inline: u8, minimum: u8) -> T
     }
     let array = Array {
         supers,
-        direct: minimum_of(minimum as u64, supers),
+        direct: supers.min(minimum as u64),
         page: power(page),
     };
     let start = Reached {

@@ -1,43 +1,16 @@
 -- What the test of a header says, and what reading it gives. Assumes nothing.
-use mathlib.Core.Path.{◌≡◌, refl, ap}
+use mathlib.Core.Path.{◌≡◌}
 use mathlib.Core.Bool.{true}
 use mathlib.Core.List.{List}
 use Prim.Native.Nat.{ℕ, ◌+◌, ◌≤◌}
 use lib.ListN.{length}
-use native.Mathlib.Omega.{arith}
-use Rattle.refusal.specs.declared.Refusal.{Refusal}
-use Rattle.refusal.specs.declared.Checked.{Checked}
-use Rattle.refusal.specs.declared.Checked.TheVariants.{Passed, Refused}
-use Rattle.refusal.specs.Outcome.{accepted, ◌yields◌}
+use Rattle.std.specs.Prelude.{Ok}
 use Rattle.fields.specs.Fields.{is_width}
 use Rattle.structures.proofs.HeaderTests.{passed_is as signed_passed_is}
-use Rattle.ea_header.specs.declared.ExtensibleArrayHeader.{ExtensibleArrayHeader}
-use Rattle.ea_header.specs.declared.Parsed.TheVariants.{Header, Refused as ParsedRefused}
 use Rattle.ea_header.specs.Header.{header_bytes, header_test}
-use Rattle.ea_header.specs.Values.{parsed_of}
 
 -- a header that passes lies in the file, and its sizes are right
-pub passed_is : (sum : List ℕ → ℕ) (f : List ℕ) (pos o l : ℕ) → header_test sum f pos o l ≡ Passed
+pub passed_is : (sum : List ℕ → ℕ) (f : List ℕ) (pos o l : ℕ) → header_test sum f pos o l ≡ Ok tt
     → (pos + header_bytes o l ≤ length f) × (is_width o ≡ true) × (is_width l ≡ true)
 unfolding header_test
 passed_is sum f pos o l h = signed_passed_is _ _ sum f pos (header_bytes o l) o l h
-
--- a header that is read after a test
-module _ (t : Checked) (h : ExtensibleArrayHeader) where
-  pub header_after : Passed ≡ t → Header h ≡ parsed_of (t yields accepted h)
-  unfolding parsed_of ◌yields◌
-  header_after e = ap (λ (x : Checked). parsed_of (x yields accepted h)) e
-
-  pub refused_after : {r : Refusal} → Refused r ≡ t → ParsedRefused r ≡ parsed_of (t yields accepted h)
-  unfolding parsed_of ◌yields◌
-  refused_after e = ap (λ (x : Checked). parsed_of (x yields accepted h)) e
-
-pub header_is : (t : Checked) (h x : ExtensibleArrayHeader) → Header x ≡ parsed_of (t yields accepted h) → (Passed ≡ t) × (x ≡ h)
-unfolding parsed_of ◌yields◌
-header_is Passed h x e = (refl, cc)
-header_is (Refused r) h x e = let z : ◌≡◌ {A = ℕ} 0 1 = cc in absurd (omega arith)
-
-pub refused_is : (t : Checked) (h : ExtensibleArrayHeader) (r : Refusal) → ParsedRefused r ≡ parsed_of (t yields accepted h) → Refused r ≡ t
-unfolding parsed_of ◌yields◌
-refused_is Passed h r e = let z : ◌≡◌ {A = ℕ} 0 1 = cc in absurd (omega arith)
-refused_is (Refused q) h r e = cc

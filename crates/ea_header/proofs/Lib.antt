@@ -1,4 +1,3 @@
 pub mod Header
 pub mod Log
 pub mod Served
-pub mod Numbered

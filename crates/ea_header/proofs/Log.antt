@@ -1,13 +1,15 @@
 -- floor(log2 n): what it is, and what the counts of leading and trailing zeros say of it. Assumes nothing.
 use mathlib.Core.Path.{◌≡◌, refl, ap, sym, ◌∙◌}
+use mathlib.Core.Bool.{Bool, true, false}
 use mathlib.Core.Logic.{⊎_elim}
-use Prim.Native.Nat.{ℕ, zero, suc, ◌-◌, ◌*◌, ◌/◌, ◌%◌, ◌^◌, ◌<◌, ◌≤◌}
+use Prim.Native.Nat.{ℕ, zero, suc, ◌+◌, ◌-◌, ◌*◌, ◌/◌, ◌%◌, ◌^◌, ◌<◌, ◌≤◌}
 use native.Mathlib.Nat.{not-suc-le-zero, lt_of_not-le, one-mul}
 use native.Mathlib.Omega.{arith}
-use lib.Dec.{lit<}
+use lib.Dec.{lit<, eqb}
 use lib.Pow.{pow_pos, pow_mono, shl_exact}
-use lib.Count.{count_leading_zeros, leading_top, count_trailing_zeros}
-use borrow.Author.Tests.{lt-ltb, le-ltb}
+use lib.Count.{ones, ones_in, ones_step, ones_cat, count_leading_zeros, leading_top, count_trailing_zeros}
+use borrow.Author.Tests.{lt-ltb, le-ltb, eqb-true, eqb-false, eq-eqb, ne_eqb}
+use Rattle.std.proofs.lemmas.Nat.{zero_from_ones, ones_le_self}
 use Rattle.refusal.proofs.Tests.{lt_or_ge}
 use Rattle.ea_header.specs.Log.{log2_in, log2}
 
@@ -77,3 +79,30 @@ log2_hi (suc f) n h =
     let half = log2_hi f (n / 2) (omega arith) in
     let z : n < 2 ^ suc (suc (log2_in f (n / 2))) = omega arith in
     rw (le-ltb n 2 ge) z) (lt_or_ge n 2)
+
+-- a power of two is a number with one digit set
+ones_power : (k : ℕ) → ones (2 ^ k) ≡ 1
+unfolding ones ones_in
+ones_power k = let e : 2 ^ k ≡ 1 * 2 ^ k + 0 = omega arith in ap ones e ∙ ones_cat k 1 0 (pow_pos k)
+
+power_of_ones : (f n : ℕ) → n < 2 ^ f → ones n ≡ 1 → n ≡ 2 ^ log2_in f n
+unfolding log2_in
+power_of_ones zero n h e = omega (arith, ones_le_self n)
+power_of_ones (suc f) n h e =
+    let s = ones_step n in
+    let none = zero_from_ones (n / 2) in
+    ⊎_elim (λ (lt : n < 2). rw (lt-ltb n 2 lt) (omega (arith, ones_le_self n)))
+    (λ (ge : 2 ≤ n).
+    let one : ones (n / 2) ≡ 1 = grind (arith, s, none) in
+    let half = power_of_ones f (n / 2) (omega arith) one in
+    let z : n ≡ 2 ^ suc (log2_in f (n / 2)) = omega arith in
+    rw (le-ltb n 2 ge) z) (lt_or_ge n 2)
+
+-- so a test that one digit is set says the same as the definition
+pub power_test : (n : ℕ) → n < 2 ^ 64 → eqb (ones n) 1 ≡ eqb n (2 ^ log2 n)
+power_test n h = go (eqb (ones n) 1) refl
+  where
+    go : (t : Bool) → eqb (ones n) 1 ≡ t → eqb (ones n) 1 ≡ eqb n (2 ^ log2 n)
+    go true e = e ∙ sym (eq-eqb n (2 ^ log2 n) (power_of_ones 64 n h (eqb-true (ones n) 1 e)))
+    go false e =
+        e ∙ sym (ne_eqb n (2 ^ log2 n) (λ p. eqb-false (ones n) 1 e (ap ones p ∙ ones_power (log2 n))))

@@ -6,7 +6,7 @@ use borrow.Author.Tests.{eqb-true, leb-true, eq-eqb, le-leb, not-false}
 use lib.Dec.{eqb, leb}
 use native.Mathlib.Omega.{arith}
 use lib.Pow.{pow_pos, pow_mono}
-use Rattle.refusal.specs.declared.Checked.TheVariants.{Passed}
+use Rattle.std.specs.Prelude.{Ok}
 use Rattle.ea_header.specs.Log.{log2}
 use Rattle.ea_header.specs.Served.{served, served_test}
 use Rattle.ea_header.specs.Values.{Served}
@@ -28,9 +28,9 @@ unfolding served
 serves_back h v =
     rw (eq-eqb h.min_dblk_nelmts _ v.power, le-leb _ _ v.least, le-leb _ _ v.bits, le-leb _ _ v.minimum, le-leb _ _ v.page)
 
-pub tested_serves : (h : Parameters) → served_test h ≡ Passed → Served h
+pub tested_serves : (h : Parameters) → served_test h ≡ Ok tt → Served h
 unfolding served_test
-tested_serves h t = serves h (not-false _ (refuse_inv _ _ _ _ t))
+tested_serves h t = serves h (not-false _ (refuse_inv _ _ t))
 
 pub least_pos : (h : Parameters) → Served h → 0 < h.min_dblk_nelmts
 least_pos h v = let p = pow_pos (log2 h.min_dblk_nelmts) in let q = v.power in omega arith

@@ -1,11 +1,12 @@
 -- The header of an extensible array in a file.
 use Rattle.std.specs.Prelude.{ℕ, ◌+◌, ◌*◌, List, get_or}
-use Rattle.refusal.specs.declared.Checked.{Checked}
 use Rattle.fields.specs.LittleEndian.{le_at}
 use Rattle.fields.specs.Fields.{address_at}
 use Rattle.structures.specs.Header.{signed_header_test}
 use Rattle.ea_header.specs.declared.Parameters.{Parameters}
 use Rattle.ea_header.specs.declared.ExtensibleArrayHeader.{ExtensibleArrayHeader}
+use Rattle.refusal.specs.declared.Refusal.TheVariants.{HeaderSignature}
+use Rattle.refusal.specs.Refusals.{Checked}
 
 -- Header, 16 + 6L + O bytes: "EAHD", version 0, client, element size, max bits, inline count, least block elements,
 -- super block minimum, page exponent, six L-byte statistics, index block address, checksum.
@@ -38,4 +39,4 @@ header_at f pos o l = record {
 
 -- Header: 20, 21 ("EAHD"), 22, 2, 1, 26; 20 is tested with the sizes as given.
 unfoldable pub header_test : (List ℕ → ℕ) → List ℕ → ℕ → ℕ → ℕ → Checked
-header_test sum f pos o l = signed_header_test 21 0x4448_4145 sum f pos (header_bytes o l) o l
+header_test sum f pos o l = signed_header_test HeaderSignature 0x4448_4145 sum f pos (header_bytes o l) o l

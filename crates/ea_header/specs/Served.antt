@@ -1,7 +1,7 @@
 -- Which parameters are served.
 use Rattle.std.specs.Prelude.{◌^◌, Bool, not, ◌&&◌, eqb, leb}
-use Rattle.refusal.specs.declared.Checked.{Checked}
-use Rattle.refusal.specs.Refusals.{refuse}
+use Rattle.refusal.specs.declared.Refusal.TheVariants.{HeaderNotServed}
+use Rattle.refusal.specs.Refusals.{refuse, Checked}
 use Rattle.ea_header.specs.Log.{log2}
 use Rattle.ea_header.specs.declared.Parameters.{Parameters}
 
@@ -14,4 +14,4 @@ served h =
 
 -- 27 header not served
 unfoldable pub served_test : Parameters → Checked
-served_test h = refuse 27 0 0 (not (served h))
+served_test h = refuse HeaderNotServed (not (served h))

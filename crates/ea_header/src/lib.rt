@@ -1,17 +1,15 @@
 #![tactic(auto)]
 // The header of an extensible array.
-ghost use Rattle.std.specs.Prelude.{◌≡◌, true, ◌+◌, ◌^◌, ◌≤◌, eqb, length};
+ghost use Rattle.std.specs.Prelude.{◌≡◌, true, ◌+◌, ◌≤◌, length};
 ghost use Rattle.refusal.specs.Refusals.{figure};
 ghost use Rattle.fields.specs.Fields.{is_width};
 ghost use Rattle.checksum.specs.Lookup3.{lookup3};
 ghost use Rattle.ea_header.specs.Header.{header_bytes, parameters_at, header_at, header_test};
-ghost use Rattle.ea_header.specs.Values.{parsed_at, parsed_of};
-ghost use Rattle.ea_header.specs.Log.{log2};
+ghost use Rattle.ea_header.specs.Values.{parsed_at};
 ghost use Rattle.ea_header.specs.Served.{served, served_test};
 
 use fields::bytes::{read_address, read_le};
-use fields::convert::{saturating_add, saturating_mul};
-use refusal::{Checked, Refusal};
+use refusal::Refusal;
 use structures::header::test_header;
 
 // The parameters of an extensible array: sizes, extents and places of its structures follow from them and the offset
@@ -43,41 +41,35 @@ pub struct ExtensibleArrayHeader {
     pub index_block_address: u64,
 }
 
-// What reading a header finds: the header, or why it is not read.
-#[derive(Clone, Copy)]
-pub enum Parsed {
-    Header(ExtensibleArrayHeader),
-    Refused(Refusal),
-}
-
 impl ExtensibleArrayHeader {
     // "EAHD"
     pub const SIGNATURE: u32 = 0x4448_4145;
 
     // Reads the header at an address of a file. In this order it is refused: 20 where it does not lie in the file
     // with the sizes as given, 21 and 22 for its signature and version, 2 and 1 for the sizes, 26 for its checksum.
-    pub fn parse(file: &[u8], address: u64, offset_size: u64, length_size: u64) -> Parsed
-        ensures { result ≡ parsed_of (parsed_at lookup3 file.now address offset_size length_size) }
+    pub fn parse(
+        file: &[u8],
+        address: u64,
+        offset_size: u64,
+        length_size: u64,
+    ) -> Result<Self, Refusal>
+        ensures { result ≡ parsed_at lookup3 file.now address offset_size length_size }
     {
-        match header_test(file, address, offset_size, length_size) {
-            Checked::Passed => Parsed::Header(read_header(
-                file,
-                address as usize,
-                offset_size as usize,
-                length_size as usize,
-            )),
-            Checked::Refused(r) => Parsed::Refused(r),
-        }
+        header_test(file, address, offset_size, length_size)?;
+        Ok(read_header(
+            file,
+            address as usize,
+            offset_size as usize,
+            length_size as usize,
+        ))
     }
 
     // The bytes of a header; past 2^64 - 1 it is 2^64 - 1.
     pub fn serialized_size(offset_size: u64, length_size: u64) -> u64
         ensures { result ≡ figure (header_bytes offset_size length_size) }
     {
-        saturating_add(
-            saturating_add(16, saturating_mul(6, length_size)),
-            offset_size,
-        )
+        let statistics = length_size.saturating_mul(6);
+        statistics.saturating_add(16).saturating_add(offset_size)
     }
 }
 
@@ -86,7 +78,7 @@ impl Parameters {
     pub fn is_served(self) -> bool
         ensures { result ≡ served self }
     {
-        if !is_power_of_two(self.min_dblk_nelmts as u64) {
+        if !self.min_dblk_nelmts.is_power_of_two() {
             return false;
         }
         if 62 < self.max_nelmts_bits {
@@ -99,34 +91,25 @@ impl Parameters {
     }
 
     // 27 where the header is not served.
-    pub fn served_test(self) -> Checked
+    pub fn served_test(self) -> Result<(), Refusal>
         ensures { result ≡ served_test self }
     {
         if self.is_served() {
-            return Checked::Passed;
+            Ok(())
+        } else {
+            Err(Refusal::HeaderNotServed)
         }
-        Checked::Refused(Refusal::plain(Refusal::HEADER_NOT_SERVED))
     }
-}
-
-// Whether n is 2^floor(log2 n).
-fn is_power_of_two(n: u64) -> bool
-    ensures { result ≡ eqb n (2 ^ log2 n) }
-{
-    if n == 0 {
-        return false;
-    }
-    n == 1 << (63 - u64::leading_zeros(n) as u64)
 }
 
 // Tests the header at an address.
-fn header_test(file: &[u8], address: u64, offset_size: u64, length_size: u64) -> Checked
+fn header_test(file: &[u8], address: u64, offset_size: u64, length_size: u64) -> Result<(), Refusal>
     ensures { result ≡ header_test lookup3 file.now address offset_size length_size }
 {
     let size = ExtensibleArrayHeader::serialized_size(offset_size, length_size);
     test_header(
         file,
-        Refusal::HEADER_SIGNATURE,
+        Refusal::HeaderSignature,
         ExtensibleArrayHeader::SIGNATURE,
         address,
         size,

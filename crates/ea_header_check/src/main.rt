@@ -3,7 +3,7 @@
 // elements are served, and the bytes of a header.
 ghost use Rattle.std.specs.Prelude.{◌<◌};
 
-use ea_header::{ExtensibleArrayHeader, Parameters, Parsed};
+use ea_header::{ExtensibleArrayHeader, Parameters};
 use refusal::Refusal;
 use std::io;
 
@@ -26,16 +26,14 @@ fn print_header(rt: &impl Print, h: ExtensibleArrayHeader) -> io::Result<()> {
 }
 
 fn print_served(rt: &impl Print, p: Parameters) -> io::Result<()> {
-    let r = p.served_test().refusal();
-    if r.number == 0 {
-        print!(rt; " served")
-    } else {
-        print!(rt; " refused {}", r.number)
+    match p.served_test() {
+        Ok(()) => print!(rt; " served"),
+        Err(r) => print!(rt; " refused {}", r.number()),
     }
 }
 
 fn print_refusal(rt: &impl Print, r: Refusal) -> io::Result<()> {
-    print!(rt; "refused {} {} {}", r.number, r.first, r.second)
+    print!(rt; "refused {} {} {}", r.number(), r.first(), r.second())
 }
 
 fn print_parsed(
@@ -46,11 +44,11 @@ fn print_parsed(
     length_size: u64,
 ) -> io::Result<()> {
     match ExtensibleArrayHeader::parse(file, address, offset_size, length_size) {
-        Parsed::Header(h) => {
+        Ok(h) => {
             print_header(rt, h)?;
             print_served(rt, h.parameters)?;
         }
-        Parsed::Refused(r) => print_refusal(rt, r)?,
+        Err(r) => print_refusal(rt, r)?,
     }
     println!(rt)
 }

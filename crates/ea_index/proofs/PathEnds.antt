@@ -5,9 +5,10 @@ use mathlib.Core.Path.{◌≡◌, refl, sym, ap, subst, ◌∙◌}
 use mathlib.Core.Bool.{true, false}
 use native.Mathlib.Omega.{arith}
 use lib.ListN.{length}
+use Rattle.std.specs.Prelude.{Err, None, Ok, Option, Some}
+use Rattle.refusal.specs.Refusals.{Outcome}
 use Rattle.refusal.specs.declared.Refusal.{Refusal}
-use Rattle.refusal.specs.declared.Checked.TheVariants.{Passed, Refused}
-use Rattle.fields.specs.Fields.{width_test}
+use Rattle.fields.specs.Fields.{offset_size_test}
 use Rattle.element_form.specs.Form.{element_size_test}
 use Rattle.elements.specs.Elements.{Elements}
 use Rattle.elements.proofs.Sized.{element_refused}
@@ -21,8 +22,6 @@ use Rattle.ea_geometry.specs.Place.{in_pages, place_in, place}
 use Rattle.ea_geometry.specs.Slots.{InBlock}
 use Rattle.ea_geometry.proofs.Places.{place_is, place_inline}
 use Rattle.ea_geometry.proofs.Positions.{element_inside, inline_element_inside, paged_element_inside}
-use Rattle.structures.specs.declared.enter.Entered.{Entered}
-use Rattle.structures.specs.declared.enter.Entered.TheVariants.{Absent, At, Refused as EnteredRefused}
 use Rattle.ea_blocks.specs.Array.{Array}
 use Rattle.ea_blocks.specs.Structures.{array_test, block_at, data_page_at}
 use Rattle.ea_blocks.specs.Places.{position_of}
@@ -37,22 +36,18 @@ use Rattle.ea_index.specs.Values.{ArrayEnds, BlockEntered}
 
 -- where a path ends that leads so, whatever the elements
 module _ (a : Array) (s : ℕ) where
-  pub ends_nowhere : ((e : Elements) → LeadsNowhere (located a e) s) → ArrayEnds a s Absent
+  pub ends_nowhere : ((e : Elements) → LeadsNowhere (located a e) s) → ArrayEnds a s (Ok None)
   unfolding end_answer
   ends_nowhere h = record { answer = λ e form. way_nowhere (located a e) s (h e); inside = tt }
 
-  pub ends_refused : (r : Refusal) → ((e : Elements) → (located a e).tests s ≡ Refused r) → ArrayEnds a s (EnteredRefused r)
+  pub ends_refused : (r : Refusal) → ((e : Elements) → (located a e).tests s ≡ Err r) → ArrayEnds a s (Err r)
   unfolding end_answer
   ends_refused r h = record { answer = λ e form. way_refused (located a e) s r (h e); inside = tt }
 
   pub ends_at : (pos : ℕ) → ((e : Elements) → LeadsTo (located a e) s pos)
-      → pos + element_stride a.parameters a.offset_size ≤ length a.file → ArrayEnds a s (At pos)
+      → pos + element_stride a.parameters a.offset_size ≤ length a.file → ArrayEnds a s (Ok (Some pos))
   unfolding end_answer
   ends_at pos h room = record { answer = λ e form. way_to (located a e) s pos (h e); inside = room }
-
--- stepping into a structure has found no position
-abbrev pub Stopped : Entered → Type 0
-Stopped x = (at : ℕ) → x ≡ At at → ⊥
 
 -- a slot in data block k of super block u
 module _ (a : Array) (v : Served a.parameters) (s u k i : ℕ) (b : InBlock a.parameters s u k i) where
@@ -65,26 +60,28 @@ module _ (a : Array) (v : Served a.parameters) (s u k i : ℕ) (b : InBlock a.pa
   placed : place h s ≡ place_in h u k i
   placed = place_is h v s u k i b
 
-  pub narrow_ends : (r : Refusal) → width_test 1 o ≡ Refused r → ArrayEnds a s (EnteredRefused r)
+  pub narrow_ends : (r : Refusal) → offset_size_test o ≡ Err r → ArrayEnds a s (Err r)
   narrow_ends r t = ends_refused a s r (λ e. no_width a e u k i s placed r t)
 
-  module _ (wide : width_test 1 a.offset_size ≡ Passed) where
+  module _ (wide : offset_size_test a.offset_size ≡ Ok tt) where
     -- before its super block
-    pub super_ends : (x : Entered) → EnteredSuper a u x → Stopped x → ArrayEnds a s x
-    super_ends Absent y z = ends_nowhere a s (λ e. no_super a e u k i s wide placed y.0 y.1)
-    super_ends (At at) y z = absurd (z at refl)
-    super_ends (EnteredRefused r) y z =
+    pub absent_super_ends : EnteredSuper a u (Ok None) → ArrayEnds a s (Ok None)
+    absent_super_ends y = ends_nowhere a s (λ e. no_super a e u k i s wide placed y.0 y.1)
+
+    pub refused_super_ends : (r : Refusal) → EnteredSuper a u (Err r) → ArrayEnds a s (Err r)
+    refused_super_ends r y =
         ends_refused a s r (λ e. super_refused a e u k i s wide placed y.0 r y.1 y.2)
 
-    module _ (super : ℕ) (w : EnteredSuper a u (At super)) where
+    module _ (super : ℕ) (w : EnteredSuper a u (Ok (Some super))) where
       ready : Ready a u
       ready = entered_ready a u super w
 
       -- before its data block
-      pub block_ends : (x : Entered) → EnteredBlock a u k x → Stopped x → ArrayEnds a s x
-      block_ends Absent y z = ends_nowhere a s (λ e. no_block a e u k i s wide placed ready y)
-      block_ends (At at) y z = absurd (z at refl)
-      block_ends (EnteredRefused r) y z =
+      pub absent_block_ends : EnteredBlock a u k (Ok None) → ArrayEnds a s (Ok None)
+      absent_block_ends y = ends_nowhere a s (λ e. no_block a e u k i s wide placed ready y)
+
+      pub refused_block_ends : (r : Refusal) → EnteredBlock a u k (Err r) → ArrayEnds a s (Err r)
+      refused_block_ends r y =
           ends_refused a s r (λ e. block_refused a e u k i s wide placed ready r y.0 y.1)
 
   module _ (super at : ℕ) (t : BlockEntered a u k super at) where
@@ -93,7 +90,7 @@ module _ (a : Array) (v : Served a.parameters) (s u k i : ℕ) (b : InBlock a.pa
 
     -- at a position behind the data block's own
     ends_behind : (n : ℕ) → ((e : Elements) → LeadsTo (located a e) s (block_at a u k + n)) → at + n + element_stride h o ≤ length a.file
-        → ArrayEnds a s (At (at + n))
+        → ArrayEnds a s (Ok (Some (at + n)))
     ends_behind n y room = ends_at a s _ (λ e. subst (λ (p : ℕ). LeadsTo (located a e) s (p + n)) (sym t.block.2) (y e)) room
 
     -- in a block that is read unpaged
@@ -103,35 +100,36 @@ module _ (a : Array) (v : Served a.parameters) (s u k i : ℕ) (b : InBlock a.pa
       unpaged_room =
           omega (arith, entered_block_room a u at k t.block q, element_inside h o (block_prefix h o) i (block_elements h u) b.element)
 
-      pub unpaged_ends : ArrayEnds a s (At (at + block_element_at h o i))
+      pub unpaged_ends : ArrayEnds a s (Ok (Some (at + block_element_at h o i)))
       unpaged_ends =
           ends_behind _ (λ e. in_block_lem a e u k i s t.wide placed r t.block.0 t.block.1 q) unpaged_room
 
     -- in one that is read by pages: before its page, and in it
     module _ (q : in_pages a.parameters u ≡ true) where
-      abbrev Page : Entered → Type 0
+      abbrev Page : Outcome (Option ℕ) → Type 0
       Page = EnteredPage a u k (i / page_elements h)
 
-      pub page_ends : (x : Entered) → Page x → Stopped x → ArrayEnds a s x
-      page_ends Absent y z =
+      pub clear_page_ends : Page (Ok None) → ArrayEnds a s (Ok None)
+      clear_page_ends y =
           ends_nowhere a s (λ e. in_clear a e u k i s t.wide placed r t.block.0 t.block.1 q y)
-      page_ends (At pos) y z = absurd (z pos refl)
-      page_ends (EnteredRefused x) y z =
+
+      pub refused_page_ends : (x : Refusal) → Page (Err x) → ArrayEnds a s (Err x)
+      refused_page_ends x y =
           ends_refused a s x (λ e. page_refused a e u k i s t.wide placed r t.block.0 t.block.1 x q y.0 y.1)
 
-      module _ (pos : ℕ) (y : Page (At pos)) where
+      module _ (pos : ℕ) (y : Page (Ok (Some pos))) where
         pub paged_room : at + paged_element_at h o i + element_stride h o ≤ length a.file
         unfolding data_page_at page_extent element_at
         paged_room =
             let z : pos ≡ at + page_at h o (i / page_elements h) = y.2 ∙ rw t.block.2 refl in
             omega (arith, entered_page_room a u pos k (i / page_elements h) y, paged_element_inside h o i)
 
-        pub paged_ends : ArrayEnds a s (At (at + paged_element_at h o i))
+        pub paged_ends : ArrayEnds a s (Ok (Some (at + paged_element_at h o i)))
         paged_ends =
             ends_behind _ (λ e. in_page a e u k i s t.wide placed r t.block.0 t.block.1 q y.0 y.1) paged_room
 
 -- an inline slot, whether the size of elements passes its test or not
-module _ (a : Array) (t : array_test a ≡ Passed) (s : ℕ) (lt : s < a.parameters.idx_blk_elmts) where
+module _ (a : Array) (t : array_test a ≡ Ok tt) (s : ℕ) (lt : s < a.parameters.idx_blk_elmts) where
   abbrev pos : ℕ
   pos = a.index_at + inline_element_at a.parameters a.offset_size s
 
@@ -144,10 +142,10 @@ module _ (a : Array) (t : array_test a ≡ Passed) (s : ℕ) (lt : s < a.paramet
   inline_room =
       omega (arith, inline_inside a (array_passed a t).1, inline_element_inside a.parameters a.offset_size s lt)
 
-  pub inline_ends : ArrayEnds a s (At pos)
+  pub inline_ends : ArrayEnds a s (Ok (Some pos))
   inline_ends = ends_at a s _ leads inline_room
 
-  pub unsized_ends : (r : Refusal) → element_size_test (form_of a.parameters a.offset_size) ≡ Refused r → ArrayEnds a s (EnteredRefused r)
+  pub unsized_ends : (r : Refusal) → element_size_test (form_of a.parameters a.offset_size) ≡ Err r → ArrayEnds a s (Err r)
   unfolding end_answer
   unsized_ends r z = record {
     answer = λ e form.

@@ -9,8 +9,8 @@ use native.Mathlib.Nat.{mod-lt, div-add-mod'}
 use lib.Arith.{digits_lt}
 use lib.ListN.{length}
 use lib.Pow.{pow_pos}
-use Rattle.refusal.specs.declared.Checked.TheVariants.{Passed}
-use Rattle.fields.specs.Fields.{width_test}
+use Rattle.std.specs.Prelude.{Ok, Some}
+use Rattle.fields.specs.Fields.{offset_size_test}
 use Rattle.fields.proofs.Fields.{width_passed}
 use Rattle.chunk_grid.specs.declared.GridOrder.TheVariants.{RowMajor}
 use Rattle.chunk_grid.specs.Grid.{given}
@@ -29,7 +29,6 @@ use Rattle.ea_geometry.specs.Slots.{first_slot, capacity, slot_in, InBlock}
 use Rattle.ea_geometry.proofs.Places.{next_slot, place_is, page_below}
 use Rattle.ea_geometry.proofs.Positions.{direct_pointers_inside, super_pointers_inside}
 use Rattle.ea_blocks.specs.declared.ExtensibleArray.{ExtensibleArray}
-use Rattle.structures.specs.declared.enter.Entered.TheVariants.{At}
 use Rattle.ea_blocks.specs.Array.{Array}
 use Rattle.ea_blocks.specs.Values.{array_of}
 use Rattle.ea_blocks.specs.Structures.{pages_of, is_direct, super_block_at, block_at, data_page_at, super_undefined, block_undefined, page_set}
@@ -42,6 +41,7 @@ use Rattle.ea_walk.proofs.Paths.{Ready, entered_ready}
 use Rattle.ea_walk.proofs.Slots.{inline_at, block_at_lem, page_at_lem, inline_slots, past_slots, super_slots, undefined_slots, block_slots_lem, page_slots}
 use Rattle.ea_walk.proofs.Passed.{super_passed, block_passed, page_passed}
 use Rattle.ea_index.specs.Values.{TestedTo, RunIn, block_slots}
+use Rattle.refusal.specs.declared.Refusal.TheVariants.{OffsetSize}
 
 -- a run's elements begin in the file
 pub run_room : (a : Array) (s pos n : ℕ) → RunIn a s (Present pos n) → pos ≤ length a.file
@@ -61,7 +61,7 @@ module _ (a : Array) (s u k i : ℕ) where
   unfolding block_slots
   super_left d w = rw (d, w) refl
 
-  module _ (super : ℕ) (w : EnteredSuper a u (At super)) where
+  module _ (super : ℕ) (w : EnteredSuper a u (Ok (Some super))) where
     defined : not (is_direct a u) && super_undefined a u ≡ false
     defined = ⊎_elim (λ (d : (is_direct a u ≡ true) × (super ≡ 0)). rw d.0 refl) (λ d. rw (d.0, d.1) refl) w
 
@@ -69,7 +69,7 @@ module _ (a : Array) (s u k i : ℕ) where
     unfolding block_slots
     gap_left x = rw (defined, x) refl
 
-    module _ (at : ℕ) (x : EnteredBlock a u k (At at)) where
+    module _ (at : ℕ) (x : EnteredBlock a u k (Ok (Some at))) where
       pub block_left : in_pages a.parameters u ≡ false → block_elements a.parameters u - i ≡ block_slots a s u k i
       unfolding block_slots
       block_left q = rw (defined, x.0, q) refl
@@ -91,8 +91,8 @@ module _ (f : List ℕ) (array : ExtensibleArray) (s : ℕ) (t : TestedTo f arra
   served : Served h
   served = t.index.bounded.served
 
-  wide : width_test 1 o ≡ Passed
-  wide = sym (width_passed 1 o t.index.wide)
+  wide : offset_size_test o ≡ Ok tt
+  wide = sym (width_passed (OffsetSize o) o t.index.wide)
 
   -- inline elements lie in the index block
   pub inline_run : s < h.idx_blk_elmts → RunIn a s (Present (a.index_at + inline_element_at h o s) (h.idx_blk_elmts - s))
@@ -107,7 +107,7 @@ module _ (f : List ℕ) (array : ExtensibleArray) (s : ℕ) (t : TestedTo f arra
 
   -- element i of data block k of super block u
   module _ (u k i : ℕ) (b : InBlock array.geometry.parameters s u k i) where
-    placed : place_test a (place_in h u k i) ≡ Passed
+    placed : place_test a (place_in h u k i) ≡ Ok tt
     placed = ap (place_test a) (sym (place_is h served s u k i b)) ∙ t.tests
 
     -- the first slot of the data block
@@ -127,10 +127,10 @@ module _ (f : List ℕ) (array : ExtensibleArray) (s : ℕ) (t : TestedTo f arra
         (gap_from (located a e) (first_slot h u) (blocks u * block_elements h u) (k * block_elements h u + i) s lt (omega (arith, slot_is))
         (super_slots a e form served wide u b.super d w))
 
-    pub super_entered : (at : ℕ) → is_direct a u ≡ false → super_undefined a u ≡ false → at ≡ super_block_at a u → EnteredSuper a u (At at)
+    pub super_entered : (at : ℕ) → is_direct a u ≡ false → super_undefined a u ≡ false → at ≡ super_block_at a u → EnteredSuper a u (Ok (Some at))
     super_entered at d w e = inr (d, w, super_passed a u k i placed d w, e)
 
-    module _ (super : ℕ) (w : EnteredSuper a u (At super)) where
+    module _ (super : ℕ) (w : EnteredSuper a u (Ok (Some super))) where
       ready : Ready a u
       ready = entered_ready a u super w
 
@@ -140,10 +140,10 @@ module _ (f : List ℕ) (array : ExtensibleArray) (s : ℕ) (t : TestedTo f arra
           gap_from (located a e) first (block_elements h u) i s b.element slot_is
           (undefined_slots a e form served wide u b.super ready k first b.block refl x)
 
-      pub block_entered : (at : ℕ) → block_undefined a u k ≡ false → at ≡ block_at a u k → EnteredBlock a u k (At at)
+      pub block_entered : (at : ℕ) → block_undefined a u k ≡ false → at ≡ block_at a u k → EnteredBlock a u k (Ok (Some at))
       block_entered at x e = (x, block_passed a u k i placed ready x, e)
 
-      module _ (at : ℕ) (x : EnteredBlock a u k (At at)) where
+      module _ (at : ℕ) (x : EnteredBlock a u k (Ok (Some at))) where
         -- in a block that is read unpaged
         pub block_run : in_pages h u ≡ false → RunIn a s (Present (at + block_element_at h o i) (block_elements h u - i))
         block_run q = λ e file form.

@@ -6,10 +6,8 @@ use mathlib.Core.Bool.{Bool, true, false}
 use mathlib.Core.List.{List}
 use mathlib.Core.Logic.{⊎_elim}
 use native.Mathlib.Omega.{arith}
+use Rattle.std.specs.Prelude.{Err, Ok}
 use Rattle.refusal.specs.declared.Refusal.{Refusal}
-use Rattle.refusal.specs.declared.Checked.TheVariants.{Passed}
-use Rattle.refusal.specs.declared.Counted.TheVariants.{Refused as CountedRefused}
-use Rattle.refusal.specs.Outcome.{accepted}
 use Rattle.refusal.specs.Values.{counted_of}
 use Rattle.refusal.proofs.Tests.{lt_or_ge}
 use Rattle.refusal.proofs.Outcomes.{never, yields_inv}
@@ -28,7 +26,7 @@ use Rattle.ea_blocks.specs.Structures.{array_test}
 use Rattle.ea_blocks.proofs.StructureTests.{array_passed, index_in_file}
 use Rattle.ea_walk.specs.Walk.{located, from_inline, walk}
 use Rattle.ea_walk.proofs.Walks.{walk_right}
-use Rattle.ea_count.proofs.Heads.{unreadable_pointer, unreadable_element}
+use Rattle.ea_count.proofs.Heads.{unreadable_pointer, size_refused, unreadable_element}
 use Rattle.ea_index.specs.Values.{TestedTo}
 
 module _ (f : List ℕ) (array : ExtensibleArray) (count s : ℕ)
@@ -42,11 +40,11 @@ module _ (f : List ℕ) (array : ExtensibleArray) (count s : ℕ)
   right : Right (located a e) 0 w.list
   right = walk_right a e w.formed w.list w.accepts
 
-  passed : (array_test a ≡ Passed) × (from_inline a e ≡ accepted w.list)
+  passed : (array_test a ≡ Ok tt) × (from_inline a e ≡ Ok w.list)
   unfolding walk
   passed = yields_inv _ _ w.list w.accepts
 
-  not_refused : (q : Refusal) → CountedRefused q ≡ counted_of (from_inline a e) → ⊥
+  not_refused : (q : Refusal) → Err q ≡ counted_of (from_inline a e) → ⊥
   not_refused q h = never q w.list (sym (refused_inv (from_inline a e) q h) ∙ passed.1)
 
   below : s < e.count
@@ -63,7 +61,9 @@ module _ (f : List ℕ) (array : ExtensibleArray) (count s : ℕ)
       go true q = refl
       go false q =
           ⊎_elim
-          (λ lt. absurd (not_refused _ (unreadable_element a e some (ap (λ (x : Form). is_width x.offset_size) (sym w.formed) ∙ q) lt)))
+          (λ lt.
+          let r = size_refused e.form (ap (λ (x : Form). is_width x.offset_size) (sym w.formed) ∙ q) in
+          absurd (not_refused _ (unreadable_element a e some r.0 r.1 lt)))
           (λ ge. absurd (not_refused _ (unreadable_pointer a e some q (omega arith))))
           (lt_or_ge 0 a.parameters.idx_blk_elmts)
 

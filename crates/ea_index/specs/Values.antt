@@ -1,10 +1,7 @@
 -- What the code's values stand for: an array as an index, the runs of its slots, and where the paths to them end.
-use Rattle.std.specs.Prelude.{ℕ, ◌+◌, ◌-◌, ◌%◌, ◌≡◌, not, cond, ◌&&◌, List}
-use Rattle.refusal.specs.declared.Checked.TheVariants.{Passed}
-use Rattle.refusal.specs.Refusals.{largest64}
-use Rattle.fields.specs.Fields.{width_test}
-use Rattle.structures.specs.declared.enter.Entered.{Entered}
-use Rattle.structures.specs.declared.enter.Entered.TheVariants.{At}
+use Rattle.std.specs.Prelude.{ℕ, ◌+◌, ◌-◌, ◌%◌, ◌≡◌, not, cond, ◌&&◌, List, Ok, Option, Some}
+use Rattle.refusal.specs.Refusals.{largest64, Outcome}
+use Rattle.fields.specs.Fields.{offset_size_test}
 use Rattle.elements.specs.Elements.{Elements}
 use Rattle.located.specs.declared.Run.{Run}
 use Rattle.located.specs.declared.Run.TheVariants.{Gap, Elements as Present}
@@ -34,7 +31,7 @@ indexed h o = record { array = headed h o; count = h.num_elements }
 -- tests.
 pub record TestedTo (file : List ℕ) (a : ExtensibleArray) (s : ℕ) : Type 0 where
   pub index : IndexInFile file a
-  pub tests : place_test (array_of file a) (place a.geometry.parameters s) ≡ Passed
+  pub tests : place_test (array_of file a) (place a.geometry.parameters s) ≡ Ok tt
 
 -- The slots from s on are such a run, whatever elements of the array's form its file holds.
 abbrev pub RunIn : Array → ℕ → Run → Type 0
@@ -65,12 +62,12 @@ run_slots a s (Page u k i p bit) = block_slots a s u k i
 run_slots a s Nowhere = largest64
 
 -- The path to slot s ends so, for all elements of the array's form.
-abbrev pub ArrayEnds : Array → ℕ → Entered → Type 0
+abbrev pub ArrayEnds : Array → ℕ → Outcome (Option ℕ) → Type 0
 ArrayEnds a s end = PathEnds (located a) a.file (form_of a.parameters a.offset_size) s end
 
 -- What leads to data block k of super block u and the block itself have passed their tests: the super block lies at
 -- super_block_at (unless the index block names the data block), the data block at `at`.
 pub record BlockEntered (a : Array) (u k super_block_at at : ℕ) : Type 0 where
-  pub wide : width_test 1 a.offset_size ≡ Passed
-  pub super : EnteredSuper a u (At super_block_at)
-  pub block : EnteredBlock a u k (At at)
+  pub wide : offset_size_test a.offset_size ≡ Ok tt
+  pub super : EnteredSuper a u (Ok (Some super_block_at))
+  pub block : EnteredBlock a u k (Ok (Some at))

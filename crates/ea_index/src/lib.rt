@@ -1,6 +1,6 @@
 #![tactic(auto)]
 // An extensible array as an index that is listed and looked up.
-ghost use Rattle.std.specs.Prelude.{◌≡◌, ℕ, refl};
+ghost use Rattle.std.specs.Prelude.{◌≡◌, ℕ, refl, Err, Ok};
 ghost use Rattle.checksum.specs.Lookup3.{lookup3};
 ghost use Rattle.chunk_grid.specs.Grid.{Grid};
 ghost use Rattle.elements.specs.Values.{elements_of, Reads};
@@ -14,12 +14,11 @@ ghost use Rattle.ea_index.specs.Values.{indexed};
 
 use ea_blocks::ExtensibleArray;
 use ea_blocks::tests::test_array;
-use ea_header::{ExtensibleArrayHeader, Parsed};
+use ea_header::ExtensibleArrayHeader;
 use element_form::Form;
 use elements::ElementReader;
 use located::Run;
-use refusal::{Checked, Counted, Refusal};
-use structures::enter::Entered;
+use refusal::Refusal;
 use walked_index::WalkedIndex;
 use walked_index::call::HeadedIndex;
 
@@ -64,7 +63,7 @@ impl WalkedIndex for ArrayIndex {
         self.count
     }
 
-    fn test_entry(self, file: &[u8]) -> Checked {
+    fn test_entry(self, file: &[u8]) -> Result<(), Refusal> {
         test_array(file, self.array)
     }
 
@@ -75,7 +74,7 @@ impl WalkedIndex for ArrayIndex {
         chunk: &[u64; 32],
         bound: &[u64; 32],
         down: &[u64; 32],
-    ) -> Counted {
+    ) -> Result<u64, Refusal> {
         ea_count::walk::count_walk(file, self.array, reader, chunk, bound, down)
     }
 
@@ -83,7 +82,7 @@ impl WalkedIndex for ArrayIndex {
         runs::run_of(file, self.array, slot)
     }
 
-    fn path_of(self, file: &[u8], slot: u64) -> Entered {
+    fn path_of(self, file: &[u8], slot: u64) -> Result<Option<u64>, Refusal> {
         paths::path_of(file, self.array, slot)
     }
 
@@ -105,9 +104,7 @@ impl HeadedIndex for ArrayIndex {
         offset_size: u64,
         length_size: u64,
     ) -> Result<Self, Refusal> {
-        match ExtensibleArrayHeader::parse(file, address, offset_size, length_size) {
-            Parsed::Header(header) => Ok(Self::from_header(header, offset_size)),
-            Parsed::Refused(r) => Err(r),
-        }
+        let header = ExtensibleArrayHeader::parse(file, address, offset_size, length_size)?;
+        Ok(Self::from_header(header, offset_size))
     }
 }

@@ -1,6 +1,5 @@
 // The path to a slot: the structures that lead to its place are tested, up to the position of its element.
-ghost use Rattle.std.specs.Prelude.{◌≡◌, ℕ};
-ghost use Rattle.refusal.specs.declared.Checked.TheVariants.{Passed};
+ghost use Rattle.std.specs.Prelude.{◌≡◌, ℕ, Ok};
 ghost use Rattle.ea_header.specs.Values.{Served};
 ghost use Rattle.ea_geometry.specs.Slots.{InBlock};
 ghost use Rattle.ea_blocks.specs.Values.{array_of};
@@ -11,23 +10,20 @@ use ea_blocks::ExtensibleArray;
 use ea_blocks::enter::{enter_block, enter_page, enter_super};
 use ea_geometry::Place;
 use fields::bytes::ensure_width;
-use refusal::{Checked, Refusal};
-use structures::enter::Entered;
+use refusal::Refusal;
 
 // The path to a slot: it ends at no element, at the slot's, or with a refusal. The size of inline elements is tested
 // before a position is computed: it leaves only offset sizes up to 8.
-pub fn path_of(file: &[u8], array: ExtensibleArray, slot: u64) -> Entered
-    requires { array_test (array_of file.now array) ≡ Passed }
+pub fn path_of(file: &[u8], array: ExtensibleArray, slot: u64) -> Result<Option<u64>, Refusal>
+    requires { array_test (array_of file.now array) ≡ Ok tt }
     ensures { ArrayEnds (array_of file.now array) slot result }
 {
     match array.geometry.place_of(slot) {
-        Place::Inline(i) => match array.geometry.form().test() {
-            Checked::Passed => {
-                let pos = array.index_at + array.geometry.inline_element_at(i);
-                Entered::At(pos)
-            }
-            Checked::Refused(r) => Entered::Refused(r),
-        },
+        Place::Inline(i) => {
+            array.geometry.form().test()?;
+            let pos = array.index_at + array.geometry.inline_element_at(i);
+            Ok(Some(pos))
+        }
         Place::Block {
             super_block,
             block,
@@ -40,28 +36,31 @@ pub fn path_of(file: &[u8], array: ExtensibleArray, slot: u64) -> Entered
             page: _,
             bit: _,
         } => block_path(file, array, super_block, block, element),
-        Place::Nowhere => Entered::Absent,
+        Place::Nowhere => Ok(None),
     }
 }
 
 // The path to element i of data block k of super block u: the width of pointers, the super block, the data block, the
 // element in that.
-fn block_path(file: &[u8], array: ExtensibleArray, u: u64, k: u64, i: u64) -> Entered
-    requires { (array_test (array_of file.now array) ≡ Passed)
+fn block_path(
+    file: &[u8],
+    array: ExtensibleArray,
+    u: u64,
+    k: u64,
+    i: u64,
+) -> Result<Option<u64>, Refusal>
+    requires { (array_test (array_of file.now array) ≡ Ok tt)
         × ((s : ℕ) × InBlock array.geometry.parameters s u k i) }
     ensures { (s : ℕ) → InBlock array.geometry.parameters s u k i
         → ArrayEnds (array_of file.now array) s result }
 {
-    if let Checked::Refused(r) = ensure_width(array.geometry.offset_size, Refusal::OFFSET_SIZE) {
-        return Entered::Refused(r);
-    }
-    let super_block = enter_super(file, array, u);
-    let Entered::At(super_at) = super_block else {
-        return super_block;
+    let offset_size = array.geometry.offset_size;
+    ensure_width(offset_size, Refusal::OffsetSize(offset_size))?;
+    let Some(super_at) = enter_super(file, array, u)? else {
+        return Ok(None);
     };
-    let data_block = enter_block(file, array, u, k, super_at);
-    let Entered::At(at) = data_block else {
-        return data_block;
+    let Some(at) = enter_block(file, array, u, k, super_at)? else {
+        return Ok(None);
     };
     element_in_block(file, array, u, k, i, super_at, at)
 }
@@ -76,7 +75,7 @@ fn element_in_block(
     i: u64,
     super_at: u64,
     at: u64,
-) -> Entered
+) -> Result<Option<u64>, Refusal>
     requires { Served array.geometry.parameters × ((s : ℕ) × InBlock array.geometry.parameters s u k i)
         × BlockEntered (array_of file.now array) u k super_at at }
     ensures { (s : ℕ) → InBlock array.geometry.parameters s u k i
@@ -85,13 +84,12 @@ fn element_in_block(
     let geometry = array.geometry;
     if !geometry.in_pages(u) {
         let pos = at + geometry.block_element_at(i);
-        return Entered::At(pos);
+        return Ok(Some(pos));
     }
     let p = i / geometry.page_elements();
-    let page = enter_page(file, array, super_at, at, u, k, p);
-    let Entered::At(_) = page else {
-        return page;
+    let Some(_) = enter_page(file, array, super_at, at, u, k, p)? else {
+        return Ok(None);
     };
     let pos = at + geometry.paged_element_at(i);
-    Entered::At(pos)
+    Ok(Some(pos))
 }

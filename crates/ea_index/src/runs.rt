@@ -1,14 +1,13 @@
 // Runs of slots: where in the file the elements of a slot and of those that follow it lie.
-ghost use Rattle.std.specs.Prelude.{◌≡◌};
+ghost use Rattle.std.specs.Prelude.{◌≡◌, Ok, Some};
 ghost use Rattle.ea_geometry.specs.Place.{place};
 ghost use Rattle.ea_geometry.specs.Slots.{InBlock};
-ghost use Rattle.structures.specs.declared.enter.Entered.TheVariants.{At};
 ghost use Rattle.ea_blocks.specs.Values.{array_of};
 ghost use Rattle.ea_blocks.specs.Entered.{EnteredSuper, EnteredBlock};
 ghost use Rattle.ea_index.specs.Values.{TestedTo, RunIn, slots_of, block_slots, run_slots};
 
 use ea_blocks::ExtensibleArray;
-use ea_blocks::pointers::{Pointer, block_pointer, page_set, super_pointer};
+use ea_blocks::pointers::{block_pointer, page_set, super_pointer};
 use ea_geometry::Place;
 use located::Run;
 
@@ -49,12 +48,12 @@ fn block_run(file: &[u8], array: ExtensibleArray, slot: u64, u: u64, k: u64, i: 
     let geometry = array.geometry;
     let mut super_at = 0;
     if geometry.direct_super_blocks() <= u {
-        let Pointer::At(at) = super_pointer(file, array, u) else {
+        let Some(at) = super_pointer(file, array, u) else {
             return Run::Gap(geometry.first_slot(u + 1) - slot);
         };
         super_at = at;
     }
-    let Pointer::At(at) = block_pointer(file, array, u, k, super_at) else {
+    let Some(at) = block_pointer(file, array, u, k, super_at) else {
         return Run::Gap(geometry.block_elements(u) - i);
     };
     run_in_block(file, array, slot, u, k, i, super_at, at)
@@ -73,8 +72,8 @@ fn run_in_block(
     at: u64,
 ) -> Run
     requires { TestedTo file.now array slot × InBlock array.geometry.parameters slot u k i
-        × EnteredSuper (array_of file.now array) u (At super_at)
-        × EnteredBlock (array_of file.now array) u k (At at) }
+        × EnteredSuper (array_of file.now array) u (Ok (Some super_at))
+        × EnteredBlock (array_of file.now array) u k (Ok (Some at)) }
     ensures { let a = array_of file.now array in RunIn a slot result
         × (slots_of result ≡ block_slots a slot u k i) }
 {

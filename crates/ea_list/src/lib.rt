@@ -1,7 +1,6 @@
 #![tactic(auto)]
 // The chunk list of an extensible array.
-ghost use Rattle.std.specs.Prelude.{◌≡◌, ℕ, ◌/◌, ◌<◌, length};
-ghost use Rattle.refusal.specs.declared.Counted.TheVariants.{Count};
+ghost use Rattle.std.specs.Prelude.{◌≡◌, ℕ, ◌/◌, ◌<◌, length, Ok};
 ghost use Rattle.refusal.specs.Outcome.{in_room};
 ghost use Rattle.refusal.specs.Values.{counted_of};
 ghost use Rattle.chunk_grid.specs.Values.{grid_of};
@@ -14,7 +13,7 @@ ghost use Rattle.ea_walk.specs.Walk.{located, list as chunk_list, elements_in};
 use chunk_grid::ChunkGrid;
 use ea_header::ExtensibleArrayHeader;
 use ea_index::ArrayIndex;
-use refusal::Counted;
+use refusal::Refusal;
 use walked_index::list::list_chunks;
 
 pub mod call;
@@ -29,13 +28,13 @@ pub fn read_extensible_array_chunks(
     element_bytes: u64,
     offset_size: u64,
     list: &mut [u8],
-) -> Counted
+) -> Result<u64, Refusal>
     ensures { let a = array_from file.now header offset_size in
         let e = elements_in file.now header offset_size (grid_of grid) element_bytes in
         let answer = in_room (chunk_list a e) (length list.old / record_length grid.rank) in
         (result ≡ counted_of answer)
         × (list.new ≡ list_content answer list.old)
-        × ((n : ℕ) → result ≡ Count n → 0 < grid.rank
+        × ((n : ℕ) → result ≡ Ok n → 0 < grid.rank
         → ExactList (index_of (located a e)) (records_in grid.rank n list.new) n) }
 {
     let index = ArrayIndex::from_header(header, offset_size);

@@ -1,8 +1,7 @@
 -- Lookup takes a corner and tests only its path. It answers record or absent.
-use Rattle.std.specs.Prelude.{ℕ, List}
-use Rattle.std.proofs.Math.Option.{Option}
-use Rattle.refusal.specs.Refusals.{◌then◌}
-use Rattle.refusal.specs.Outcome.{Outcome, ◌yields◌}
+use Rattle.std.specs.Prelude.{ℕ, List, Option}
+use Rattle.refusal.specs.Refusals.{◌then◌, Outcome}
+use Rattle.refusal.specs.Outcome.{◌yields◌}
 use Rattle.chunk_grid.specs.Grid.{grid_test, corner_test, slot_of}
 use Rattle.index.specs.Index.{Rec}
 use Rattle.elements.specs.Elements.{Elements}

@@ -9,7 +9,8 @@ ghost use Rattle.ea_lookup.specs.Call.{lookup_at};
 
 use calls::CallNumbers;
 use ea_index::ArrayIndex;
-use elements::Found;
+use index::Entry;
+use refusal::Refusal;
 
 // Reads the header at an address, the shapes of a dataset and a corner, and looks up the chunk at the corner.
 pub fn lookup_at(
@@ -19,7 +20,7 @@ pub fn lookup_at(
     present: &[u8],
     maximum: &[u8],
     corner: &[u8],
-) -> Found
+) -> Result<Option<Entry>, Refusal>
     ensures { let call =
         call_from file.now numbers chunk.now present.now maximum.now in
         let at = shape_of numbers.rank corner.now in

@@ -12,7 +12,8 @@ ghost use Rattle.ea_lookup.specs.Lookup.{lookup};
 use chunk_grid::ChunkGrid;
 use ea_header::ExtensibleArrayHeader;
 use ea_index::ArrayIndex;
-use elements::Found;
+use index::Entry;
+use refusal::Refusal;
 
 pub mod call;
 
@@ -26,7 +27,7 @@ pub fn lookup_chunk(
     element_bytes: u64,
     offset_size: u64,
     corner: &[u64],
-) -> Found
+) -> Result<Option<Entry>, Refusal>
     ensures { let a = array_from file.now header offset_size in
         let e = elements_in file.now header offset_size (grid_of grid) element_bytes in
         let answer = lookup a e corner.now in

@@ -6,7 +6,8 @@ use mathlib.Core.List.{List, [], ◌∷◌, ◌++◌}
 use native.Mathlib.Omega.{arith}
 use lib.ListN.{length, set, length-append}
 use lib.Seq.{sets, length-sets}
-use Rattle.refusal.specs.Outcome.{refused, accepted, also}
+use Rattle.std.specs.Prelude.{Err, Ok}
+use Rattle.refusal.specs.Outcome.{also}
 use Rattle.ea_blocks.specs.Array.{Array}
 use Rattle.ea_blocks.specs.Structures.{data_block, block_undefined}
 use Rattle.span_walk.specs.declared.Span.{Span}
@@ -29,8 +30,8 @@ sets_each part (s ∷ l) m out n =
 -- a list that is written into keeps its length
 pub length-filled : (part : Span → ℕ) (a : Spanning) (n : ℕ) (out : List ℕ) → length (filled part a n out) ≡ length out
 unfolding filled
-length-filled part (refused r) n out = refl
-length-filled part (accepted l) n out = length-sets out n (each part l)
+length-filled part (Err r) n out = refl
+length-filled part (Ok l) n out = length-sets out n (each part l)
 
 module _ (a b : Spanning) (l : List Span) (p : Parts a b l) (n : ℕ) where
   filled-joined : (part : Span → ℕ) (out : List ℕ)
@@ -59,7 +60,7 @@ module _ {b : Spanning} {m : ℕ} {xs ls : List ℕ} {n : ℕ} {addresses length
   going_as q g = subst (λ (x : Spanning). Going b m xs ls x n addresses lengths) q g
 
   -- nothing is left
-  pub going_none : Going b m xs ls (accepted []) n addresses lengths
+  pub going_none : Going b m xs ls (Ok []) n addresses lengths
       → (addresses ≡ filled address_of b m xs) × (lengths ≡ filled length_of b m ls) × (n ≡ end_of m b)
   unfolding filled each end_of
   going_none g = (g.first, g.second, let z = g.end in omega arith)
@@ -107,12 +108,12 @@ module _ {b : Spanning} {m : ℕ} {xs ls : List ℕ} {n : ℕ} {addresses length
 
   -- one data block of super block u
   module _ (a : Array) (u j k : ℕ) (lt : k < j)
-      (g : Going b m xs ls (accepted (block_spans a u (j - k) k)) n addresses lengths) where
+      (g : Going b m xs ls (Ok (block_spans a u (j - k) k)) n addresses lengths) where
     pub going_skip : block_undefined a u k ≡ true
-        → Going b m xs ls (accepted (block_spans a u (j - (k + 1)) (k + 1))) n addresses lengths
-    going_skip e = going_as (ap accepted (blocks-undefined a u j k lt e)) g
+        → Going b m xs ls (Ok (block_spans a u (j - (k + 1)) (k + 1))) n addresses lengths
+    going_skip e = going_as (ap Ok (blocks-undefined a u j k lt e)) g
 
     pub going_block : block_undefined a u k ≡ false → (s : Span) → s ≡ span_of a (data_block u k)
-        → Going b m xs ls (also s (accepted (block_spans a u (j - (k + 1)) (k + 1)))) n addresses lengths
+        → Going b m xs ls (also s (Ok (block_spans a u (j - (k + 1)) (k + 1)))) n addresses lengths
     unfolding also
-    going_block e s q = rw q (going_as (ap accepted (blocks_defined a u j k lt e)) g)
+    going_block e s q = rw q (going_as (ap Ok (blocks_defined a u j k lt e)) g)

@@ -1,7 +1,7 @@
 -- The list of spans: its answer, and the two lists that it fills.
-use Rattle.std.specs.Prelude.{ℕ, min, List, [], ◌∷◌, length}
+use Rattle.std.specs.Prelude.{ℕ, min, List, [], ◌∷◌, length, Err, Ok}
 use Rattle.std.proofs.lemmas.List.Edits.{sets}
-use Rattle.refusal.specs.Outcome.{refused, accepted, in_room}
+use Rattle.refusal.specs.Outcome.{in_room}
 use Rattle.span_walk.specs.declared.Span.{Span}
 use Rattle.span_walk.specs.Walk.{Spanning, spans}
 
@@ -25,5 +25,5 @@ length_of s = s.length
 
 -- A lent list then: those numbers from `at` on, and the others as they were. After a refusal all is as it was.
 unfoldable pub filled : (Span → ℕ) → Spanning → ℕ → List ℕ → List ℕ
-filled part (refused r) at out = out
-filled part (accepted l) at out = sets out at (each part l)
+filled part (Err r) at out = out
+filled part (Ok l) at out = sets out at (each part l)

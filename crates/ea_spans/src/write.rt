@@ -1,18 +1,16 @@
 // The walk that writes. What it walks has been tested and counted: nothing is refused any more.
-ghost use Rattle.std.specs.Prelude.{◌≡◌, true, ◌<◌, length, set};
-ghost use Rattle.refusal.specs.Outcome.{accepted};
+ghost use Rattle.std.specs.Prelude.{◌≡◌, true, ◌<◌, length, set, Ok, Some};
 ghost use Rattle.fields.specs.Fields.{is_width};
 ghost use Rattle.ea_geometry.specs.Bounded.{Bounded};
 ghost use Rattle.ea_geometry.specs.Sizes.{super_blocks, blocks};
 ghost use Rattle.ea_blocks.specs.Entered.{EnteredSuper};
 ghost use Rattle.ea_blocks.specs.Values.{IndexInFile, array_of};
-ghost use Rattle.structures.specs.declared.enter.Entered.TheVariants.{At};
 ghost use Rattle.span_walk.specs.Walk.{block_spans, super_spans, supers_from, index_spans};
 ghost use Rattle.ea_spans.specs.SpanList.{filled, address_of, length_of};
 ghost use Rattle.ea_spans.specs.Values.{Room, end_of};
 
 use ea_blocks::ExtensibleArray;
-use ea_blocks::pointers::{Pointer, block_pointer, super_pointer};
+use ea_blocks::pointers::{block_pointer, super_pointer};
 use span_count::count::index_undefined;
 use span_count::spans::{block_length, index_span, super_span};
 use span_walk::Span;
@@ -54,11 +52,9 @@ fn write_supers(file: &[u8], array: ExtensibleArray, addresses: &mut [u64], leng
 {
     let supers = array.geometry.super_blocks();
     let mut n = 2;
-    let mut u = 0;
     // The spans of the super blocks before u are written, up to number n.
-    while u < supers {
+    for u in 0..supers {
         n = write_super(file, array, u, n, addresses, lengths);
-        u += 1;
     }
 }
 
@@ -81,13 +77,11 @@ fn write_super(
     if u < array.geometry.direct_super_blocks() {
         return write_blocks(file, array, u, 0, n, addresses, lengths);
     }
-    match super_pointer(file, array, u) {
-        Pointer::Undefined => n,
-        Pointer::At(at) => {
-            put_span(addresses, lengths, n, super_span(array, u, at));
-            write_blocks(file, array, u, at, n + 1, addresses, lengths)
-        }
-    }
+    let Some(at) = super_pointer(file, array, u) else {
+        return n;
+    };
+    put_span(addresses, lengths, n, super_span(array, u, at));
+    write_blocks(file, array, u, at, n + 1, addresses, lengths)
 }
 
 // Writes the spans of the data blocks of super block u that are pointed to, from number n on. The super block lies at
@@ -103,23 +97,21 @@ fn write_blocks(
     lengths: &mut [u64],
 ) -> usize
     requires { (u < super_blocks array.geometry.parameters) × IndexInFile file.now array
-        × EnteredSuper (array_of file.now array) u (At super_at)
-        × Room (accepted (block_spans (array_of file.now array) u (blocks u) 0)) n addresses.old lengths.old }
-    ensures { let s = accepted (block_spans (array_of file.now array) u (blocks u) 0) in
+        × EnteredSuper (array_of file.now array) u (Ok (Some super_at))
+        × Room (Ok (block_spans (array_of file.now array) u (blocks u) 0)) n addresses.old lengths.old }
+    ensures { let s = Ok (block_spans (array_of file.now array) u (blocks u) 0) in
         (addresses.new ≡ filled address_of s n addresses.old)
         × (lengths.new ≡ filled length_of s n lengths.old) × (result ≡ end_of n s) }
 {
     let blocks = array.geometry.blocks(u);
     let length = block_length(array.geometry, u);
     let mut next = n;
-    let mut k = 0;
     // The spans of the data blocks before k are written, up to number `next`.
-    while k < blocks {
-        if let Pointer::At(address) = block_pointer(file, array, u, k, super_at) {
+    for k in 0..blocks {
+        if let Some(address) = block_pointer(file, array, u, k, super_at) {
             put_span(addresses, lengths, next, Span { address, length });
             next += 1;
         }
-        k += 1;
     }
     next
 }

@@ -10,11 +10,10 @@ use native.Mathlib.Omega.{arith}
 use native.Mathlib.Nat.{mul-le-mul_right}
 use borrow.Author.Tests.{leb-true}
 use lib.Dec.{leb}
-use Rattle.refusal.specs.declared.Checked.{Checked}
-use Rattle.refusal.specs.declared.Checked.TheVariants.{Passed}
-use Rattle.refusal.specs.Outcome.{accepted}
+use Rattle.std.specs.Prelude.{Ok}
+use Rattle.refusal.specs.Refusals.{Checked}
 use Rattle.refusal.proofs.Tests.{both}
-use Rattle.fields.specs.Fields.{width_test}
+use Rattle.fields.specs.Fields.{offset_size_test}
 use Rattle.index.specs.Index.{Listing}
 use Rattle.elements.specs.Elements.{Elements}
 use Rattle.elements.proofs.Induction.{Steps, by_conds, at_slot, lacks_kept, elements_kept, pages_kept}
@@ -53,7 +52,7 @@ module _ (a : Array) (e : Elements) (form : form_of a.parameters a.offset_size �
   abbrev h : Parameters
   h = a.parameters
 
-  module _ (v : Served a.parameters) (wide : width_test 1 a.offset_size ≡ Passed) where
+  module _ (v : Served a.parameters) (wide : offset_size_test a.offset_size ≡ Ok tt) where
     module _ (u : ℕ) (hu : u < super_blocks a.parameters) where
       module _ (r : Ready a u) (k s : ℕ) (hk : k < blocks u) (hs : Begins a.parameters u k s) (t : block_undefined a u k ≡ false) (x y : Listing)
           (after : R (s + block_elements a.parameters u) x y) where
@@ -129,9 +128,9 @@ module _ (a : Array) (e : Elements) (form : form_of a.parameters a.offset_size �
         end c b = let m = first_slot_mono h u (u + suc j) (omega arith) in omega arith
 
   -- the whole walk, whose end is the empty list
-  module _ (inner : Tests (array_test a)) (width : Tests (width_test 1 a.offset_size)) (end : (s : ℕ) → e.count ≤ s → R s (accepted []) (accepted [])) where
+  module _ (inner : Tests (array_test a)) (width : Tests (offset_size_test a.offset_size)) (end : (s : ℕ) → e.count ≤ s → R s (Ok []) (Ok [])) where
     -- past the last super block there is nothing
-    past_kept : (s : ℕ) → Served h → capacity h ≤ s → R s (accepted []) (accepted [])
+    past_kept : (s : ℕ) → Served h → capacity h ≤ s → R s (Ok []) (Ok [])
     past_kept s v c =
         lacks_kept steps e.count s _ _ (λ i hi. past_slots a e form v s c i) (end (s + e.count) (omega arith))
 

@@ -4,4 +4,3 @@ pub mod Slots
 pub mod Passed
 pub mod Induction
 pub mod Walks
-pub mod Numbered

@@ -6,8 +6,8 @@ use mathlib.Core.Bool.{true, false}
 use native.Mathlib.Omega.{arith}
 use native.Mathlib.Nat.{div-lt_iff_lt-mul, mod-lt, div-add-mod'}
 use lib.Arith.{digits_lt, digits_div, digits_mod}
-use Rattle.refusal.specs.declared.Checked.TheVariants.{Passed}
-use Rattle.fields.specs.Fields.{width_test}
+use Rattle.std.specs.Prelude.{Ok}
+use Rattle.fields.specs.Fields.{offset_size_test}
 use Rattle.element_form.specs.Form.{stride}
 use Rattle.elements.specs.Elements.{Elements}
 use Rattle.elements.proofs.Induction.{PagesAt}
@@ -74,7 +74,7 @@ module _ (a : Array) (e : Elements) (form : form_of a.parameters a.offset_size �
     pub past_slots : (s : ℕ) → capacity h ≤ s → (i : ℕ) → Miss (s + i)
     past_slots s le i = no_place a e (s + i) (place_past h v (s + i) (omega arith))
 
-    module _ (wide : width_test 1 a.offset_size ≡ Passed) (u : ℕ) (hu : u < super_blocks a.parameters) where
+    module _ (wide : offset_size_test a.offset_size ≡ Ok tt) (u : ℕ) (hu : u < super_blocks a.parameters) where
       place_at : (k i s : ℕ) → k < blocks u → i < block_elements h u → Begins h u k s → place h (s + i) ≡ place_in h u k i
       unfolding slot_in
       place_at k i s hk hi b =
@@ -95,7 +95,7 @@ module _ (a : Array) (e : Elements) (form : form_of a.parameters a.offset_size �
         pub undefined_slots : block_undefined a u k ≡ true → (i : ℕ) → i < block_elements h u → Miss (s + i)
         undefined_slots t i hi = no_block a e u k i (s + i) wide (place_at k i s hk hi hs) r t
 
-        module _ (t : block_undefined a u k ≡ false) (p : test_of a (data_block u k) ≡ Passed) where
+        module _ (t : block_undefined a u k ≡ false) (p : test_of a (data_block u k) ≡ Ok tt) where
           -- the data block read unpaged
           pub block_slots_lem : in_pages h u ≡ false → (i : ℕ) → i < block_elements h u → Lead (s + i) (block_at a u k + block_element_at h o 0 + i * st)
           block_slots_lem q i hi = subst (Lead (s + i)) (block_at_lem u k i) (in_block_lem a e u k i (s + i) wide (place_at k i s hk hi hs) r t p q)
@@ -112,7 +112,7 @@ module _ (a : Array) (e : Elements) (form : form_of a.parameters a.offset_size �
             clear : (g i : ℕ) → g < pages h u → i < pe → page_set a u k g ≡ false → Miss (s + (g * pe + i))
             clear g i hg hi b = in_clear a e u k (g * pe + i) _ wide (placed g i hg hi) r t p q (rw (digits_div g hi) b)
 
-            set : (g i : ℕ) → g < pages h u → i < pe → page_set a u k g ≡ true → test_of a (data_page u k g) ≡ Passed → Lead (s + (g * pe + i)) (data_page_at a u k g + i * st)
+            set : (g i : ℕ) → g < pages h u → i < pe → page_set a u k g ≡ true → test_of a (data_page u k g) ≡ Ok tt → Lead (s + (g * pe + i)) (data_page_at a u k g + i * st)
             set g i hg hi b d =
                 let w = in_page a e u k (g * pe + i) _ wide (placed g i hg hi) r t p q (rw (digits_div g hi) b) (rw (digits_div g hi) d) in
                 let z : data_page_at a u k ((g * pe + i) / pe) + (g * pe + i) % pe * st ≡ data_page_at a u k g + i * st = rw (digits_div g hi, digits_mod g hi) refl in

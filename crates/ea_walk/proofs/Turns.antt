@@ -6,9 +6,9 @@ use native.Mathlib.Omega.{arith}
 use native.Mathlib.Nat.{sub-zero}
 use borrow.Author.Tests.{le-leb, lt-leb}
 use lib.Dec.{leb}
+use Rattle.std.specs.Prelude.{Err, Ok}
 use Rattle.refusal.specs.declared.Refusal.{Refusal}
-use Rattle.refusal.specs.declared.Checked.TheVariants.{Passed, Refused}
-use Rattle.refusal.specs.Outcome.{refused, ◌yields◌}
+use Rattle.refusal.specs.Outcome.{◌yields◌}
 use Rattle.index.specs.Index.{Listing}
 use Rattle.elements.specs.Elements.{Elements}
 use Rattle.elements.specs.Runs.{elements_from, pages_from}
@@ -48,11 +48,11 @@ module _ (a : Array) (e : Elements) (n u s : ℕ) (rest : Listing) where
       supers_undefined w = rw (less n u h, lt-leb e.count s b, d, w) refl
 
       module _ (w : super_undefined a u ≡ false) where
-        pub supers_refused : (r : Refusal) → test_of a (super_block u) ≡ Refused r → supers_from a e (n - u) u s rest ≡ refused r
+        pub supers_refused : (r : Refusal) → test_of a (super_block u) ≡ Err r → supers_from a e (n - u) u s rest ≡ Err r
         unfolding supers_from ◌yields◌
         supers_refused r t = rw (less n u h, lt-leb e.count s b, d, w, t) refl
 
-        pub supers_tested : test_of a (super_block u) ≡ Passed → supers_from a e (n - u) u s rest ≡ blocks_from a e u (blocks u - 0) 0 s next_super
+        pub supers_tested : test_of a (super_block u) ≡ Ok tt → supers_from a e (n - u) u s rest ≡ blocks_from a e u (blocks u - 0) 0 s next_super
         unfolding supers_from ◌yields◌
         supers_tested t = rw (less n u h, lt-leb e.count s b, d, w, t, sub-zero) refl
 
@@ -76,11 +76,11 @@ module _ (a : Array) (e : Elements) (u n k s : ℕ) (rest : Listing) where
       blocks-undefined w = rw (less n k h, b, w) refl
 
       module _ (w : block_undefined a u k ≡ false) where
-        pub blocks_refused : (r : Refusal) → test_of a (data_block u k) ≡ Refused r → blocks_from a e u (n - k) k s rest ≡ refused r
+        pub blocks_refused : (r : Refusal) → test_of a (data_block u k) ≡ Err r → blocks_from a e u (n - k) k s rest ≡ Err r
         unfolding blocks_from block ◌yields◌
         blocks_refused r t = rw (less n k h, b, w, t) refl
 
-        module _ (t : test_of a (data_block u k) ≡ Passed) where
+        module _ (t : test_of a (data_block u k) ≡ Ok tt) where
           pub blocks_unpaged : in_pages a.parameters u ≡ false
               → blocks_from a e u (n - k) k s rest
               ≡ elements_from e (block_at a u k + block_element_at a.parameters a.offset_size 0) (block_elements a.parameters u) s next_block

@@ -1,8 +1,8 @@
 -- The walk of the list: which test comes when, and which records it gives. Each definition says what is left to do
 -- from here; `rest` is what comes behind it, and s the slot that the walk has come to.
-use Rattle.std.specs.Prelude.{ℕ, zero, suc, ◌+◌, ◌*◌, cond, ◌&&◌, List, [], leb}
-use Rattle.refusal.specs.Outcome.{accepted, ◌yields◌}
-use Rattle.fields.specs.Fields.{width_test}
+use Rattle.std.specs.Prelude.{ℕ, zero, suc, ◌+◌, ◌*◌, cond, ◌&&◌, List, [], leb, Ok}
+use Rattle.refusal.specs.Outcome.{◌yields◌}
+use Rattle.fields.specs.Fields.{offset_size_test}
 use Rattle.chunk_grid.specs.Grid.{Grid, grid_test}
 use Rattle.index.specs.Index.{Listing}
 use Rattle.elements.specs.Elements.{Elements}
@@ -62,9 +62,9 @@ supers_from a e (suc j) u s rest =
 -- followed; the super blocks
 unfoldable pub behind_inline : Array → Elements → Listing
 behind_inline a e =
-    cond (leb e.count a.parameters.idx_blk_elmts) (accepted [])
-    (width_test 1 a.offset_size
-    yields supers_from a e (super_blocks a.parameters) 0 a.parameters.idx_blk_elmts (accepted []))
+    cond (leb e.count a.parameters.idx_blk_elmts) (Ok [])
+    (offset_size_test a.offset_size
+    yields supers_from a e (super_blocks a.parameters) 0 a.parameters.idx_blk_elmts (Ok []))
 
 -- the inline elements, and what is behind them
 abbrev pub from_inline : Array → Elements → Listing

@@ -6,13 +6,13 @@ use mathlib.Core.Bool.{false}
 use mathlib.Core.List.Memᴰ
 use mathlib.Core.List.{List, [], ◌∷◌, map, Memᴰ}
 use mathlib.Core.Logic.{⊎_elim}
-use mathlib.Core.Option.{none, some}
 use native.Mathlib.Omega.{arith}
 use borrow.Author.Tests.{eq-eqb}
 use lib.Dec.{eqb}
 use lib.ListN.{length, get_or, replicate}
+use Rattle.std.specs.Prelude.{Err, None, Ok, Some}
+use Rattle.refusal.specs.Values.{number_of}
 use Rattle.refusal.specs.declared.Refusal.{Refusal}
-use Rattle.refusal.specs.Outcome.{refused, accepted}
 use Rattle.refusal.proofs.Tests.{false_true, neither}
 use Rattle.refusal.proofs.Outcomes.{never, yields_inv}
 use Rattle.chunk_grid.specs.Grid.{any}
@@ -46,15 +46,15 @@ not_listed r (q ∷ l) h m =
     ⊎_elim (λ (e : r ≡ q). false_true (sym n.0 ∙ eq-eqb _ _ (ap address e))) (λ k. not_listed r l n.1 k) (Memᴰ.cases_cons m)
 
 -- the lists of the two files, behind the header's test
-worked_list : list_of W.sample ≡ accepted W.chunks
+worked_list : list_of W.sample ≡ Ok W.chunks
 unfolding list_at W.sample
 worked_list = (yields_inv _ _ _ Worked.listed).1
 
-pages-list : list_of P.sample ≡ accepted P.chunks
+pages-list : list_of P.sample ≡ Ok P.chunks
 unfolding list_at P.sample
 pages-list = (yields_inv _ _ _ Pages.listed).1
 
-pages-exact : (l : List Rec) → list_of P.sample ≡ accepted l → ExactList (index_in P.sample) l (length l)
+pages-exact : (l : List Rec) → list_of P.sample ≡ Ok l → ExactList (index_in P.sample) l (length l)
 unfolding opened P.file P.grid P.sample
 pages-exact l h = list-exact (P.sample).array (P.sample).elements refl l (omega arith) (omega arith) h
 
@@ -66,7 +66,7 @@ ten_listed : Memᴰ ten P.chunks
 unfolding P.chunks
 ten_listed = Memᴰ.tail (Memᴰ.tail (Memᴰ.tail (Memᴰ.head refl)))
 
-ten_found : lookup_in P.sample (20 ∷ 10 ∷ []) ≡ accepted (some ten)
+ten_found : lookup_in P.sample (20 ∷ 10 ∷ []) ≡ Ok (Some ten)
 unfolding lookup_at P.sample
 ten_found = (yields_inv _ _ _ Pages.found).1
 
@@ -80,11 +80,11 @@ without_ten l h = (λ e. wrong (length l) (pages-exact l e), wrong)
         not_listed ten l h (j.whole (20 ∷ 10 ∷ []) s.0 ten.entry s.1)
 
 -- Super blocks treated as unset.
-supers_are : supers_unset P.sample ≡ accepted (P.record_at_slot 0 (0 ∷ 0 ∷ []) ∷ P.record_at_slot 1 (10 ∷ 0 ∷ []) ∷ [])
+supers_are : supers_unset P.sample ≡ Ok (P.record_at_slot 0 (0 ∷ 0 ∷ []) ∷ P.record_at_slot 1 (10 ∷ 0 ∷ []) ∷ [])
 unfolding opened P.file P.grid P.sample supers_unset
 supers_are = refl
 
-pub supers_unset_lem : (l : List Rec) → supers_unset P.sample ≡ accepted l → Excluded P.sample l
+pub supers_unset_lem : (l : List Rec) → supers_unset P.sample ≡ Ok l → Excluded P.sample l
 unfolding any
 supers_unset_lem l h =
     let e : l ≡ P.record_at_slot 0 (0 ∷ 0 ∷ []) ∷ P.record_at_slot 1 (10 ∷ 0 ∷ []) ∷ [] = cc (supers_are) in
@@ -110,21 +110,22 @@ always_nine_lem needed h = never _ W.chunks (sym h ∙ Worked.fits)
 
 -- 9 without the walk: it refuses.
 pub nine_unwalked : (needed : ℕ) → list_in (P.spoiled 146 0x2e) 0 ≡ always_nine needed → ⊥
+unfolding number_of
 nine_unwalked needed h = let z : ◌≡◌ {A = ℕ} 26 9 = ap number (sym Pages.walked ∙ h) in omega arith
   where
     number : Listing → ℕ
-    number (refused r) = r.number
-    number (accepted l) = 0
+    number (Err r) = number_of r
+    number (Ok l) = 0
 
 -- Absent first thing: not the lookup, and no answer.
 pub always_absent_lem : lookup_in P.sample (20 ∷ 10 ∷ []) ≡ always_absent → ⊥
-always_absent_lem h = none_some ten (some_is none (some ten) (sym h ∙ ten_found))
+always_absent_lem h = none_some ten (some_is None (Some ten) (sym h ∙ ten_found))
 
-pub never_absent : Answers (index_in P.sample) (20 ∷ 10 ∷ []) none → ⊥
+pub never_absent : Answers (index_in P.sample) (20 ∷ 10 ∷ []) None → ⊥
 unfolding lookup
 never_absent n =
     let s = P.sample in
-    let a = lookup_answers (located s.array s.elements) (array_test s.array) (20 ∷ 10 ∷ []) (some ten) ten_found in
+    let a = lookup_answers (located s.array s.elements) (array_test s.array) (20 ∷ 10 ∷ []) (Some ten) ten_found in
     n a.0.0 ten.entry a.0.1
 
 -- A right count over an unwritten list: the second byte is another.

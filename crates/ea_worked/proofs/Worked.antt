@@ -2,27 +2,28 @@
 use mathlib.Core.Path.{◌≡◌, refl}
 use mathlib.Core.List.{[], ◌∷◌, ◌++◌}
 use lib.ListN.{length, replicate}
-use Rattle.refusal.specs.Outcome.{refused, accepted}
+use Rattle.std.specs.Prelude.{Err, Ok}
 use Rattle.fields.specs.LittleEndian.{le_bytes}
 use Rattle.records.specs.Records.{list_content}
 use Rattle.ea_worked.specs.Files.{list_at, list_in}
 use Rattle.ea_worked.specs.Worked.{file, grid, sample, chunks}
 use Rattle.ea_worked.proofs.Opened.{opened}
+use Rattle.refusal.specs.declared.Refusal.TheVariants.{ListTooSmall}
 
 pub long : length file ≡ 504
 unfolding opened file
 long = refl
 
-pub listed : list_at file 0 8 8 grid 4 ≡ accepted chunks
+pub listed : list_at file 0 8 8 grid 4 ≡ Ok chunks
 unfolding opened file grid chunks
 listed = refl
 
 -- 48 bytes hold the two records, one byte fewer is 9; bytes behind the last record stay.
-pub fits : list_in sample 48 ≡ accepted chunks
+pub fits : list_in sample 48 ≡ Ok chunks
 unfolding opened file grid sample chunks
 fits = refl
 
-pub too_small : list_in sample 47 ≡ refused (record { number = 9; first = 2; second = 0 })
+pub too_small : list_in sample 47 ≡ Err (ListTooSmall 2)
 unfolding opened file grid sample
 too_small = refl
 

@@ -1,7 +1,7 @@
 -- Datasets in small files. Their checksum is the sum of the bytes, which a proof can compute.
-use Rattle.std.specs.Prelude.{ℕ, ◌/◌, List, replicate}
-use Rattle.std.proofs.Math.Option.{Option}
-use Rattle.refusal.specs.Outcome.{Outcome, ◌yields◌, in_room}
+use Rattle.std.specs.Prelude.{ℕ, ◌/◌, List, replicate, Option}
+use Rattle.refusal.specs.Refusals.{Outcome}
+use Rattle.refusal.specs.Outcome.{◌yields◌, in_room}
 use Rattle.chunk_grid.specs.Grid.{Grid, total}
 use Rattle.index.specs.Index.{Index, Rec, Listing}
 use Rattle.elements.specs.Elements.{Elements}

@@ -1,8 +1,8 @@
 -- Readers that do less than a list or a lookup, and come close.
-use Rattle.std.specs.Prelude.{ℕ, ◌+◌, ◌≡◌, List, [], ◌∷◌}
-use Rattle.std.proofs.Math.Option.{Option, none}
+use Rattle.std.specs.Prelude.{ℕ, ◌+◌, ◌≡◌, List, [], ◌∷◌, Err, None, Ok, Option}
+use Rattle.refusal.specs.Refusals.{Outcome}
+use Rattle.refusal.specs.declared.Refusal.TheVariants.{ListTooSmall}
 use Rattle.refusal.specs.declared.Refusal.{Refusal}
-use Rattle.refusal.specs.Outcome.{Outcome, refused, accepted}
 use Rattle.index.specs.Index.{Rec, Listing}
 use Rattle.index.specs.ExactList.{ExactList}
 use Rattle.elements.specs.Runs.{elements_from}
@@ -14,7 +14,7 @@ use Rattle.ea_worked.specs.Pages.{record_at_slot}
 
 -- not the list of a dataset, and not exact with any count
 abbrev pub Excluded : Sample → List Rec → Type 0
-Excluded s l = (list_of s ≡ accepted l → ⊥) × ((count : ℕ) → ExactList (index_in s) l count → ⊥)
+Excluded s l = (list_of s ≡ Ok l → ⊥) × ((count : ℕ) → ExactList (index_in s) l count → ⊥)
 
 -- lists inline elements and direct data blocks truly, and treats super blocks as unset
 unfoldable pub supers_unset : Sample → Listing
@@ -22,7 +22,7 @@ supers_unset s =
     let a = s.array in
     elements_from s.elements (a.index_at + inline_element_at a.parameters a.offset_size 0)
     a.parameters.idx_blk_elmts 0
-    (supers_from a s.elements (direct_super_blocks a.parameters) 0 a.parameters.idx_blk_elmts (accepted []))
+    (supers_from a s.elements (direct_super_blocks a.parameters) 0 a.parameters.idx_blk_elmts (Ok []))
 
 -- what is listed of the file with pages where a data block ends at its first clear page: slot 10 is left out
 unfoldable pub ended_at_clear : List Rec
@@ -36,11 +36,11 @@ ended_at_clear =
 
 -- says 9 first thing, with any count
 abbrev pub always_nine : ℕ → Listing
-always_nine needed = refused (record { number = 9; first = needed; second = 0 })
+always_nine needed = Err (ListTooSmall needed)
 
 -- says absent first thing
 abbrev pub always_absent : Outcome (Option Rec)
-always_absent = accepted none
+always_absent = Ok None
 
 -- leaves the lent list unwritten
 abbrev pub unwritten : List ℕ → List ℕ
@@ -50,4 +50,4 @@ abbrev pub always_empty : List Rec
 always_empty = []
 
 abbrev pub always_refusing : Refusal → Listing
-always_refusing r = refused r
+always_refusing r = Err r

@@ -4,6 +4,8 @@
 -- from slot 8 on, super block 4 four such blocks from slot 16 on.
 use Rattle.std.specs.Prelude.{ℕ, ◌+◌, Bool, true, List, [], ◌∷◌, ◌++◌, replicate, set}
 use Rattle.refusal.specs.declared.Refusal.{Refusal}
+use Rattle.refusal.specs.declared.Refusal.TheVariants.{Checksum, DataBlockSignature, HeaderNotServed}
+use Rattle.refusal.specs.declared.Refusal.TheVariants.{IndexBlockSignature, SuperBlockSignature}
 use Rattle.refusal.specs.Refusals.{largest64}
 use Rattle.fields.specs.LittleEndian.{le_bytes}
 use Rattle.chunk_grid.specs.Grid.{Grid}
@@ -105,44 +107,43 @@ pub record Spoiling : Type 0 where
   pub byte : ℕ
   pub refusal : Refusal
 
-abbrev pub spoiling : ℕ → ℕ → ℕ → ℕ → ℕ → Spoiling
-spoiling pos byte number stored computed =
-    record { pos = pos; byte = byte; refusal = record { number = number; first = stored; second = computed } }
+abbrev pub spoiling : ℕ → ℕ → Refusal → Spoiling
+spoiling pos byte refusal = record { pos = pos; byte = byte; refusal = refusal }
 
 -- In the header, 27; in structures that lead to slot 10, 26 with the stored sum and the computed one, and 23, 24, 25
 -- for another signature, though the sum is wrong then too.
 unfoldable pub on_path : List Spoiling
 on_path =
     -- 3 for the least block elements
-    spoiling 9 3 27 0 0
+    spoiling 9 3 HeaderNotServed
     -- the index block
-    ∷ spoiling 379 9 26 1545 1544
-    ∷ spoiling 353 0 23 0 0
+    ∷ spoiling 379 9 (Checksum 1545 1544)
+    ∷ spoiling 353 0 IndexBlockSignature
     -- super block 3
-    ∷ spoiling 218 0x73 26 627 626
-    ∷ spoiling 203 0 25 0 0
+    ∷ spoiling 218 0x73 (Checksum 627 626)
+    ∷ spoiling 203 0 SuperBlockSignature
     -- the head of its data block 0
-    ∷ spoiling 106 0x0d 26 269 268
-    ∷ spoiling 97 0 24 0 0
+    ∷ spoiling 106 0x0d (Checksum 269 268)
+    ∷ spoiling 97 0 DataBlockSignature
     -- page 1: its sum, and a byte of it
-    ∷ spoiling 146 0x2e 26 814 813
-    ∷ spoiling 130 0 26 813 603
+    ∷ spoiling 146 0x2e (Checksum 814 813)
+    ∷ spoiling 130 0 (Checksum 813 603)
     ∷ []
 
 -- And in others.
 unfoldable pub beside_path : List Spoiling
 beside_path =
     -- a data block that the index block names, and an unpaged one that a super block names
-    spoiling 47 0x87 26 647 646
-    ∷ spoiling 30 0 24 0 0
-    ∷ spoiling 76 0xca 26 1226 1225
-    ∷ spoiling 51 0 24 0 0
+    spoiling 47 0x87 (Checksum 647 646)
+    ∷ spoiling 30 0 DataBlockSignature
+    ∷ spoiling 76 0xca (Checksum 1226 1225)
+    ∷ spoiling 51 0 DataBlockSignature
     -- past the count: the head of a data block of a super block that is reached, and its first set page
-    ∷ spoiling 284 0x0d 26 269 268
-    ∷ spoiling 324 0x8e 26 910 909
+    ∷ spoiling 284 0x0d (Checksum 269 268)
+    ∷ spoiling 324 0x8e (Checksum 910 909)
     -- the count 18: a page that ends at the count doesn't end its data block, and the unwritten page behind it is
     -- tested
-    ∷ spoiling 20 18 26 0x0909_0909 144
+    ∷ spoiling 20 18 (Checksum 0x0909_0909 144)
     ∷ []
 
 -- bytes of pages that are not looked at: a clear one, and one behind the page that runs past the count

@@ -1,10 +1,7 @@
 -- Worked values, as one table: each row is what the definitions compute, and the value.
-use Rattle.std.specs.Prelude.{ℕ, ◌≡◌, Bool, true, false, List, [], ◌∷◌, ◌++◌}
-use Rattle.std.proofs.Math.Option.{Option, some}
-use Rattle.refusal.specs.declared.Refusal.{Refusal}
-use Rattle.refusal.specs.declared.Checked.TheVariants.{Passed, Refused}
-use Rattle.refusal.specs.Refusals.{largest64}
-use Rattle.refusal.specs.Outcome.{Outcome, refused, accepted}
+use Rattle.std.specs.Prelude.{ℕ, ◌≡◌, Bool, true, false, List, [], ◌∷◌, ◌++◌, Err, Ok, Option, Some}
+use Rattle.refusal.specs.declared.Refusal.TheVariants.{ElementSize, SizeField, Unlimited}
+use Rattle.refusal.specs.Refusals.{largest64, Outcome}
 use Rattle.fields.specs.LittleEndian.{le_bytes}
 use Rattle.chunk_grid.specs.Grid.{Grid, offsets, grid_test}
 use Rattle.structures.specs.PageBits.{bit_byte, bit_mask}
@@ -67,11 +64,7 @@ read n = element (filtered_in (sized 2) n) 0 0
 
 abbrev pub chunk : ℕ → ℕ → ℕ → Outcome (Option Rec)
 chunk address size mask =
-    accepted (some (record { entry = record { address = address; size = size; mask = mask }; corner = 0 ∷ [] }))
-
--- a refusal without figures
-abbrev pub plain : ℕ → Refusal
-plain n = record { number = n; first = 0; second = 0 }
+    Ok (Some (record { entry = record { address = address; size = size; mask = mask }; corner = 0 ∷ [] }))
 
 -- chunk 10 by 5, maximum 20 by unlimited; true for order U, false for order R
 abbrev pub twenty : Bool → Grid
@@ -116,17 +109,17 @@ table =
     ∷ (bit_byte (bit_number (parameters 2) 13 3 1) is 0)
     ∷ (bit_mask (bit_number (parameters 2) 13 3 1) is 0x01)
     -- Filtered, O = 8: element size 11 is 28,
-    ∷ (read 11 is refused (plain 28))
+    ∷ (read 11 is Err ElementSize)
     -- 12 reads size 0 (and the mask behind the address);
     ∷ (read 12 is chunk 1 0 2)
     -- 20 reads 8 bytes,
     ∷ (size_at (filtered_in (sized 0x0807_0605_0403_0201) 20) 0 is 0x0807_0605_0403_0201)
     ∷ (read 20 is chunk 1 2 3)
     -- 21 is 29.
-    ∷ (read 21 is refused (plain 29))
+    ∷ (read 21 is Err SizeField)
     -- Chunk 10 by 5, maximum 20 by unlimited: order U, slot 5 is corner (10, 10);
-    ∷ (grid_test (twenty true) is Passed)
+    ∷ (grid_test (twenty true) is (Ok tt))
     ∷ (offsets (twenty true) 5 is 10 ∷ 10 ∷ [])
     -- order R is 7.
-    ∷ (grid_test (twenty false) is Refused (plain 7))
+    ∷ (grid_test (twenty false) is Err Unlimited)
     ∷ []

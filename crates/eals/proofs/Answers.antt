@@ -1,13 +1,13 @@
 -- The program's answer, from what its steps give. Assumes nothing.
 use mathlib.Core.Path.{◌≡◌, refl}
 use mathlib.Core.List.{List}
-use mathlib.Core.Option.{none, some}
 use Prim.Native.Nat.{ℕ, ◌≤◌}
 use lib.ListN.{length}
 use lib.Seq.{length-sets}
+use Rattle.std.specs.Prelude.{None, Some}
 use Rattle.io.specs.Counts.{IsPrefixLen}
 use Rattle.io.proofs.Counting.{prefix_len_of_le}
-use Rattle.refusal.specs.declared.Counted.{Counted}
+use Rattle.refusal.specs.Refusals.{Outcome}
 use Rattle.refusal.specs.Values.{counted_of}
 use Rattle.records.specs.Records.{list_content}
 use Rattle.questions.specs.Line.{file_of, question_of, numbers_stored}
@@ -17,7 +17,7 @@ use Rattle.questions.specs.declared.Question.{Question}
 
 module _ (input numbers list : List ℕ) where
   -- a question is answered
-  pub asked : (q : Question) → question_of input ≡ some q → (stored file content : List ℕ) (counted : Counted)
+  pub asked : (q : Question) → question_of input ≡ Some q → (stored file content : List ℕ) (counted : Outcome ℕ)
       → stored ≡ numbers_stored input numbers → file ≡ file_of input
       → counted ≡ counted_of (listing_of q stored file (length list)) → content ≡ list_content (listing_of q stored file (length list)) list
       → counted_text q.rank counted content ≡ program_text input numbers list
@@ -25,7 +25,7 @@ module _ (input numbers list : List ℕ) where
   asked q r stored file content counted s f k l = rw (r, ← s, ← f, ← l, ← k) refl
 
   -- the line is unreadable
-  pub unread : question_of input ≡ none → unreadable_text ≡ program_text input numbers list
+  pub unread : question_of input ≡ None → unreadable_text ≡ program_text input numbers list
   unfolding program_text parsed_text
   unread r = rw r refl
 

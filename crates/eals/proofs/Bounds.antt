@@ -8,12 +8,11 @@ use native.Mathlib.Omega.{arith}
 use lib.Dec.{ltb}
 use lib.ListN.{length}
 use borrow.Author.Tests.{ltb-false}
-use Rattle.refusal.specs.declared.Checked.{Checked}
-use Rattle.refusal.specs.declared.Checked.TheVariants.{Passed, Refused as CheckedRefused}
-use Rattle.refusal.specs.Refusals.{refuse}
-use Rattle.refusal.specs.Outcome.{refused, accepted, ◌yields◌, in_room}
+use Rattle.std.specs.Prelude.{Err, Ok}
+use Rattle.refusal.specs.declared.Refusal.TheVariants.{ListTooSmall}
+use Rattle.refusal.specs.Refusals.{refuse, Checked, Outcome}
+use Rattle.refusal.specs.Outcome.{◌yields◌, in_room}
 use Rattle.refusal.specs.Values.{counted_of}
-use Rattle.refusal.specs.declared.Counted.{Counted}
 use Rattle.records.specs.Records.{record_length}
 use Rattle.index.specs.Index.{Listing}
 use Rattle.ea_calls.specs.Call.{call_answer}
@@ -23,19 +22,19 @@ use Rattle.eals.specs.Program.{listing_of, records_counted}
 -- a lent list has room for the records that are counted
 in_room_lem : (a : Listing) (room : ℕ) → records_counted (counted_of (in_room a room)) ≤ room
 unfolding in_room counted_of records_counted refuse ◌yields◌
-in_room_lem (refused r) room = omega arith
-in_room_lem (accepted l) room = go (ltb room (length l)) refl
+in_room_lem (Err r) room = omega arith
+in_room_lem (Ok l) room = go (ltb room (length l)) refl
   where
-    go : (b : Bool) → ltb room (length l) ≡ b → records_counted (counted_of (refuse 9 (length l) 0 b yields accepted l)) ≤ room
+    go : (b : Bool) → ltb room (length l) ≡ b → records_counted (counted_of (refuse (ListTooSmall (length l)) b yields Ok l)) ≤ room
     go true e = omega arith
     go false e = ltb-false room (length l) e
 
 passed_count : (t : Checked) (a : Listing) (n : ℕ) → records_counted (counted_of a) ≤ n → records_counted (counted_of (t yields a)) ≤ n
 unfolding ◌yields◌ counted_of records_counted
-passed_count Passed a n h = h
-passed_count (CheckedRefused r) a n h = omega arith
+passed_count (Ok tt) a n h = h
+passed_count (Err r) a n h = omega arith
 
-pub counted_room : (q : Question) (numbers file : List ℕ) (room : ℕ) (counted : Counted) → counted ≡ counted_of (listing_of q numbers file room)
+pub counted_room : (q : Question) (numbers file : List ℕ) (room : ℕ) (counted : Outcome ℕ) → counted ≡ counted_of (listing_of q numbers file room)
     → records_counted counted * record_length q.rank ≤ room
 unfolding listing_of call_answer record_length
 counted_room q numbers file room counted e =

@@ -1,9 +1,7 @@
 -- The program: what it prints of an input.
-use Rattle.std.specs.Prelude.{ℕ, ◌+◌, ◌*◌, ◌/◌, List, [], ◌∷◌, length, take, drop}
-use Rattle.std.proofs.Math.Option.{Option, none, some}
-use Rattle.refusal.specs.declared.Counted.{Counted}
-use Rattle.refusal.specs.declared.Counted.TheVariants.{Count, Refused}
+use Rattle.std.specs.Prelude.{ℕ, ◌+◌, ◌*◌, ◌/◌, List, [], ◌∷◌, length, take, drop, Err, None, Ok, Option, Some}
 use Rattle.index.specs.Index.{Listing}
+use Rattle.refusal.specs.Refusals.{Outcome}
 use Rattle.refusal.specs.Values.{counted_of}
 use Rattle.calls.specs.Call.{grid_given, call_of}
 use Rattle.ea_calls.specs.Call.{list_at}
@@ -26,14 +24,14 @@ listing_of q numbers file room =
     (room / record_length rank)
 
 -- the text of an answer: of the records that the lent list holds, or of the refusal
-unfoldable pub counted_text : ℕ → Counted → List ℕ → List ℕ
-counted_text rank (Count n) list = list_text (records_in rank n list)
-counted_text rank (Refused r) list = refusal_text r
+unfoldable pub counted_text : ℕ → Outcome ℕ → List ℕ → List ℕ
+counted_text rank (Ok n) list = list_text (records_in rank n list)
+counted_text rank (Err r) list = refusal_text r
 
 -- how many records there are
-unfoldable pub records_counted : Counted → ℕ
-records_counted (Count n) = n
-records_counted (Refused r) = 0
+unfoldable pub records_counted : Outcome ℕ → ℕ
+records_counted (Ok n) = n
+records_counted (Err r) = 0
 
 -- For a line of another form, or too long a file, `unreadable` is printed.
 abbrev pub unreadable_text : List ℕ
@@ -41,8 +39,8 @@ unreadable_text = 117 ∷ 110 ∷ 114 ∷ 101 ∷ 97 ∷ 100 ∷ 97 ∷ 98 ∷ 1
 
 -- what a line comes to, with the numbers that are stored of it
 unfoldable pub parsed_text : Option Question → List ℕ → List ℕ → List ℕ → List ℕ
-parsed_text none numbers file list = unreadable_text
-parsed_text (some q) numbers file list =
+parsed_text None numbers file list = unreadable_text
+parsed_text (Some q) numbers file list =
     let a = listing_of q numbers file (length list) in
     counted_text q.rank (counted_of a) (list_content a list)
 

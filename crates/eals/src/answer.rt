@@ -2,19 +2,23 @@
 ghost use Rattle.std.specs.Prelude.{◌≡◌, ◌+◌, ◌*◌, ◌≤◌, length};
 ghost use Rattle.io.specs.Counts.{IsPrefixLen};
 ghost use Rattle.refusal.specs.Values.{counted_of};
-ghost use Rattle.records.specs.Records.{record_length};
-ghost use Rattle.records.specs.Records.{list_content};
+ghost use Rattle.records.specs.Records.{record_length, list_content};
 ghost use Rattle.list_text.specs.Printed.{Put};
 ghost use Rattle.eals.specs.Program.{listing_of, counted_text, records_counted, program_text};
 
 use calls::CallNumbers;
 use ea_list::call::list_at;
 use list_text::{put_list, put_refusal, put_text};
-use questions::{Parsed, Question, file_of, parse};
-use refusal::Counted;
+use questions::{Question, file_of, parse};
+use refusal::Refusal;
 
 // Lists the chunks that a question asks for.
-fn list_chunks(list: &mut [u8], numbers: &[u8], file: &[u8], question: Question) -> Counted
+fn list_chunks(
+    list: &mut [u8],
+    numbers: &[u8],
+    file: &[u8],
+    question: Question,
+) -> Result<u64, Refusal>
     requires { 48 + 24 * question.rank ≤ length numbers.now }
     ensures value { result ≡ counted_of (listing_of question numbers.now file.now
         (length list.old)) }
@@ -45,15 +49,15 @@ fn list_chunks(list: &mut [u8], numbers: &[u8], file: &[u8], question: Question)
 }
 
 // Puts the text of an answer into out, and answers where it ends.
-fn put_counted(out: &mut [u8], list: &[u8], counted: Counted, rank: usize) -> usize
+fn put_counted(out: &mut [u8], list: &[u8], counted: Result<u64, Refusal>, rank: usize) -> usize
     requires { (records_counted counted * record_length rank ≤ length list.now) × (length list.now ≡ 65536)
         × (300000 ≤ length out.old) }
     ensures put { Put out.old 0 (counted_text rank counted list.now) out.new result }
     ensures upper_bound { result ≤ 300000 }
 {
     match counted {
-        Counted::Count(n) => put_list(out, list, n as usize, rank),
-        Counted::Refused(r) => put_refusal(out, r),
+        Ok(n) => put_list(out, list, n as usize, rank),
+        Err(r) => put_refusal(out, r),
     }
 }
 
@@ -64,12 +68,9 @@ pub fn answer(out: &mut [u8], list: &mut [u8], numbers: &mut [u8], input: &[u8])
         (program_text input.now numbers.old list.old) out.new result }
     ensures prefix_len { IsPrefixLen result out.new }
 {
-    match parse(numbers, input) {
-        Parsed::Asked(question) => {
-            let file = file_of(input);
-            let counted = list_chunks(list, numbers, file, question);
-            put_counted(out, list, counted, question.rank as usize)
-        }
-        Parsed::Unreadable => put_text(out, 0, b"unreadable\n"),
-    }
+    let Some(question) = parse(numbers, input) else {
+        return put_text(out, 0, b"unreadable\n");
+    };
+    let counted = list_chunks(list, numbers, file_of(input), question);
+    put_counted(out, list, counted, question.rank as usize)
 }

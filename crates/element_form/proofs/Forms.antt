@@ -6,7 +6,7 @@ use mathlib.Core.Logic.{⊎_elim}
 use native.Mathlib.Omega.{arith}
 use borrow.Author.Tests.{lt-ltb, le-ltb, ltb-false, not-false}
 use lib.Dec.{ltb}
-use Rattle.refusal.specs.declared.Checked.TheVariants.{Passed}
+use Rattle.std.specs.Prelude.{Ok}
 use Rattle.refusal.proofs.Tests.{lt_or_ge, by_cond, refuse_inv, then_inv}
 use Rattle.fields.specs.Fields.{is_width, width_test}
 use Rattle.element_form.specs.declared.Form.{Form}
@@ -39,15 +39,15 @@ module _ (f : Form) where
       (λ (k : o ≤ n - 4). le-ltb (n - 4) o k ∙ sym (le-ltb n (o + 4) (omega arith))) (lt_or_ge (n - 4) o))
 
   -- what the test of their size leaves
-  module _ (t : element_size_test f ≡ Passed) where
+  module _ (t : element_size_test f ≡ Ok tt) where
     pub sized_width : is_width f.offset_size ≡ true
     unfolding element_size_test width_test
-    sized_width = not-false (is_width f.offset_size) (refuse_inv _ _ _ _ (then_inv _ _ t).1)
+    sized_width = not-false (is_width f.offset_size) (refuse_inv _ _ (then_inv _ _ t).1)
 
     pub sized-filtered : filtered f ≡ true → f.offset_size + 4 ≤ f.element_size
     unfolding element_size_test room_test
     sized-filtered e =
-        let b = refuse_inv _ _ _ _ (then_inv _ _ t).0 in
+        let b = refuse_inv _ _ (then_inv _ _ t).0 in
         ltb-false f.element_size (f.offset_size + 4) (rw e at b)
 
     -- a filtered element that lies in n bytes

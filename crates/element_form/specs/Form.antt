@@ -1,8 +1,8 @@
 -- The form of an element: what stands in its bytes.
 use Rattle.std.specs.Prelude.{ℕ, ◌+◌, ◌-◌, Bool, not, cond, ◌&&◌, eqb, ltb}
-use Rattle.refusal.specs.declared.Checked.{Checked}
-use Rattle.refusal.specs.Refusals.{refuse, ◌then◌}
-use Rattle.fields.specs.Fields.{width_test}
+use Rattle.refusal.specs.declared.Refusal.TheVariants.{ElementSize}
+use Rattle.refusal.specs.Refusals.{refuse, ◌then◌, Checked}
+use Rattle.fields.specs.Fields.{offset_size_test}
 use Rattle.element_form.specs.declared.Form.{Form}
 
 -- Client 0 is unfiltered, any other client is filtered.
@@ -19,8 +19,8 @@ size_bytes f = f.element_size - (f.offset_size + 4)
 
 -- 28 element size too small, ..
 unfoldable pub room_test : Form → Checked
-room_test f = refuse 28 0 0 (filtered f && ltb f.element_size (f.offset_size + 4))
+room_test f = refuse ElementSize (filtered f && ltb f.element_size (f.offset_size + 4))
 
 -- .. before 1
 unfoldable pub element_size_test : Form → Checked
-element_size_test f = room_test f then width_test 1 f.offset_size
+element_size_test f = room_test f then offset_size_test f.offset_size

@@ -1,11 +1,10 @@
 #![tactic(auto)]
 // The form of an index's elements: how many bytes an element has, and what stands in them.
-ghost use Rattle.std.specs.Prelude.{◌≡◌, true, ◌&&◌, ◌+◌, ltb};
-ghost use Rattle.refusal.specs.declared.Checked.TheVariants.{Passed};
+ghost use Rattle.std.specs.Prelude.{◌≡◌, true, ◌&&◌, ◌+◌, ltb, Ok};
 ghost use Rattle.element_form.specs.Form.{filtered, stride, size_bytes, room_test, element_size_test};
 
 use fields::bytes::ensure_width;
-use refusal::{Checked, Refusal};
+use refusal::Refusal;
 
 // What an index says of its elements, and the size of an address.
 #[derive(Clone, Copy)]
@@ -37,31 +36,30 @@ impl Form {
 
     // The bytes of a filtered element's size.
     pub fn size_bytes(self) -> u64
-        requires { (element_size_test self ≡ Passed) × (filtered self ≡ true) }
+        requires { (element_size_test self ≡ Ok tt) × (filtered self ≡ true) }
         ensures { result ≡ size_bytes self }
     {
         self.element_size as u64 - 4 - self.offset_size
     }
 
     // Tests the size of elements: 28, then 1.
-    pub fn test(self) -> Checked
+    pub fn test(self) -> Result<(), Refusal>
         ensures { result ≡ element_size_test self }
     {
-        let room = self.test_room();
-        let Checked::Passed = room else {
-            return room;
-        };
-        ensure_width(self.offset_size, Refusal::OFFSET_SIZE)
+        self.test_room()?;
+        ensure_width(self.offset_size, Refusal::OffsetSize(self.offset_size))
     }
 
     // Tests that a filtered element has room for an address and a mask: 28.
-    pub fn test_room(self) -> Checked
+    #[tactic(auto, unfolding(crate::specs::Form::room_test, refusal::specs::Refusals::refuse))]
+    pub fn test_room(self) -> Result<(), Refusal>
         ensures { result ≡ room_test self }
     {
         if self.is_too_small() {
-            return Checked::Refused(Refusal::plain(Refusal::ELEMENT_SIZE));
+            Err(Refusal::ElementSize)
+        } else {
+            Ok(())
         }
-        Checked::Passed
     }
 
     // Whether a filtered element has no room for an address and a mask.

@@ -3,24 +3,20 @@ use Prim.Native.Nat.{ℕ, zero, suc, ◌+◌, ◌-◌, ◌*◌, ◌^◌, ◌<◌
 use mathlib.Core.Path.{◌≡◌, refl, sym, ap, ◌∙◌}
 use mathlib.Core.Bool.{Bool, true, false}
 use mathlib.Core.List.{List, []}
-use mathlib.Core.Option.{some}
 use mathlib.Core.Logic.{⊎_elim}
 use native.Mathlib.Omega.{arith}
 use borrow.Author.Tests.{le-ltb, lt-leb, leb-true}
 use lib.Dec.{leb}
 use lib.ListN.{get_or}
 use lib.Pow.{pow_mono}
-use Rattle.refusal.specs.declared.Checked.TheVariants.{Passed}
-use Rattle.refusal.specs.declared.Counted.TheVariants.{Count}
+use Rattle.std.specs.Prelude.{Ok, Some}
 use Rattle.refusal.specs.Refusals.{figure, refuse, ◌then◌}
-use Rattle.refusal.specs.Outcome.{accepted}
 use Rattle.refusal.specs.Values.{plus, counted_of}
 use Rattle.refusal.proofs.Tests.{by_cond, both, lt_or_ge}
 use Rattle.refusal.proofs.Counts.{plus_zero, plus_none, plus-also}
 use Rattle.fields.specs.LittleEndian.{le_at}
 use Rattle.fields.specs.Fields.{size_test}
 use Rattle.fields.proofs.LittleEndian.{le_small}
-use Rattle.chunk_grid.specs.declared.Offsets.TheVariants.{Inside}
 use Rattle.chunk_grid.specs.Grid.{Grid}
 use Rattle.chunk_grid.specs.Values.{in_extent, offsets_of}
 use Rattle.chunk_slots.specs.AllInside.{all_inside}
@@ -37,7 +33,7 @@ use Rattle.element_runs.specs.Defined.{defined_count, sizes_fit, all_chunks}
 use Rattle.element_runs.proofs.Skipping.{skip_one}
 
 -- a size that passes its test
-small_size : (n : ℕ) → n < 2 ^ 32 → size_test n ≡ Passed
+small_size : (n : ℕ) → n < 2 ^ 32 → size_test n ≡ Ok tt
 unfolding size_test refuse
 small_size n h = rw (le-ltb (2 ^ 32 - 1) n (omega arith)) refl
 
@@ -58,7 +54,7 @@ module _ (f : Form) (g : Grid) (n : ℕ) where
   unfolding sizes_fit
   fit_filtered p w e = rw (p, e) refl
 
-module _ (es : Elements) (bytes : (i : ℕ) → get_or es.file i 0 < 256) (t : element_size_test es.form ≡ Passed) where
+module _ (es : Elements) (bytes : (i : ℕ) → get_or es.file i 0 < 256) (t : element_size_test es.form ≡ Ok tt) where
   module _ (fits : sizes_fit es.form es.grid es.element_bytes ≡ true) where
     -- every entry passes its test
     size_small : (pos : ℕ) → size_bytes es.form ≤ 4 → le_at es.file pos (size_bytes es.form) < 2 ^ 32
@@ -67,7 +63,7 @@ module _ (es : Elements) (bytes : (i : ℕ) → get_or es.file i 0 < 256) (t : e
         let k : 2 ^ (8 * w) ≤ 2 ^ 32 = pow_mono {j = 32} (omega arith) in
         omega (arith, le_small es.file bytes w pos)
 
-    passes_by : (b : Bool) → filtered es.form ≡ b → (pos : ℕ) → entry_test es pos ≡ Passed
+    passes_by : (b : Bool) → filtered es.form ≡ b → (pos : ℕ) → entry_test es pos ≡ Ok tt
     unfolding entry_test size_at sizes_fit refuse ◌then◌
     passes_by true e pos =
         let l : size_bytes es.form ≤ 4 = leb-true (size_bytes es.form) 4 (rw e at fits) in
@@ -77,25 +73,25 @@ module _ (es : Elements) (bytes : (i : ℕ) → get_or es.file i 0 < 256) (t : e
         rw e (small_size _ (omega arith))
 
     -- a defined element inside the extents
-    chunk_is : (pos s : ℕ) → offsets_of (in_extent es.grid s) ≡ Inside → undefined_element es pos ≡ false → element es pos s ≡ accepted (some (record_here es pos s))
+    chunk_is : (pos s : ℕ) → offsets_of (in_extent es.grid s) ≡ Ok true → undefined_element es pos ≡ false → element es pos s ≡ Ok (Some (record_here es pos s))
     chunk_is pos s i u = chunk_here es pos s t i u (passes_by (filtered es.form) refl pos)
 
     module _ (rest : Listing) where
-      defined_one : (pos j s k : ℕ) → offsets_of (in_extent es.grid s) ≡ Inside → s < es.count → undefined_element es pos ≡ false
+      defined_one : (pos j s k : ℕ) → offsets_of (in_extent es.grid s) ≡ Ok true → s < es.count → undefined_element es pos ≡ false
           → plus k (elements_from es pos (suc j) s rest) ≡ plus (k + 1) (elements_from es (pos + stride es.form) j (s + 1) rest)
       unfolding elements_from also_element
       defined_one pos j s k h l u = rw (lt-leb es.count s l, chunk_is pos s h u) (plus-also k _ _)
 
       -- a run of slots inside the extents
-      pub inside_counted : (pos j s k : ℕ) → ((i : ℕ) → i < j → offsets_of (in_extent es.grid (s + i)) ≡ Inside) → s + j ≤ es.count
+      pub inside_counted : (pos j s k : ℕ) → ((i : ℕ) → i < j → offsets_of (in_extent es.grid (s + i)) ≡ Ok true) → s + j ≤ es.count
           → plus k (elements_from es pos j s rest) ≡ plus (k + defined_count es.file pos j (stride es.form) es.form.offset_size) rest
       unfolding defined_count elements_from
       inside_counted pos zero s k h l = ap (λ (m : ℕ). plus m rest) (omega arith)
       inside_counted pos (suc j) s k h l =
           let from = pos + stride es.form in
           let d = defined_count es.file from j (stride es.form) es.form.offset_size in
-          let here : offsets_of (in_extent es.grid s) ≡ Inside = (let e : s + 0 ≡ s = omega arith in rw e at (h 0 (omega arith))) in
-          let others : (i : ℕ) → i < j → offsets_of (in_extent es.grid (s + 1 + i)) ≡ Inside = λ i b. (let e : s + 1 + i ≡ s + suc i = omega arith in rw e (h (suc i) (omega arith))) in
+          let here : offsets_of (in_extent es.grid s) ≡ Ok true = (let e : s + 0 ≡ s = omega arith in rw e at (h 0 (omega arith))) in
+          let others : (i : ℕ) → i < j → offsets_of (in_extent es.grid (s + 1 + i)) ≡ Ok true = λ i b. (let e : s + 1 + i ≡ s + suc i = omega arith in rw e (h (suc i) (omega arith))) in
           let later : (m : ℕ) → plus m (elements_from es from j (s + 1) rest) ≡ plus (m + d) rest = λ m. inside_counted from j (s + 1) m others (omega arith) in
           by_cond (λ (m : ℕ). plus k (elements_from es pos (suc j) s rest) ≡ plus (k + (m + d)) rest) (undefined_element es pos)
           (λ u. ap (plus k) (skip_one es t rest pos j s (omega arith) u) ∙ later k ∙ ap (λ (m : ℕ). plus m rest) (omega arith))
@@ -104,10 +100,10 @@ module _ (es : Elements) (bytes : (i : ℕ) → get_or es.file i 0 < 256) (t : e
   -- the first n slots
   pub all_counted : {r : ElementReader} {chunk bound down : List ℕ} → Reads r chunk bound down es.grid es.element_bytes
       → (n : ℕ) → all_chunks es.form es.grid es.element_bytes n ≡ true → (pos j s : ℕ) → s + j ≤ n → s + j ≤ es.count
-      → Count (defined_count es.file pos j (stride es.form) es.form.offset_size) ≡ counted_of (elements_from es pos j s (accepted []))
+      → Ok (defined_count es.file pos j (stride es.form) es.form.offset_size) ≡ counted_of (elements_from es pos j s (Ok []))
   unfolding all_chunks
   all_counted q n all pos j s h l =
       let parts = both (sizes_fit es.form es.grid es.element_bytes) (all_inside es.grid n) all in
       let reached = all_inside_lem es.grid _ _ _ _ q.numbered _ _ q.extended n parts.1 in
-      let e = inside_counted parts.0 (accepted []) pos j s 0 (λ i b. reached (s + i) (omega arith)) l in
-      ap Count (omega arith) ∙ sym (e ∙ plus_none _ _ refl) ∙ plus_zero _
+      let e = inside_counted parts.0 (Ok []) pos j s 0 (λ i b. reached (s + i) (omega arith)) l in
+      ap Ok (omega arith) ∙ sym (e ∙ plus_none _ _ refl) ∙ plus_zero _

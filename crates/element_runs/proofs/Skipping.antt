@@ -4,7 +4,7 @@ use mathlib.Core.Path.{◌≡◌, refl, sym, ◌∙◌}
 use mathlib.Core.Bool.{true}
 use native.Mathlib.Omega.{arith}
 use borrow.Author.Tests.{lt-leb}
-use Rattle.refusal.specs.declared.Checked.TheVariants.{Passed}
+use Rattle.std.specs.Prelude.{Ok}
 use Rattle.refusal.proofs.Tests.{by_cond}
 use Rattle.element_form.specs.Form.{stride, element_size_test}
 use Rattle.index.specs.Index.{Listing}
@@ -13,7 +13,7 @@ use Rattle.elements.specs.Runs.{also_element, elements_from}
 use Rattle.elements.proofs.Sized.{element-undefined}
 use Rattle.element_runs.specs.Defined.{undefined_run}
 
-module _ (es : Elements) (t : element_size_test es.form ≡ Passed) (rest : Listing) where
+module _ (es : Elements) (t : element_size_test es.form ≡ Ok tt) (rest : Listing) where
   abbrev undefined_from : ℕ → ℕ → ℕ
   undefined_from pos n = undefined_run es.file pos n (stride es.form) es.form.offset_size
 

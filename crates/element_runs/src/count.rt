@@ -1,10 +1,7 @@
 // A run of elements tested, and its records counted.
-ghost use Rattle.std.specs.Prelude.{◌≡◌, true, List, [], ℕ, ◌+◌, ◌-◌, ◌<◌, ◌≤◌, min};
-ghost use Rattle.refusal.specs.declared.Checked.TheVariants.{Passed};
+ghost use Rattle.std.specs.Prelude.{◌≡◌, true, List, [], ℕ, ◌+◌, ◌-◌, ◌<◌, ◌≤◌, min, Ok};
 ghost use Rattle.refusal.specs.Refusals.{figure};
-ghost use Rattle.refusal.specs.Outcome.{accepted};
 ghost use Rattle.refusal.specs.Values.{counted_of};
-ghost use Rattle.chunk_grid.specs.declared.Offsets.TheVariants.{Inside};
 ghost use Rattle.chunk_grid.specs.Grid.{Grid};
 ghost use Rattle.chunk_grid.specs.Values.{in_extent, offsets_of};
 ghost use Rattle.element_form.specs.Form.{element_size_test};
@@ -16,16 +13,15 @@ ghost use Rattle.element_runs.specs.Defined.{sizes_fit, all_chunks};
 ghost use Rattle.element_runs.specs.Values.{RunInFile};
 
 use crate::defined::{count_defined, undefined_run};
-use chunk_grid::Offsets;
 use chunk_slots::{all_inside, line_from};
+use elements::ElementReader;
 use elements::read::read_defined_element;
-use elements::{ElementReader, Found};
-use refusal::{Checked, Counted};
+use refusal::Refusal;
 
 // What a slot's offsets come to, and how many slots from it on are known to lie in the present extents.
 #[derive(Clone, Copy)]
 struct Reach {
-    reached: Offsets,
+    reached: Result<bool, Refusal>,
     slots: u64,
 }
 
@@ -39,23 +35,21 @@ pub fn count_elements(
     chunk: &[u64; 32],
     bound: &[u64; 32],
     down: &[u64; 32],
-) -> Counted
+) -> Result<u64, Refusal>
     requires { RunInFile file.now reader chunk.now bound.now down.now pos n }
     ensures { (grid : Grid) (m : ℕ)
         → Reads reader chunk.now bound.now down.now grid m
-        → result ≡ counted_of (elements_from (elements_of file.now reader grid m) pos n slot (accepted [])) }
+        → result ≡ counted_of (elements_from (elements_of file.now reader grid m) pos n slot (Ok [])) }
 {
     let left = below_count(n, slot, reader.count);
     if left == 0 {
-        return Counted::Count(0);
+        return Ok(0);
     }
-    if let Checked::Refused(r) = reader.form.test() {
-        return Counted::Refused(r);
-    }
+    reader.form.test()?;
     let start = pos as usize;
     if all_chunks(slot + left, reader, bound, down) {
         let stride = reader.form.stride() as usize;
-        return Counted::Count(count_defined(file, start, left, stride, reader.form.offset_size));
+        return Ok(count_defined(file, start, left, stride, reader.form.offset_size));
     }
     count_each_element(file, start, left, slot, reader, chunk, bound, down)
 }
@@ -64,16 +58,12 @@ pub fn count_elements(
 pub fn below_count(n: u64, slot: u64, count: u64) -> u64
     ensures { result ≡ min n (count - slot) }
 {
-    if count <= slot {
-        return 0;
-    }
-    let left = count - slot;
-    if left < n { left } else { n }
+    n.min(count.saturating_sub(slot))
 }
 
 // Whether every defined element of the first n slots is a chunk's.
 fn all_chunks(n: u64, reader: ElementReader, bound: &[u64; 32], down: &[u64; 32]) -> bool
-    requires { (element_size_test reader.form ≡ Passed)
+    requires { (element_size_test reader.form ≡ Ok tt)
         × ((grid : Grid) × (m : ℕ) × (chunk : List ℕ) × Reads reader chunk bound.now down.now grid m) }
     ensures { (grid : Grid) (m : ℕ) (chunk : List ℕ)
         → Reads reader chunk bound.now down.now grid m
@@ -89,7 +79,7 @@ fn all_chunks(n: u64, reader: ElementReader, bound: &[u64; 32], down: &[u64; 32]
 
 // Whether no size passes 2^32 - 1.
 fn sizes_fit(reader: ElementReader) -> bool
-    requires { element_size_test reader.form ≡ Passed }
+    requires { element_size_test reader.form ≡ Ok tt }
     ensures { (grid : Grid) (m : ℕ) → reader.chunk_bytes ≡ figure (chunk_bytes grid m)
         → result ≡ sizes_fit reader.form grid m }
 {
@@ -116,13 +106,13 @@ fn reach_from(
     ensures { (result.slots ≤ n) × (0 < result.slots → lines ≡ true)
         × ((grid : Grid) (m : ℕ) → Reads reader chunk.now bound.now down.now grid m
         → (result.reached ≡ offsets_of (in_extent grid slot))
-        × ((j : ℕ) → j < result.slots → offsets_of (in_extent grid (slot + j)) ≡ Inside)
+        × ((j : ℕ) → j < result.slots → offsets_of (in_extent grid (slot + j)) ≡ Ok true)
         × (offsets.new ≡ handed grid slot offsets.old)) }
 {
     let reached = reader.reach(offsets, slot, chunk, bound, down);
     let mut slots = 0;
     if lines {
-        if let Offsets::Inside = reached {
+        if let Ok(true) = reached {
             let rank = reader.rank as usize;
             let line = line_from(slot, rank, reader.rotated as usize, bound, down);
             slots = below_count(line.slots, 0, n);
@@ -142,12 +132,12 @@ fn count_each_element(
     chunk: &[u64; 32],
     bound: &[u64; 32],
     down: &[u64; 32],
-) -> Counted
+) -> Result<u64, Refusal>
     requires { RunInFile file.now reader chunk.now bound.now down.now pos n
-        × (element_size_test reader.form ≡ Passed) × (slot + n ≤ reader.count) }
+        × (element_size_test reader.form ≡ Ok tt) × (slot + n ≤ reader.count) }
     ensures { (grid : Grid) (m : ℕ)
         → Reads reader chunk.now bound.now down.now grid m
-        → result ≡ counted_of (elements_from (elements_of file.now reader grid m) pos n slot (accepted [])) }
+        → result ≡ counted_of (elements_from (elements_of file.now reader grid m) pos n slot (Ok [])) }
 {
     let stride = reader.form.stride() as usize;
     let width = reader.form.offset_size;
@@ -182,13 +172,11 @@ fn count_each_element(
             continue;
         }
         let reached = reach.reached;
-        match read_defined_element(file, at, reader, reached) {
-            Found::Absent => {}
-            Found::Chunk(_) => count += 1,
-            Found::Refused(r) => return Counted::Refused(r),
+        if read_defined_element(file, at, reader, reached)?.is_some() {
+            count += 1;
         }
         at += stride;
         i += 1;
     }
-    Counted::Count(count)
+    Ok(count)
 }

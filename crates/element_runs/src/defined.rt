@@ -14,15 +14,13 @@ pub fn undefined_run(file: &[u8], pos: usize, n: u64, stride: usize, width: u64)
     ensures { (result ≡ undefined_run file.now pos n stride width) × (result ≤ n) }
 {
     let mut at = pos;
-    let mut i = 0;
     // The first i elements are undefined, and the next is at `at`.
-    while i < n {
+    for i in 0..n {
         let address = read_address(file, at, width as usize);
         if !is_undefined_addr(address, width) {
             return i;
         }
         at += stride;
-        i += 1;
     }
     n
 }
@@ -34,15 +32,13 @@ pub fn count_defined(file: &[u8], pos: usize, n: u64, stride: usize, width: u64)
 {
     let mut count = 0;
     let mut at = pos;
-    let mut i = 0;
     // Of the first i elements `count` are defined, and the next is at `at`.
-    while i < n {
+    for i in 0..n {
         let address = read_address(file, at, width as usize);
         if !is_undefined_addr(address, width) {
             count += 1;
         }
         at += stride;
-        i += 1;
     }
     count
 }

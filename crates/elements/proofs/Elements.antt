@@ -3,31 +3,28 @@ use Prim.Native.Nat.{ℕ}
 use mathlib.Core.Path.{◌≡◌, refl, ap, ◌∙◌}
 use mathlib.Core.Bool.{Bool, false, not, cond}
 use mathlib.Core.List.{List}
-use mathlib.Core.Option.{Option, none, some}
 use native.Mathlib.Omega.{arith}
 use borrow.Author.Tests.{not-true, not-false}
-use Rattle.refusal.specs.declared.Checked.{Checked}
-use Rattle.refusal.specs.declared.Checked.TheVariants.{Passed, Refused}
-use Rattle.refusal.specs.Outcome.{Outcome, accepted, ◌yields◌}
+use Rattle.std.specs.Prelude.{Err, None, Ok, Option, Some, true}
+use Rattle.refusal.specs.Refusals.{Checked, Outcome}
+use Rattle.refusal.specs.Outcome.{◌yields◌}
 use Rattle.refusal.proofs.Tests.{by_cond, then_inv, refuse_inv}
 use Rattle.refusal.proofs.Outcomes.{never, yields_inv, yields_passed}
 use Rattle.chunk_grid.specs.Grid.{offsets, offsets_test, below}
 use Rattle.chunk_grid.specs.Values.{in_extent, offsets_of}
 use Rattle.chunk_grid.specs.Chunks.{chunk_at}
-use Rattle.chunk_grid.specs.declared.Offsets.TheVariants.{Inside}
 use Rattle.chunk_grid.proofs.Slots.{passed_inside}
 use Rattle.element_form.specs.Form.{element_size_test}
 use Rattle.index.specs.declared.Entry.{Entry}
 use Rattle.index.specs.Index.{Rec, Listing}
 use Rattle.index.specs.SlotRecords.{record_of}
 use Rattle.elements.specs.Elements.{Elements, undefined_element, entry_at, entry_test, element}
-use Rattle.elements.specs.declared.Found.TheVariants.{Chunk}
 use Rattle.elements.specs.Runs.{also_element}
 use Rattle.elements.specs.Values.{found_of}
 use Rattle.elements.proofs.Answers.{found_chunk}
 use Rattle.elements.proofs.Sized.{element_inside}
 
-pub some_is : (x y : Option Rec) → ◌≡◌ {A = Outcome (Option Rec)} (accepted x) (accepted y) → x ≡ y
+pub some_is : (x y : Option Rec) → ◌≡◌ {A = Outcome (Option Rec)} (Ok x) (Ok y) → x ≡ y
 some_is x y h = cc
 
 -- the record of slot s, whose element is at pos
@@ -38,40 +35,40 @@ abbrev inside : Elements → ℕ → Bool
 inside es s = below (offsets es.grid s) es.grid.present
 
 -- an element that isn't refused gives the record of its slot
-pub element_record : (es : Elements) (pos s : ℕ) (x : Option Rec) → element es pos s ≡ accepted x
-    → record_of (cond (undefined_element es pos) none (some (entry_at es pos))) (chunk_at es.grid s) ≡ x
+pub element_record : (es : Elements) (pos s : ℕ) (x : Option Rec) → element es pos s ≡ Ok x
+    → record_of (cond (undefined_element es pos) None (Some (entry_at es pos))) (chunk_at es.grid s) ≡ x
 unfolding element record_of chunk_at offsets_test
 element_record es pos s x h =
     by_cond P (undefined_element es pos)
-    (λ e k. rw e (some_is none x k))
+    (λ e k. rw e (some_is None x k))
     (λ e k.
     let i = yields_inv _ _ x k in
-    let n = refuse_inv _ _ _ _ (then_inv _ _ i.0).0 in
+    let n = refuse_inv _ _ (then_inv _ _ i.0).0 in
     by_cond P (not (inside es s))
-    (λ b m. rw (e, n, not-true (inside es s) b) (some_is none x m))
+    (λ b m. rw (e, n, not-true (inside es s) b) (some_is None x m))
     (λ b m. rw (e, n, not-false (inside es s) b) (some_is _ x (yields_inv _ _ x m).1)) i.1)
     (yields_inv _ _ x h).1
   where
     P : Outcome (Option Rec) → Type 0
-    P a = a ≡ accepted x → record_of (cond (undefined_element es pos) none (some (entry_at es pos))) (chunk_at es.grid s) ≡ x
+    P a = a ≡ Ok x → record_of (cond (undefined_element es pos) None (Some (entry_at es pos))) (chunk_at es.grid s) ≡ x
 
 -- an element that isn't refused has passed the test of its size; one that holds a chunk lies in the extents
-yields_listed : (t : Checked) (e : Outcome (Option Rec)) (a : Listing) (l : List Rec) → also_element (t yields e) a ≡ accepted l → t ≡ Passed
+yields_listed : (t : Checked) (e : Outcome (Option Rec)) (a : Listing) (l : List Rec) → also_element (t yields e) a ≡ Ok l → t ≡ Ok tt
 unfolding ◌yields◌ also_element
-yields_listed Passed e a l h = refl
-yields_listed (Refused r) e a l h = absurd (never r l h)
+yields_listed (Ok tt) e a l h = refl
+yields_listed (Err r) e a l h = absurd (never r l h)
 
-none_some : (r : Rec) → ◌≡◌ {A = Outcome (Option Rec)} (accepted none) (accepted (some r)) → ⊥
+none_some : (r : Rec) → ◌≡◌ {A = Outcome (Option Rec)} (Ok None) (Ok (Some r)) → ⊥
 none_some r h = let z : ◌≡◌ {A = ℕ} 0 1 = cc in omega arith
 
 module _ (es : Elements) (pos s : ℕ) where
-  pub element-sized : (a : Listing) (l : List Rec) → also_element (element es pos s) a ≡ accepted l → element_size_test es.form ≡ Passed
+  pub element-sized : (a : Listing) (l : List Rec) → also_element (element es pos s) a ≡ Ok l → element_size_test es.form ≡ Ok tt
   unfolding element
   element-sized a l h = yields_listed _ _ a l h
 
   -- what an element that holds a chunk has passed, and what it holds
-  pub chunk_inv : (x : Rec) → element es pos s ≡ accepted (some x)
-      → (element_size_test es.form ≡ Passed) × (offsets_of (in_extent es.grid s) ≡ Inside) × (entry_test es pos ≡ Passed) × (x ≡ record_here es pos s)
+  pub chunk_inv : (x : Rec) → element es pos s ≡ Ok (Some x)
+      → (element_size_test es.form ≡ Ok tt) × (offsets_of (in_extent es.grid s) ≡ Ok true) × (entry_test es pos ≡ Ok tt) × (x ≡ record_here es pos s)
   unfolding element
   chunk_inv x h =
       let g = yields_inv _ _ _ h in
@@ -85,17 +82,17 @@ module _ (es : Elements) (pos s : ℕ) where
       g.1
     where
       P : Outcome (Option Rec) → Type 0
-      P a = a ≡ accepted (some x)
-          → (element_size_test es.form ≡ Passed) × (offsets_of (in_extent es.grid s) ≡ Inside) × (entry_test es pos ≡ Passed) × (x ≡ record_here es pos s)
+      P a = a ≡ Ok (Some x)
+          → (element_size_test es.form ≡ Ok tt) × (offsets_of (in_extent es.grid s) ≡ Ok true) × (entry_test es pos ≡ Ok tt) × (x ≡ record_here es pos s)
 
   -- and back
-  pub chunk_here : element_size_test es.form ≡ Passed → offsets_of (in_extent es.grid s) ≡ Inside → undefined_element es pos ≡ false → entry_test es pos ≡ Passed
-      → element es pos s ≡ accepted (some (record_here es pos s))
+  pub chunk_here : element_size_test es.form ≡ Ok tt → offsets_of (in_extent es.grid s) ≡ Ok true → undefined_element es pos ≡ false → entry_test es pos ≡ Ok tt
+      → element es pos s ≡ Ok (Some (record_here es pos s))
   chunk_here t i u e = element_inside es pos s t u i ∙ yields_passed _ _ e
 
   -- a chunk that is found, with its corner
-  pub chunk_found : (x : Entry) → found_of (element es pos s) ≡ Chunk x → element es pos s ≡ accepted (some (record { entry = x; corner = offsets es.grid s }))
+  pub chunk_found : (x : Entry) → found_of (element es pos s) ≡ Ok (Some x) → element es pos s ≡ Ok (Some (record { entry = x; corner = offsets es.grid s }))
   chunk_found x h =
       let c = found_chunk _ x h in
       let i = chunk_inv c.0 c.1 in
-      c.1 ∙ ap (λ (r : Rec). accepted (some r)) (let z : c.0 ≡ record { entry = x; corner = offsets es.grid s } = cc in z)
+      c.1 ∙ ap (λ (r : Rec). Ok (Some r)) (let z : c.0 ≡ record { entry = x; corner = offsets es.grid s } = cc in z)

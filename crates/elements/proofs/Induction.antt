@@ -8,8 +8,8 @@ use native.Mathlib.Omega.{arith}
 use native.Mathlib.Nat.{mul-le-mul_right}
 use borrow.Author.Tests.{leb-true, leb-false, ltb-true, not-true, not-false}
 use lib.Dec.{leb, ltb}
-use Rattle.refusal.specs.declared.Checked.{Checked}
-use Rattle.refusal.specs.declared.Checked.TheVariants.{Passed}
+use Rattle.std.specs.Prelude.{Ok}
+use Rattle.refusal.specs.Refusals.{Checked}
 use Rattle.refusal.specs.Outcome.{◌yields◌}
 use Rattle.refusal.proofs.Tests.{lt_or_ge}
 use Rattle.structures.specs.Structures.{Pages}
@@ -30,7 +30,7 @@ pub record Steps (e : Elements) (Has : ℕ → ℕ → Type 0) (Lacks : ℕ → 
   pub has : (s pos : ℕ) (x y : Listing) → s < e.count → Has s pos → R (s + 1) x y
       → R s (also_element (element e pos s) x) (also_element (element e pos s) y)
   -- and what is behind a test counts only where it is passed.
-  pub test : (t : Checked) (s : ℕ) (x y : Listing) → Tests t → (t ≡ Passed → R s x y) → R s (t yields x) (t yields y)
+  pub test : (t : Checked) (s : ℕ) (x y : Listing) → Tests t → (t ≡ Ok tt → R s x y) → R s (t yields x) (t yields y)
 
 -- by whether a Boolean is true, on both sides
 pub by_conds : {A : Type 0} (R : A → A → Type 0) (t : Bool) {x y x' y' : A} → (t ≡ true → R x x') → (t ≡ false → R y y') → R (cond t x y) (cond t x' y')
@@ -41,7 +41,7 @@ by_conds R false f g = g refl
 -- the page's elements
 pub record PagesAt (Has : ℕ → ℕ → Type 0) (Lacks : ℕ → Type 0) (st : ℕ) (g : Pages) (n s : ℕ) : Type 0 where
   pub clear : (p i : ℕ) → p < n → i < g.size → g.set p ≡ false → Lacks (s + (p * g.size + i))
-  pub set : (p i : ℕ) → p < n → i < g.size → g.set p ≡ true → g.test p ≡ Passed → Has (s + (p * g.size + i)) (g.position p + i * st)
+  pub set : (p i : ℕ) → p < n → i < g.size → g.set p ≡ true → g.test p ≡ Ok tt → Has (s + (p * g.size + i)) (g.position p + i * st)
 
 module _ {e : Elements} {Has : ℕ → ℕ → Type 0} {Lacks : ℕ → Type 0} {Tests : Checked → Type 0} {R : ℕ → Listing → Listing → Type 0}
     (k : Steps e Has Lacks Tests R) where

@@ -6,5 +6,4 @@ pub mod Induction
 pub mod Turns
 pub mod Pages
 pub mod ChunkBytes
-pub mod Numbered
 pub mod Readers

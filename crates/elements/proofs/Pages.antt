@@ -5,9 +5,9 @@ use mathlib.Core.Path.{◌≡◌, refl}
 use mathlib.Core.Bool.{true, false}
 use native.Mathlib.Omega.{arith}
 use borrow.Author.Tests.{lt-ltb, le-ltb}
+use Rattle.std.specs.Prelude.{Err, Ok}
 use Rattle.refusal.specs.declared.Refusal.{Refusal}
-use Rattle.refusal.specs.declared.Checked.TheVariants.{Passed, Refused}
-use Rattle.refusal.specs.Outcome.{refused, ◌yields◌}
+use Rattle.refusal.specs.Outcome.{◌yields◌}
 use Rattle.structures.specs.Structures.{Pages}
 use Rattle.index.specs.Index.{Listing}
 use Rattle.elements.specs.Elements.{Elements}
@@ -30,11 +30,11 @@ module _ (es : Elements) (g : Pages) (n p s : ℕ) (rest : Listing) where
     pages_clear b = rw (less, b) refl
 
     module _ (b : g.set p ≡ true) where
-      pub pages_refused : (r : Refusal) → g.test p ≡ Refused r → pages_from es g (n - p) p s rest ≡ refused r
+      pub pages_refused : (r : Refusal) → g.test p ≡ Err r → pages_from es g (n - p) p s rest ≡ Err r
       unfolding pages_from ◌yields◌
       pages_refused r t = rw (less, b, t) refl
 
-      module _ (t : g.test p ≡ Passed) where
+      module _ (t : g.test p ≡ Ok tt) where
         -- a page that runs past the count ends its block
         pub pages_last : es.count < s + g.size → pages_from es g (n - p) p s rest ≡ elements_from es (g.position p) g.size s rest
         unfolding pages_from ◌yields◌

@@ -5,9 +5,8 @@ use mathlib.Core.List.{List}
 use native.Mathlib.Nat.{sub-zero, mul-le-mul_right}
 use native.Mathlib.Omega.{arith}
 use lib.ListN.{length}
+use Rattle.std.specs.Prelude.{Err}
 use Rattle.refusal.specs.declared.Refusal.{Refusal}
-use Rattle.refusal.specs.declared.Checked.TheVariants.{Refused}
-use Rattle.refusal.specs.Outcome.{refused}
 use Rattle.element_form.specs.Form.{element_size_test}
 use Rattle.index.specs.Index.{Listing}
 use Rattle.elements.specs.Elements.{Elements}
@@ -55,6 +54,6 @@ module _ (es : Elements) (pos n slot left : ℕ) (rest : Listing) (e : left ≡ 
   unfolding elements_from
   left_none z = left_run ∙ rw z refl
 
-  pub left_refused : 0 < left → (x : Refusal) → element_size_test es.form ≡ Refused x → elements_from es pos n slot rest ≡ refused x
+  pub left_refused : 0 < left → (x : Refusal) → element_size_test es.form ≡ Err x → elements_from es pos n slot rest ≡ Err x
   unfolding also_element
   left_refused h x t = run_first es pos n slot rest (omega arith) (omega arith) ∙ rw (element_refused es pos slot x t) refl

@@ -1,9 +1,8 @@
 -- One element of an index.
-use Rattle.std.specs.Prelude.{ℕ, ◌+◌, ◌*◌, Bool, not, cond, ◌&&◌, List, [], ◌∷◌, ltb}
-use Rattle.std.proofs.Math.Option.{Option, none, some}
-use Rattle.refusal.specs.declared.Checked.{Checked}
-use Rattle.refusal.specs.Refusals.{refuse, ◌then◌}
-use Rattle.refusal.specs.Outcome.{Outcome, accepted, ◌yields◌}
+use Rattle.std.specs.Prelude.{ℕ, ◌+◌, ◌*◌, Bool, not, cond, ◌&&◌, List, [], ◌∷◌, ltb, None, Ok, Option, Some}
+use Rattle.refusal.specs.declared.Refusal.TheVariants.{SizeField}
+use Rattle.refusal.specs.Refusals.{refuse, ◌then◌, Checked, Outcome}
+use Rattle.refusal.specs.Outcome.{◌yields◌}
 use Rattle.fields.specs.LittleEndian.{le_at}
 use Rattle.fields.specs.Fields.{address_at, undefined_at, size_test}
 use Rattle.chunk_grid.specs.Grid.{Grid, offsets, offsets_test, below}
@@ -49,7 +48,7 @@ entry_at e pos =
 
 -- 29 size field over 8 bytes, before 30 size over 2^32 − 1 (value)
 unfoldable pub entry_test : Elements → ℕ → Checked
-entry_test e pos = refuse 29 0 0 (filtered e.form && ltb 8 (size_bytes e.form)) then size_test (size_at e pos)
+entry_test e pos = refuse SizeField (filtered e.form && ltb 8 (size_bytes e.form)) then size_test (size_at e pos)
 
 -- Element: 28, 1, undefined, 32, 33, dropped, 29, 30: the element of slot s at pos gives no chunk or its record,
 -- whose corner is the slot's offsets. A slot whose offsets don't all lie below the present extents is dropped,
@@ -57,7 +56,7 @@ entry_test e pos = refuse 29 0 0 (filtered e.form && ltb 8 (size_bytes e.form)) 
 unfoldable pub element : Elements → ℕ → ℕ → Outcome (Option Rec)
 element e pos s =
     element_size_test e.form
-    yields cond (undefined_element e pos) (accepted none)
+    yields cond (undefined_element e pos) (Ok None)
     (offsets_test e.grid s
-    yields cond (not (below (offsets e.grid s) e.grid.present)) (accepted none)
-    (entry_test e pos yields accepted (some (record { entry = entry_at e pos; corner = offsets e.grid s }))))
+    yields cond (not (below (offsets e.grid s) e.grid.present)) (Ok None)
+    (entry_test e pos yields Ok (Some (record { entry = entry_at e pos; corner = offsets e.grid s }))))

@@ -1,8 +1,8 @@
 -- Runs of elements: the list that they are walked to. Each definition of a walk says what is left to do from here:
 -- `rest` is what comes behind it, and s the slot that the walk has come to.
-use Rattle.std.specs.Prelude.{ℕ, zero, suc, ◌+◌, not, cond, leb, ltb}
-use Rattle.std.proofs.Math.Option.{Option, none, some}
-use Rattle.refusal.specs.Outcome.{Outcome, refused, accepted, also, ◌yields◌}
+use Rattle.std.specs.Prelude.{ℕ, zero, suc, ◌+◌, not, cond, leb, ltb, Err, None, Ok, Option, Some}
+use Rattle.refusal.specs.Refusals.{Outcome}
+use Rattle.refusal.specs.Outcome.{also, ◌yields◌}
 use Rattle.structures.specs.Structures.{Pages}
 use Rattle.element_form.specs.Form.{stride}
 use Rattle.index.specs.Index.{Rec, Listing}
@@ -10,9 +10,9 @@ use Rattle.elements.specs.Elements.{Elements, element}
 
 -- what an element gives in front of what is left
 unfoldable pub also_element : Outcome (Option Rec) → Listing → Listing
-also_element (refused r) a = refused r
-also_element (accepted none) a = a
-also_element (accepted (some x)) a = also x a
+also_element (Err r) a = Err r
+also_element (Ok None) a = a
+also_element (Ok (Some x)) a = also x a
 
 -- the elements from pos on, j of them; none at or past the published count is read
 unfoldable pub elements_from : Elements → ℕ → ℕ → ℕ → Listing → Listing

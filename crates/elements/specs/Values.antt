@@ -1,27 +1,23 @@
 -- What the code's values stand for.
-use Rattle.std.specs.Prelude.{ℕ, ◌≡◌, List}
-use Rattle.std.proofs.Math.Option.{Option, none, some}
-use Rattle.refusal.specs.Refusals.{figure}
-use Rattle.refusal.specs.Outcome.{Outcome, refused, accepted}
+use Rattle.std.specs.Prelude.{ℕ, ◌≡◌, List, Err, None, Ok, Option, Some}
+use Rattle.refusal.specs.Refusals.{figure, Outcome}
 use Rattle.chunk_grid.specs.Grid.{Grid}
 use Rattle.chunk_grid.specs.Values.{GridNumbers, Extents}
 use Rattle.index.specs.declared.Entry.{Entry}
 use Rattle.index.specs.Index.{Rec}
-use Rattle.elements.specs.declared.Found.{Found}
-use Rattle.elements.specs.declared.Found.TheVariants.{Absent, Chunk, Refused as FoundRefused}
 use Rattle.elements.specs.declared.ElementReader.{ElementReader}
 use Rattle.elements.specs.Elements.{Elements, chunk_bytes}
 
--- What reading an element and looking up a chunk answer. Refused: the refusal's number and figures. Accepted: number
--- 0, and that there is no chunk or the chunk's entry; the record's corner is the one of the slot that was asked for.
-unfoldable pub found_of : Outcome (Option Rec) → Found
-found_of (refused r) = FoundRefused r
-found_of (accepted none) = Absent
-found_of (accepted (some x)) = Chunk x.entry
+-- What reading an element and looking up a chunk answer: that there is no chunk or the chunk's entry, or a refusal. The
+-- record's corner is the one of the slot that was asked for.
+unfoldable pub found_of : Outcome (Option Rec) → Outcome (Option Entry)
+found_of (Err r) = Err r
+found_of (Ok None) = Ok None
+found_of (Ok (Some x)) = Ok (Some x.entry)
 
 -- the chunk with this corner and entry
 abbrev pub recorded : List ℕ → Entry → Outcome (Option Rec)
-recorded corner e = accepted (some (record { entry = e; corner = corner }))
+recorded corner e = Ok (Some (record { entry = e; corner = corner }))
 
 -- The elements that a file and a reader stand for, of a dataset with this grid and element size.
 abbrev pub elements_of : List ℕ → ElementReader → Grid → ℕ → Elements

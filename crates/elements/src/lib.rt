@@ -8,22 +8,12 @@ ghost use Rattle.chunk_slots.specs.Values.{handed};
 ghost use Rattle.elements.specs.Elements.{product};
 ghost use Rattle.elements.specs.Values.{Reads};
 
-use chunk_grid::{Numbering, Offsets};
+use chunk_grid::Numbering;
 use chunk_slots::offsets_in_extent;
 use element_form::Form;
-use fields::convert::saturating_mul;
-use index::Entry;
 use refusal::Refusal;
 
 pub mod read;
-
-// What is found where a chunk is looked for: none, its entry, or why there is no answer.
-#[derive(Clone, Copy)]
-pub enum Found {
-    Absent,
-    Chunk(Entry),
-    Refused(Refusal),
-}
 
 // What elements are read by, beside the arrays of the grid's numbering.
 #[derive(Clone, Copy)]
@@ -73,7 +63,7 @@ impl ElementReader {
         chunk: &[u64; 32],
         bound: &[u64; 32],
         down: &[u64; 32],
-    ) -> Offsets
+    ) -> Result<bool, Refusal>
         requires { (grid : Grid) × (n : ℕ) × Reads self chunk.now bound.now down.now grid n }
         ensures { (grid : Grid) (n : ℕ)
             → Reads self chunk.now bound.now down.now grid n
@@ -101,11 +91,9 @@ fn chunk_bytes(chunk: &[u64; 32], rank: usize, element_bytes: u64) -> u64
     ensures { result ≡ figure (product (take rank chunk.now) * element_bytes) }
 {
     let mut bytes = element_bytes;
-    let mut d = 0;
     // The product of `bytes` and the lengths from d on, capped, is the answer.
-    while d < rank {
-        bytes = saturating_mul(bytes, chunk[d]);
-        d += 1;
+    for d in 0..rank {
+        bytes = bytes.saturating_mul(chunk[d]);
     }
     bytes
 }

@@ -1,23 +1,20 @@
 // One element of an index: its tests, and what it holds.
-ghost use Rattle.std.specs.Prelude.{◌≡◌, false, List, ℕ, ◌+◌, ◌≤◌, length};
-ghost use Rattle.refusal.specs.declared.Checked.TheVariants.{Passed};
+ghost use Rattle.std.specs.Prelude.{◌≡◌, false, List, ℕ, ◌+◌, ◌≤◌, length, Ok, true};
 ghost use Rattle.refusal.specs.Refusals.{figure};
 ghost use Rattle.refusal.specs.Outcome.{◌yields◌};
 ghost use Rattle.fields.specs.Fields.{address_at, undefined_at, size_test};
-ghost use Rattle.chunk_grid.specs.declared.Offsets.TheVariants.{Inside};
 ghost use Rattle.chunk_grid.specs.Grid.{Grid};
 ghost use Rattle.chunk_grid.specs.Values.{in_extent, offsets_of};
 ghost use Rattle.element_form.specs.Form.{stride, element_size_test};
 ghost use Rattle.elements.specs.Elements.{chunk_bytes, entry_at, entry_test, element};
 ghost use Rattle.elements.specs.Values.{found_of, recorded, elements_of, Reads};
 
-use crate::{ElementReader, Found};
-use chunk_grid::Offsets;
+use crate::ElementReader;
 use fields::address::is_undefined_addr;
 use fields::bytes::{read_address, read_le, read_u32_le};
-use fields::convert::{Narrowed, u32_from};
+use fields::convert::u32_from;
 use index::Entry;
-use refusal::{Checked, Refusal};
+use refusal::Refusal;
 
 // The element of a slot at pos.
 pub fn read_element(
@@ -28,20 +25,18 @@ pub fn read_element(
     chunk: &[u64; 32],
     bound: &[u64; 32],
     down: &[u64; 32],
-) -> Found
+) -> Result<Option<Entry>, Refusal>
     requires { ((grid : Grid) × (n : ℕ) × Reads reader chunk.now bound.now down.now grid n)
         × (pos + stride reader.form ≤ length file.now) }
     ensures { (grid : Grid) (n : ℕ)
         → Reads reader chunk.now bound.now down.now grid n
         → result ≡ found_of (element (elements_of file.now reader grid n) pos slot) }
 {
-    if let Checked::Refused(r) = reader.form.test() {
-        return Found::Refused(r);
-    }
+    reader.form.test()?;
     let width = reader.form.offset_size;
     let address = read_address(file, pos, width as usize);
     if is_undefined_addr(address, width) {
-        return Found::Absent;
+        return Ok(None);
     }
     let mut offsets = [0u64; 32];
     let reached = reader.reach(&mut offsets, slot, chunk, bound, down);
@@ -54,40 +49,49 @@ pub fn read_defined_element(
     file: &[u8],
     pos: usize,
     reader: ElementReader,
-    reached: Offsets,
-) -> Found
-    requires { (element_size_test reader.form ≡ Passed) × (pos + stride reader.form ≤ length file.now)
+    reached: Result<bool, Refusal>,
+) -> Result<Option<Entry>, Refusal>
+    requires { (element_size_test reader.form ≡ Ok tt) × (pos + stride reader.form ≤ length file.now)
         × (undefined_at file.now pos reader.form.offset_size ≡ false) }
     ensures { (grid : Grid) (n s : ℕ) → reader.chunk_bytes ≡ figure (chunk_bytes grid n)
         → reached ≡ offsets_of (in_extent grid s)
         → result ≡ found_of (element (elements_of file.now reader grid n) pos s) }
 {
-    match reached {
-        Offsets::Inside => read_inside_element(file, pos, reader),
-        Offsets::Dropped => Found::Absent,
-        Offsets::Refused(r) => Found::Refused(r),
+    if reached? {
+        read_inside_element(file, pos, reader)
+    } else {
+        Ok(None)
     }
 }
 
 // The element at pos of a slot that lies in the present extents, where the size of elements has passed its test.
 #[inline(always)]
-pub fn read_inside_element(file: &[u8], pos: usize, reader: ElementReader) -> Found
-    requires { (element_size_test reader.form ≡ Passed) × (pos + stride reader.form ≤ length file.now) }
+pub fn read_inside_element(
+    file: &[u8],
+    pos: usize,
+    reader: ElementReader,
+) -> Result<Option<Entry>, Refusal>
+    requires { (element_size_test reader.form ≡ Ok tt) × (pos + stride reader.form ≤ length file.now) }
     ensures { (grid : Grid) (n s : ℕ) → reader.chunk_bytes ≡ figure (chunk_bytes grid n)
-        → offsets_of (in_extent grid s) ≡ Inside
+        → offsets_of (in_extent grid s) ≡ Ok true
         → result ≡ found_of (element (elements_of file.now reader grid n) pos s) }
 {
     let width = reader.form.offset_size;
     let address = read_address(file, pos, width as usize);
     if is_undefined_addr(address, width) {
-        return Found::Absent;
+        return Ok(None);
     }
     read_entry(file, pos, reader, address.value)
 }
 
 // The entry at pos, whose address is read: 29, then 30. Filtered, its size and its mask lie behind the address.
-fn read_entry(file: &[u8], pos: usize, reader: ElementReader, address: u64) -> Found
-    requires { (element_size_test reader.form ≡ Passed) × (pos + stride reader.form ≤ length file.now)
+fn read_entry(
+    file: &[u8],
+    pos: usize,
+    reader: ElementReader,
+    address: u64,
+) -> Result<Option<Entry>, Refusal>
+    requires { (element_size_test reader.form ≡ Ok tt) × (pos + stride reader.form ≤ length file.now)
         × (address ≡ address_at file.now pos reader.form.offset_size) }
     ensures { (grid : Grid) (n : ℕ) (corner : List ℕ) → reader.chunk_bytes ≡ figure (chunk_bytes grid n)
         → (let e = elements_of file.now reader grid n in
@@ -99,7 +103,7 @@ fn read_entry(file: &[u8], pos: usize, reader: ElementReader, address: u64) -> F
     }
     let width = form.size_bytes();
     if 8 < width {
-        return Found::Refused(Refusal::plain(Refusal::SIZE_FIELD));
+        return Err(Refusal::SizeField);
     }
     let at = pos + form.offset_size as usize;
     let size = read_le(file, at, width as usize);
@@ -108,17 +112,15 @@ fn read_entry(file: &[u8], pos: usize, reader: ElementReader, address: u64) -> F
 }
 
 // The entry of these numbers: 30 where 32 bits don't hold the size.
-fn entry_of(address: u64, size: u64, mask: u32) -> Found
+fn entry_of(address: u64, size: u64, mask: u32) -> Result<Option<Entry>, Refusal>
     ensures { (corner : List ℕ)
         → result ≡ found_of (size_test size
         yields recorded corner (record { address = address; size = size; mask = mask })) }
 {
-    match u32_from(size) {
-        Narrowed::Value(size) => Found::Chunk(Entry {
-            address,
-            size,
-            mask,
-        }),
-        Narrowed::Refused(r) => Found::Refused(r),
-    }
+    let size = u32_from(size)?;
+    Ok(Some(Entry {
+        address,
+        size,
+        mask,
+    }))
 }

@@ -4,16 +4,17 @@
 use check_lines::print_refusal;
 use chunk_grid::{ChunkGrid, GridOrder};
 use element_form::Form;
+use elements::ElementReader;
 use elements::read::read_element;
-use elements::{ElementReader, Found};
-use refusal::Checked;
+use index::Entry;
+use refusal::Refusal;
 use std::io;
 
-fn print_found(rt: &impl Print, found: Found) -> io::Result<()> {
+fn print_found(rt: &impl Print, found: Result<Option<Entry>, Refusal>) -> io::Result<()> {
     match found {
-        Found::Absent => print!(rt; " absent"),
-        Found::Chunk(e) => print!(rt; " {} {} {}", e.address, e.size, e.mask),
-        Found::Refused(r) => print_refusal(rt, r),
+        Ok(None) => print!(rt; " absent"),
+        Ok(Some(e)) => print!(rt; " {} {} {}", e.address, e.size, e.mask),
+        Err(r) => print_refusal(rt, r),
     }
 }
 
@@ -25,9 +26,13 @@ fn print_read(
     form: Form,
     slot: u64,
     element_bytes: u64,
-    grid: ChunkGrid,
+    grid: Result<ChunkGrid, Refusal>,
 ) -> io::Result<()> {
-    if let Checked::Refused(r) = grid.test() {
+    let grid = match grid {
+        Ok(grid) => grid,
+        Err(r) => return print_refusal(rt, r),
+    };
+    if let Err(r) = grid.test() {
         return print_refusal(rt, r);
     }
     let mut counts = [0u64; 32];
@@ -53,7 +58,7 @@ fn print_element(
     form: Form,
     slot: u64,
     element_bytes: u64,
-    grid: ChunkGrid,
+    grid: Result<ChunkGrid, Refusal>,
 ) -> io::Result<()> {
     print!(rt;
         "{name} client {} size {} width {} slot {slot}:",
@@ -72,7 +77,7 @@ fn filtered(element_size: u8, offset_size: u64) -> Form {
 }
 
 // Chunks of 10, 25 elements present, unlimited: slots 0 to 2 are inside.
-fn line() -> ChunkGrid {
+fn line() -> Result<ChunkGrid, Refusal> {
     ChunkGrid::new(
         1,
         &[10u64],
@@ -81,11 +86,10 @@ fn line() -> ChunkGrid {
         &[u64::MAX],
         GridOrder::UnlimitedFirst,
     )
-    .grid
 }
 
 // Chunks of 2^63 by 1, unlimited by this count: slot 2 is at 2^64.
-fn tall(count: u64) -> ChunkGrid {
+fn tall(count: u64) -> Result<ChunkGrid, Refusal> {
     ChunkGrid::new(
         2,
         &[0x8000_0000_0000_0000u64, 1],
@@ -94,7 +98,6 @@ fn tall(count: u64) -> ChunkGrid {
         &[u64::MAX, count],
         GridOrder::UnlimitedFirst,
     )
-    .grid
 }
 
 // An element of slot 0 with every size from 0 to 25.

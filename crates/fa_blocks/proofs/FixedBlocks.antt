@@ -6,15 +6,13 @@ use mathlib.Core.List.{List}
 use native.Mathlib.Omega.{arith}
 use lib.ListN.{length}
 use borrow.Author.Tests.{lt-ltb, le-ltb}
-use Rattle.refusal.specs.declared.Checked.{Checked}
-use Rattle.refusal.specs.declared.Checked.TheVariants.{Passed, Refused}
+use Rattle.std.specs.Prelude.{Err, Ok, Some}
+use Rattle.refusal.specs.declared.Refusal.TheVariants.{SpanOverflow}
 use Rattle.refusal.specs.Refusals.{figure, largest64}
 use Rattle.refusal.proofs.Tests.{refuse_false, refuse_true, then_first, then_second, then_inv}
 use Rattle.structures.specs.declared.Kind.TheVariants.{Page}
 use Rattle.structures.specs.Structures.{structure_test}
 use Rattle.structures.specs.PageBits.{bit_bytes}
-use Rattle.structures.specs.declared.enter.Entered.TheVariants.{At}
-use Rattle.structures.specs.Entered.{entered_of}
 use Rattle.structures.proofs.StructureTests.{structure_inside, figures_structure}
 use Rattle.element_form.specs.Form.{room_test}
 use Rattle.fa_geometry.specs.declared.FixedArray.{FixedArray as ArrayValue}
@@ -26,51 +24,49 @@ use Rattle.fa_blocks.specs.Values.{fixed_of, BlockInFile, PageInBlock, EnteredFi
 
 module _ (a : FixedArray) where
   -- a data block that has passed its test has room in its elements, ..
-  pub block_room : fixed_block_test a ≡ Passed → room_test (fixed_form a.header a.offset_size) ≡ Passed
+  pub block_room : fixed_block_test a ≡ Ok tt → room_test (fixed_form a.header a.offset_size) ≡ Ok tt
   unfolding fixed_block_test
   block_room t = (then_inv _ _ (then_inv _ _ (then_inv _ _ t).1).1).0
 
   -- .. and what its test covers lies in the file
-  pub block_inside : fixed_block_test a ≡ Passed → fixed_block_at a + fixed_tested_extent a.header a.offset_size ≤ length a.file
+  pub block_inside : fixed_block_test a ≡ Ok tt → fixed_block_at a + fixed_tested_extent a.header a.offset_size ≤ length a.file
   unfolding fixed_block_test
   block_inside t = structure_inside _ _ _ _ _ (then_inv _ _ (then_inv _ _ (then_inv _ _ t).1).1).1
 
   module _ (p : ℕ) where
     -- a page that has passed its test lies in the file, ..
-    pub page_inside : fixed_page_test a p ≡ Passed → fixed_page_position a p + fixed_page_extent a.header a.offset_size p ≤ length a.file
+    pub page_inside : fixed_page_test a p ≡ Ok tt → fixed_page_position a p + fixed_page_extent a.header a.offset_size p ≤ length a.file
     unfolding fixed_page_test
     page_inside t = structure_inside _ _ _ _ _ (then_inv _ _ t).1
 
     -- .. so that its position is none past 2^64 − 1
-    pub page_figure : length a.file < 2 ^ 63 → fixed_page_test a p ≡ Passed → figure (fixed_page_position a p) ≡ fixed_page_position a p
+    pub page_figure : length a.file < 2 ^ 63 → fixed_page_test a p ≡ Ok tt → figure (fixed_page_position a p) ≡ fixed_page_position a p
     unfolding figure
     page_figure short t = omega (arith, page_inside t)
 
     -- the test of a page whose number times the stride is past 2^64 − 1, ..
     pub page_past : p ≤ largest64 → largest64 < p * fixed_page_stride a.header a.offset_size
-        → Refused (record { number = 31; first = p; second = figure (fixed_page_stride a.header a.offset_size) }) ≡ fixed_page_test a p
+        → Err (SpanOverflow p (figure (fixed_page_stride a.header a.offset_size))) ≡ fixed_page_test a p
     unfolding fixed_page_test figure
-    page_past le lt = let e : figure p ≡ p = omega arith in rw e (then_first _ _ (refuse_true 31 p _ _ (lt-ltb largest64 _ lt)))
+    page_past le lt = let e : figure p ≡ p = omega arith in rw e (then_first _ _ (refuse_true (SpanOverflow p _) _ (lt-ltb largest64 _ lt)))
 
     -- .. and of one where it isn't, of its position and extent as they are given
     pub page_tested : length a.file < 2 ^ 63 → p * fixed_page_stride a.header a.offset_size ≤ largest64
         → structure_test a.sum Page a.file (figure (fixed_page_position a p)) (figure (fixed_page_extent a.header a.offset_size p)) ≡ fixed_page_test a p
     unfolding fixed_page_test
-    page_tested short le = figures_structure _ _ _ _ _ short ∙ then_second _ _ (refuse_false _ _ _ _ (le-ltb largest64 _ le))
+    page_tested short le = figures_structure _ _ _ _ _ short ∙ then_second _ _ (refuse_false _ _ (le-ltb largest64 _ le))
 
-    -- a page that is set, by the result of its test
-    pub page_by_result : (at : ℕ) (t : Checked) → length a.file < 2 ^ 63 → fixed_page_set a p ≡ true → t ≡ fixed_page_test a p
-        → at ≡ figure (fixed_page_position a p) → EnteredFixedPage a p (entered_of t at)
-    unfolding entered_of
-    page_by_result at Passed short s e w = (s, sym e, rw (← page_figure short (sym e)) w)
-    page_by_result at (Refused r) short s e w = (s, sym e)
+    -- a page that is set and has passed its test, by its position as it is given
+    pub page_passed : (at : ℕ) → length a.file < 2 ^ 63 → fixed_page_set a p ≡ true → Ok tt ≡ fixed_page_test a p
+        → at ≡ figure (fixed_page_position a p) → EnteredFixedPage a p (Ok (Some at))
+    page_passed at short s e w = (s, sym e, rw (← page_figure short (sym e)) w)
 
     -- a page that was stepped into lies in the file
-    pub entered_inside : (at : ℕ) → EnteredFixedPage a p (At at) → at + fixed_page_extent a.header a.offset_size p ≤ length a.file
+    pub entered_inside : (at : ℕ) → EnteredFixedPage a p (Ok (Some at)) → at + fixed_page_extent a.header a.offset_size p ≤ length a.file
     entered_inside at e = rw e.2 (page_inside e.1)
 
 module _ (file : List ℕ) (a : ArrayValue) where
-  pub block_in_file : Served a → fixed_block_test (fixed_of file a) ≡ Passed → BlockInFile file a
+  pub block_in_file : Served a → fixed_block_test (fixed_of file a) ≡ Ok tt → BlockInFile file a
   block_in_file s t = record { served = s; inside = block_inside (fixed_of file a) t }
 
   -- the head of a paged data block lies in the file, with its page bits

@@ -1,2 +1,1 @@
 pub mod FixedBlocks
-pub mod Numbered

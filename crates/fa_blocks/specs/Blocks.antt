@@ -1,8 +1,7 @@
 -- The structures of a fixed array: their tests, which pages are set, and the place of a slot in the file.
-use Rattle.std.specs.Prelude.{ℕ, ◌+◌, ◌*◌, Bool, not, cond, ◌&&◌, ◌||◌, ltb}
-use Rattle.refusal.specs.declared.Checked.{Checked}
-use Rattle.refusal.specs.declared.Checked.TheVariants.{Passed}
-use Rattle.refusal.specs.Refusals.{largest64, figure, refuse, ◌then◌}
+use Rattle.std.specs.Prelude.{ℕ, ◌+◌, ◌*◌, Bool, not, cond, ◌&&◌, ◌||◌, ltb, Ok}
+use Rattle.refusal.specs.declared.Refusal.TheVariants.{SpanOverflow, FixedDataBlockSignature}
+use Rattle.refusal.specs.Refusals.{largest64, figure, refuse, ◌then◌, Checked}
 use Rattle.fields.specs.Fields.{in_file}
 use Rattle.structures.specs.declared.Kind.TheVariants.{Signed, Page}
 use Rattle.structures.specs.Structures.{signature_test, structure_test, Pages}
@@ -17,7 +16,7 @@ use Rattle.fa_blocks.specs.FixedArray.{FixedArray, fixed_block_at, never_stored}
 unfoldable pub fixed_block_test : FixedArray → Checked
 fixed_block_test a =
     in_file a.file (fixed_block_at a) (fixed_prefix a.offset_size)
-    then signature_test (Signed 35 0x4244_4146) a.file (fixed_block_at a)
+    then signature_test (Signed FixedDataBlockSignature 0x4244_4146) a.file (fixed_block_at a)
     then room_test (fixed_form a.header a.offset_size)
     then structure_test a.sum Page a.file (fixed_block_at a) (fixed_tested_extent a.header a.offset_size)
 
@@ -32,7 +31,7 @@ fixed_page_set a p = page_bit a.file (fixed_block_at a + fixed_prefix a.offset_s
 unfoldable pub fixed_page_test : FixedArray → ℕ → Checked
 fixed_page_test a p =
     let stride = fixed_page_stride a.header a.offset_size in
-    refuse 31 (figure p) (figure stride) (ltb largest64 (p * stride))
+    refuse (SpanOverflow (figure p) (figure stride)) (ltb largest64 (p * stride))
     then structure_test a.sum Page a.file (fixed_page_position a p) (fixed_page_extent a.header a.offset_size p)
 
 -- its pages
@@ -56,8 +55,8 @@ fixed_reached a s = not (never_stored a) && (not (is_paged a.header) || in_set_p
 -- the tests on the way to it: the data block, and its page if its bit is set
 unfoldable pub fixed_path_test : FixedArray → ℕ → Checked
 fixed_path_test a s =
-    cond (never_stored a) Passed
-    (fixed_block_test a then cond (in_set_page a s) (fixed_page_test a (page_of_slot a.header s)) Passed)
+    cond (never_stored a) (Ok tt)
+    (fixed_block_test a then cond (in_set_page a s) (fixed_page_test a (page_of_slot a.header s)) (Ok tt))
 
 -- the file's position of its element
 unfoldable pub fixed_position : FixedArray → ℕ → ℕ

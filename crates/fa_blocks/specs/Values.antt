@@ -1,8 +1,6 @@
 -- What the code's values stand for.
-use Rattle.std.specs.Prelude.{ℕ, ◌+◌, ◌<◌, ◌≤◌, ◌≡◌, true, false, List, length}
-use Rattle.refusal.specs.declared.Checked.TheVariants.{Passed, Refused}
-use Rattle.structures.specs.declared.enter.Entered.{Entered}
-use Rattle.structures.specs.declared.enter.Entered.TheVariants.{Absent, At, Refused as EnteredRefused}
+use Rattle.std.specs.Prelude.{ℕ, ◌+◌, ◌<◌, ◌≤◌, ◌≡◌, true, false, List, length, Err, None, Ok, Option, Some}
+use Rattle.refusal.specs.Refusals.{Outcome}
 use Rattle.fa_geometry.specs.declared.FixedArray.{FixedArray as ArrayValue}
 use Rattle.fa_geometry.specs.Bounded.{Served}
 use Rattle.fa_geometry.specs.Layout.{is_paged, fixed_pages, fixed_tested_extent}
@@ -25,9 +23,9 @@ pub record PageInBlock (file : List ℕ) (a : ArrayValue) (p : ℕ) : Type 0 whe
   pub page : p < fixed_pages a.header
 
 -- Page p: its bit is clear, it has passed its test, or its test refuses it.
-abbrev pub EnteredFixedPage : FixedArray → ℕ → Entered → Type 0
-EnteredFixedPage a p Absent = fixed_page_set a p ≡ false
-EnteredFixedPage a p (At at) =
-    (fixed_page_set a p ≡ true) × (fixed_page_test a p ≡ Passed)
+abbrev pub EnteredFixedPage : FixedArray → ℕ → Outcome (Option ℕ) → Type 0
+EnteredFixedPage a p (Ok None) = fixed_page_set a p ≡ false
+EnteredFixedPage a p (Ok (Some at)) =
+    (fixed_page_set a p ≡ true) × (fixed_page_test a p ≡ Ok tt)
     × (at ≡ fixed_page_position a p)
-EnteredFixedPage a p (EnteredRefused r) = (fixed_page_set a p ≡ true) × (fixed_page_test a p ≡ Refused r)
+EnteredFixedPage a p (Err r) = (fixed_page_set a p ≡ true) × (fixed_page_test a p ≡ Err r)

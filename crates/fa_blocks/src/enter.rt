@@ -8,54 +8,54 @@ ghost use Rattle.fa_blocks.specs.Values.{fixed_of, PageInBlock, EnteredFixedPage
 
 use crate::{page_position, page_set, test_page};
 use fa_geometry::FixedArray;
-use fields::convert::Exact;
-use structures::enter::{Ahead, Entered, Tested, Turn, enter_by_result, keep_second};
+use refusal::Refusal;
+use structures::enter::{Ahead, Tested, Turn, keep_second};
 use structures::{Kind, test_two_structures};
 
 // Steps into page p.
-pub fn enter_page(file: &[u8], array: FixedArray, p: u64) -> Entered
+pub fn enter_page(file: &[u8], array: FixedArray, p: u64) -> Result<Option<u64>, Refusal>
     requires { PageInBlock file.now array p }
     ensures { EnteredFixedPage (fixed_of file.now array) p result }
 {
     if !page_set(file, array, p) {
-        return Entered::Absent;
+        return Ok(None);
     }
-    enter_by_result(test_page(file, array, p), page_position(file, array, p))
+    test_page(file, array, p)?;
+    Ok(Some(page_position(file, array, p)))
 }
 
 // The same in the turn of a walk from page to page, by a result that an earlier turn has left.
-pub fn enter_page_in_turn(file: &[u8], array: FixedArray, p: u64, ahead: Ahead) -> Turn
+pub fn enter_page_in_turn(file: &[u8], array: FixedArray, p: u64, ahead: Option<Ahead>) -> Turn
     requires { PageInBlock file.now array p }
     ensures { let a = fixed_of file.now array in TestedBy (fixed_page_test a) ahead
         → EnteredFixedPage a p result.found × TestedBy (fixed_page_test a) result.ahead }
 {
     if !page_set(file, array, p) {
         return Turn {
-            found: Entered::Absent,
+            found: Ok(None),
             ahead,
         };
     }
     let tested = page_result(file, array, p, ahead);
-    let checked = tested.checked;
-    let ahead = tested.ahead;
+    let at = page_position(file, array, p);
     Turn {
-        found: enter_by_result(checked, page_position(file, array, p)),
-        ahead,
+        found: tested.checked.map(|()| Some(at)),
+        ahead: tested.ahead,
     }
 }
 
 // The result of the test of page p: the one that is known; tested with the next page, where that makes a pair with it;
 // or tested alone.
-fn page_result(file: &[u8], array: FixedArray, p: u64, ahead: Ahead) -> Tested
+fn page_result(file: &[u8], array: FixedArray, p: u64, ahead: Option<Ahead>) -> Tested
     requires { PageInBlock file.now array p }
     ensures { let a = fixed_of file.now array in TestedBy (fixed_page_test a) ahead
         → (result.checked ≡ fixed_page_test a p) × TestedBy (fixed_page_test a) result.ahead }
 {
-    if let Ahead::Known { index, checked } = ahead {
-        if index == p {
+    if let Some(known) = ahead {
+        if known.index == p {
             return Tested {
-                checked,
-                ahead: Ahead::Unknown,
+                checked: known.checked,
+                ahead: None,
             };
         }
     }
@@ -69,7 +69,7 @@ fn page_result(file: &[u8], array: FixedArray, p: u64, ahead: Ahead) -> Tested
     }
     Tested {
         checked: test_page(file, array, p),
-        ahead: Ahead::Unknown,
+        ahead: None,
     }
 }
 
@@ -83,7 +83,7 @@ fn is_pair(file: &[u8], array: FixedArray, p: u64) -> bool
     if !page_set(file, array, p + 1) {
         return false;
     }
-    if let Exact::Overflows = array.page_offset(p + 1) {
+    if array.page_offset(p + 1).is_none() {
         return false;
     }
     array.page_entries(p) == array.page_entries(p + 1)

@@ -10,8 +10,7 @@ ghost use Rattle.fa_blocks.specs.Values.{fixed_of, PageInBlock};
 
 use fa_geometry::FixedArray;
 use fields::address::{Address, is_undefined_addr};
-use fields::convert::{Exact, saturated, saturating_add};
-use refusal::{Checked, Refusal};
+use refusal::Refusal;
 use structures::page_bits::page_is_initialized;
 use structures::{Kind, test_before_checksum, test_structure};
 
@@ -19,7 +18,7 @@ pub mod enter;
 
 // "FADB"
 const DATA_BLOCK: Kind = Kind::Signed {
-    number: Refusal::FIXED_DATA_BLOCK_SIGNATURE,
+    wrong: Refusal::FixedDataBlockSignature,
     signature: 0x4244_4146,
 };
 
@@ -34,19 +33,13 @@ pub fn never_stored(array: FixedArray) -> bool
 }
 
 // Tests the data block: 20, 35, 28, then 20 and 26 of the block or, paged, of its head.
-pub fn test_block(file: &[u8], array: FixedArray) -> Checked
+pub fn test_block(file: &[u8], array: FixedArray) -> Result<(), Refusal>
     requires { Served array }
     ensures { result ≡ fixed_block_test (fixed_of file.now array) }
 {
     let at = array.header.data_block_address;
-    let before = test_before_checksum(file, DATA_BLOCK, at, array.prefix());
-    let Checked::Passed = before else {
-        return before;
-    };
-    let room = array.form().test_room();
-    let Checked::Passed = room else {
-        return room;
-    };
+    test_before_checksum(file, DATA_BLOCK, at, array.prefix())?;
+    array.form().test_room()?;
     test_structure(file, Kind::Page, at, array.tested_extent())
 }
 
@@ -65,20 +58,17 @@ pub fn page_position(file: &[u8], array: FixedArray, p: u64) -> u64
     ensures { result ≡ figure (fixed_page_position (fixed_of file.now array) p) }
 {
     let begin = array.header.data_block_address + array.tested_extent();
-    saturating_add(begin, saturated(array.page_offset(p)))
+    begin.saturating_add(array.page_offset(p).unwrap_or(u64::MAX))
 }
 
 // Tests page p: 31, 20, 26.
-pub fn test_page(file: &[u8], array: FixedArray, p: u64) -> Checked
+pub fn test_page(file: &[u8], array: FixedArray, p: u64) -> Result<(), Refusal>
     requires { PageInBlock file.now array p }
     ensures { result ≡ fixed_page_test (fixed_of file.now array) p }
 {
-    if let Exact::Overflows = array.page_offset(p) {
-        return Checked::Refused(Refusal {
-            number: Refusal::SPAN_OVERFLOW,
-            first: p,
-            second: saturated(array.page_stride()),
-        });
+    if array.page_offset(p).is_none() {
+        let stride = array.page_stride().unwrap_or(u64::MAX);
+        return Err(Refusal::SpanOverflow(p, stride));
     }
     test_structure(
         file,

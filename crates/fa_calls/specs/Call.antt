@@ -1,7 +1,7 @@
 -- The fixed array of a call from C, and what the call is answered.
-use Rattle.std.specs.Prelude.{ℕ, List}
-use Rattle.std.proofs.Math.Option.{Option}
-use Rattle.refusal.specs.Outcome.{Outcome, ◌yields◌, in_room}
+use Rattle.std.specs.Prelude.{ℕ, List, Option}
+use Rattle.refusal.specs.Refusals.{Outcome}
+use Rattle.refusal.specs.Outcome.{◌yields◌, in_room}
 use Rattle.checksum.specs.Lookup3.{lookup3}
 use Rattle.index.specs.Index.{Index, Rec, Listing}
 use Rattle.elements.specs.Elements.{Elements}

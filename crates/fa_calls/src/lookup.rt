@@ -8,9 +8,10 @@ ghost use Rattle.fa_blocks.specs.FixedArray.{fixed_from};
 ghost use Rattle.fa_walk.specs.Walk.{fixed_elements_in, fixed_located, fixed_list, fixed_lookup};
 
 use chunk_grid::ChunkGrid;
-use elements::Found;
 use fa_header::FixedArrayHeader;
 use fa_index::FixedIndex;
+use index::Entry;
+use refusal::Refusal;
 use walked_index::lookup::lookup_chunk;
 
 // Looks up the chunk at a corner. Its refusals come in this order: 3 to 8 of the grid, 10 of the corner, 27 of the
@@ -22,7 +23,7 @@ pub fn lookup_fixed_chunk(
     element_bytes: u64,
     offset_size: u64,
     corner: &[u64],
-) -> Found
+) -> Result<Option<Entry>, Refusal>
     ensures { let a = fixed_from file.now header offset_size in
         let e = fixed_elements_in file.now header offset_size (grid_of grid) element_bytes in
         let answer = fixed_lookup a e corner.now in

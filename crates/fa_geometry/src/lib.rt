@@ -10,10 +10,8 @@ ghost use Rattle.fa_geometry.specs.Layout.{fixed_form, fixed_stride, fixed_page_
 ghost use Rattle.fa_geometry.specs.Layout.{fixed_prefix, fixed_page_stride, fixed_tested_extent, page_entries};
 ghost use Rattle.fa_geometry.specs.Layout.{fixed_page_extent};
 
-use chunk_grid::ceil_div;
 use element_form::Form;
 use fa_header::FixedArrayHeader;
-use fields::convert::{Exact, checked_add, checked_mul, saturating_add, saturating_mul};
 
 // A fixed array: its header and the size of an address.
 #[derive(Clone, Copy)]
@@ -62,14 +60,14 @@ impl FixedArray {
         requires { Served self }
         ensures { result ≡ fixed_pages self.header }
     {
-        ceil_div(self.header.num_elements, self.page_elements())
+        self.header.num_elements.div_ceil(self.page_elements())
     }
 
     // The data block before its elements or page bits; past 2^64 - 1 it is 2^64 - 1.
     pub fn prefix(self) -> u64
         ensures { result ≡ figure (fixed_prefix self.offset_size) }
     {
-        saturating_add(6, self.offset_size)
+        self.offset_size.saturating_add(6)
     }
 
     // The bytes that the data block's own test covers; past 2^64 - 1 it is 2^64 - 1.
@@ -78,36 +76,34 @@ impl FixedArray {
         ensures { result ≡ figure (fixed_tested_extent self.header self.offset_size) }
     {
         let inner = if self.is_paged() {
-            ceil_div(self.pages(), 8)
+            self.pages().div_ceil(8)
         } else {
-            saturating_mul(self.header.num_elements, self.element_stride())
+            self.header
+                .num_elements
+                .saturating_mul(self.element_stride())
         };
-        saturating_add(saturating_add(self.prefix(), inner), 4)
+        self.prefix().saturating_add(inner).saturating_add(4)
     }
 
     // The full stride of a page.
-    pub fn page_stride(self) -> Exact
+    pub fn page_stride(self) -> Option<u64>
         requires { Served self }
         ensures { result ≡ exact (fixed_page_stride self.header self.offset_size) }
     {
-        match checked_mul(self.page_elements(), self.element_stride()) {
-            Exact::Fits(bytes) => checked_add(bytes, 4),
-            Exact::Overflows => Exact::Overflows,
-        }
+        self.page_elements()
+            .checked_mul(self.element_stride())?
+            .checked_add(4)
     }
 
     // A page's number times the stride.
-    pub fn page_offset(self, p: u64) -> Exact
+    pub fn page_offset(self, p: u64) -> Option<u64>
         requires { Served self }
         ensures { result ≡ exact (p * fixed_page_stride self.header self.offset_size) }
     {
         if p == 0 {
-            return Exact::Fits(0);
+            return Some(0);
         }
-        match self.page_stride() {
-            Exact::Fits(stride) => checked_mul(p, stride),
-            Exact::Overflows => Exact::Overflows,
-        }
+        p.checked_mul(self.page_stride()?)
     }
 
     // How many elements page p has: the last one has what is left.
@@ -117,10 +113,7 @@ impl FixedArray {
     {
         let page = self.page_elements();
         let left = self.header.num_elements - p * page;
-        if page < left {
-            return page;
-        }
-        left
+        page.min(left)
     }
 
     // The bytes of page p; past 2^64 - 1 it is 2^64 - 1.
@@ -128,9 +121,8 @@ impl FixedArray {
         requires { Served self × (p < fixed_pages self.header) }
         ensures { result ≡ figure (fixed_page_extent self.header self.offset_size p) }
     {
-        saturating_add(
-            saturating_mul(self.page_entries(p), self.element_stride()),
-            4,
-        )
+        self.page_entries(p)
+            .saturating_mul(self.element_stride())
+            .saturating_add(4)
     }
 }

@@ -3,7 +3,7 @@ use Prim.Native.Nat.{◌≤◌}
 use mathlib.Core.Path.{◌≡◌}
 use mathlib.Core.Bool.{true}
 use borrow.Author.Tests.{leb-true, le-leb, not-false}
-use Rattle.refusal.specs.declared.Checked.TheVariants.{Passed}
+use Rattle.std.specs.Prelude.{Ok}
 use Rattle.refusal.specs.Refusals.{refuse}
 use Rattle.refusal.proofs.Tests.{refuse_inv}
 use Rattle.fa_header.specs.declared.FixedArrayHeader.{FixedArrayHeader}
@@ -18,10 +18,10 @@ module _ (h : FixedArrayHeader) where
   unfolding fixed_served
   serves_back le = le-leb h.max_nelmts_bits 32 le
 
-  pub tested_serves : fixed_served_test h ≡ Passed → h.max_nelmts_bits ≤ 32
+  pub tested_serves : fixed_served_test h ≡ Ok tt → h.max_nelmts_bits ≤ 32
   unfolding fixed_served_test
-  tested_serves t = serves (not-false (fixed_served h) (refuse_inv _ _ _ _ t))
+  tested_serves t = serves (not-false (fixed_served h) (refuse_inv _ _ t))
 
-  pub served_passes : h.max_nelmts_bits ≤ 32 → fixed_served_test h ≡ Passed
+  pub served_passes : h.max_nelmts_bits ≤ 32 → fixed_served_test h ≡ Ok tt
   unfolding fixed_served_test refuse
   served_passes le = rw (serves_back le)

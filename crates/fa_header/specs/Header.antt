@@ -1,6 +1,7 @@
 -- The header of a fixed array in a file.
 use Rattle.std.specs.Prelude.{ℕ, ◌+◌, List, get_or}
-use Rattle.refusal.specs.declared.Checked.{Checked}
+use Rattle.refusal.specs.declared.Refusal.TheVariants.{FixedHeaderSignature}
+use Rattle.refusal.specs.Refusals.{Checked}
 use Rattle.fields.specs.LittleEndian.{le_at}
 use Rattle.fields.specs.Fields.{address_at}
 use Rattle.structures.specs.Header.{signed_header_test}
@@ -22,4 +23,5 @@ fixed_header_at f pos o l = record {
 
 -- Header: 20, 34 ("FAHD"), 22, 2, 1, 26; 20 is tested with the sizes as given.
 unfoldable pub fixed_header_test : (List ℕ → ℕ) → List ℕ → ℕ → ℕ → ℕ → Checked
-fixed_header_test sum f pos o l = signed_header_test 34 0x4448_4146 sum f pos (fixed_header_bytes o l) o l
+fixed_header_test sum f pos o l =
+    signed_header_test FixedHeaderSignature 0x4448_4146 sum f pos (fixed_header_bytes o l) o l

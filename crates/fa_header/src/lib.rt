@@ -6,11 +6,10 @@ ghost use Rattle.fields.specs.Fields.{is_width};
 ghost use Rattle.checksum.specs.Lookup3.{lookup3};
 ghost use Rattle.fa_header.specs.Header.{fixed_header_bytes, fixed_header_at, fixed_header_test};
 ghost use Rattle.fa_header.specs.Served.{fixed_served, fixed_served_test};
-ghost use Rattle.fa_header.specs.Values.{parsed_at, parsed_of};
+ghost use Rattle.fa_header.specs.Values.{parsed_at};
 
 use fields::bytes::{read_address, read_le};
-use fields::convert::saturating_add;
-use refusal::{Checked, Refusal};
+use refusal::Refusal;
 use structures::header::test_header;
 
 // What the header of a fixed array says: sizes, extents and places of its structures follow from it and the offset
@@ -28,38 +27,34 @@ pub struct FixedArrayHeader {
     pub data_block_address: u64,
 }
 
-// What reading a header finds: the header, or why it is not read.
-#[derive(Clone, Copy)]
-pub enum Parsed {
-    Header(FixedArrayHeader),
-    Refused(Refusal),
-}
-
 impl FixedArrayHeader {
     // "FAHD"
     pub const SIGNATURE: u32 = 0x4448_4146;
 
     // Reads the header at an address of a file. In this order it is refused: 20 where it does not lie in the file
     // with the sizes as given, 34 and 22 for its signature and version, 2 and 1 for the sizes, 26 for its checksum.
-    pub fn parse(file: &[u8], address: u64, offset_size: u64, length_size: u64) -> Parsed
-        ensures { result ≡ parsed_of (parsed_at lookup3 file.now address offset_size length_size) }
+    pub fn parse(
+        file: &[u8],
+        address: u64,
+        offset_size: u64,
+        length_size: u64,
+    ) -> Result<Self, Refusal>
+        ensures { result ≡ parsed_at lookup3 file.now address offset_size length_size }
     {
-        match header_test(file, address, offset_size, length_size) {
-            Checked::Passed => Parsed::Header(read_header(
-                file,
-                address as usize,
-                offset_size as usize,
-                length_size as usize,
-            )),
-            Checked::Refused(r) => Parsed::Refused(r),
-        }
+        header_test(file, address, offset_size, length_size)?;
+        Ok(read_header(
+            file,
+            address as usize,
+            offset_size as usize,
+            length_size as usize,
+        ))
     }
 
     // The bytes of a header; past 2^64 - 1 it is 2^64 - 1.
     pub fn serialized_size(offset_size: u64, length_size: u64) -> u64
         ensures { result ≡ figure (fixed_header_bytes offset_size length_size) }
     {
-        saturating_add(saturating_add(12, length_size), offset_size)
+        length_size.saturating_add(12).saturating_add(offset_size)
     }
 
     // Whether the page exponent is within its limit.
@@ -70,24 +65,25 @@ impl FixedArrayHeader {
     }
 
     // 27 where the header is not served.
-    pub fn served_test(self) -> Checked
+    pub fn served_test(self) -> Result<(), Refusal>
         ensures { result ≡ fixed_served_test self }
     {
         if self.is_served() {
-            return Checked::Passed;
+            Ok(())
+        } else {
+            Err(Refusal::HeaderNotServed)
         }
-        Checked::Refused(Refusal::plain(Refusal::HEADER_NOT_SERVED))
     }
 }
 
 // Tests the header at an address.
-fn header_test(file: &[u8], address: u64, offset_size: u64, length_size: u64) -> Checked
+fn header_test(file: &[u8], address: u64, offset_size: u64, length_size: u64) -> Result<(), Refusal>
     ensures { result ≡ fixed_header_test lookup3 file.now address offset_size length_size }
 {
     let size = FixedArrayHeader::serialized_size(offset_size, length_size);
     test_header(
         file,
-        Refusal::FIXED_HEADER_SIGNATURE,
+        Refusal::FixedHeaderSignature,
         FixedArrayHeader::SIGNATURE,
         address,
         size,

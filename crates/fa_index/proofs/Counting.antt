@@ -7,18 +7,13 @@ use mathlib.Core.Bool.{true}
 use mathlib.Core.List.{List, []}
 use mathlib.Core.Logic.{⊎_elim}
 use native.Mathlib.Omega.{arith}
+use Rattle.std.specs.Prelude.{Err, None, Ok, Option, Some}
+use Rattle.refusal.specs.Refusals.{Outcome}
 use Rattle.refusal.specs.declared.Refusal.{Refusal}
-use Rattle.refusal.specs.declared.Checked.{Checked}
-use Rattle.refusal.specs.declared.Checked.TheVariants.{Passed, Refused}
-use Rattle.refusal.specs.declared.Counted.{Counted}
-use Rattle.refusal.specs.declared.Counted.TheVariants.{Count, Refused as CountedRefused}
-use Rattle.refusal.specs.Outcome.{accepted}
 use Rattle.refusal.specs.Values.{plus, counted_of}
 use Rattle.refusal.proofs.Tests.{lt_or_ge}
-use Rattle.refusal.proofs.Counts.{plus_none, plus_zero, answered, counted_inv}
+use Rattle.refusal.proofs.Counts.{plus_none, plus_zero, counted_inv}
 use Rattle.structures.specs.declared.enter.Ahead.{Ahead}
-use Rattle.structures.specs.declared.enter.Ahead.TheVariants.{Unknown}
-use Rattle.structures.specs.declared.enter.Entered.TheVariants.{Absent, At, Refused as EnteredRefused}
 use Rattle.structures.specs.Entered.{TestedBy}
 use Rattle.chunk_grid.specs.Grid.{Grid}
 use Rattle.index.specs.Index.{Listing}
@@ -40,7 +35,7 @@ use Rattle.fa_walk.proofs.Room.{entries_inside}
 use Rattle.fa_index.specs.Given.{ReadsAll}
 
 -- a run counts no more records than it has elements
-count_few : (es : Elements) (pos j s m : ℕ) → Count m ≡ counted_of (elements_from es pos j s (accepted [])) → m ≤ j
+count_few : (es : Elements) (pos j s m : ℕ) → Ok m ≡ counted_of (elements_from es pos j s (Ok [])) → m ≤ j
 count_few es pos j s m e = let i = counted_inv _ m e in let n = run_length es pos j s i.0 i.1 in omega (arith, i.2)
 
 -- what the pages are counted with: the function's parameters, and what it computes of them before its loop
@@ -66,22 +61,22 @@ module _ (w : Setting) where
 
   -- the walk from page p on, and the whole
   abbrev left : Grid → ℕ → ℕ → Listing
-  left g n p = pages_from (es g n) (fixed_pages_of a) (fixed_pages h - p) p (p * fixed_page_elements h) (accepted [])
+  left g n p = pages_from (es g n) (fixed_pages_of a) (fixed_pages h - p) p (p * fixed_page_elements h) (Ok [])
 
-  abbrev whole : Grid → ℕ → Counted
-  whole g n = counted_of (pages_from (es g n) (fixed_pages_of a) (fixed_pages h) 0 0 (accepted []))
+  abbrev whole : Grid → ℕ → Outcome ℕ
+  whole g n = counted_of (pages_from (es g n) (fixed_pages_of a) (fixed_pages h) 0 0 (Ok []))
 
   -- an answer is the whole's, for every grid and element size that the reader is made of
-  abbrev pub Is : (Grid → ℕ → Counted) → Type 0
+  abbrev pub Is : (Grid → ℕ → Outcome ℕ) → Type 0
   Is x = (g : Grid) (n : ℕ) → Reads w.reader w.chunk w.bound w.down g n → x g n ≡ whole g n
 
-  -- done, with this refusal or count
-  abbrev pub Done : Checked → ℕ → Type 0
-  Done refused total = Is (λ (g : Grid) (n : ℕ). answered refused total)
+  -- done, with this answer
+  abbrev pub Done : Outcome ℕ → Type 0
+  Done x = Is (λ (g : Grid) (n : ℕ). x)
 
   -- n elements from pos on, of the slots from s on, are counted, or refused
-  abbrev pub Run : ℕ → ℕ → ℕ → Counted → Type 0
-  Run pos j s x = (g : Grid) (n : ℕ) → Reads w.reader w.chunk w.bound w.down g n → x ≡ counted_of (elements_from (es g n) pos j s (accepted []))
+  abbrev pub Run : ℕ → ℕ → ℕ → Outcome ℕ → Type 0
+  Run pos j s x = (g : Grid) (n : ℕ) → Reads w.reader w.chunk w.bound w.down g n → x ≡ counted_of (elements_from (es g n) pos j s (Ok []))
 
   -- what doesn't change
   pub record Fixed : Type 0 where
@@ -92,38 +87,32 @@ module _ (w : Setting) where
     pub page_is : w.page ≡ fixed_page_elements h
 
   -- at page p
-  pub record InPages (refused : Checked) (total : ℕ) (ahead : Ahead) (p : ℕ) : Type 0 where
+  pub record InPages (total : ℕ) (ahead : Option Ahead) (p : ℕ) : Type 0 where
     pub fixed : Fixed
-    pub upto : p ≤ w.pages
-    pub passes : refused ≡ Passed
     pub few : total ≤ p * w.page
     pub ahead_is : TestedBy (fixed_page_test a) ahead
     pub rest : Is (λ (g : Grid) (n : ℕ). plus total (left g n p))
 
-  pub pages-first : Fixed → InPages Passed 0 Unknown 0
+  pub pages-first : Fixed → InPages 0 None 0
   pages-first x = record {
     fixed = x;
-    upto = omega arith;
-    passes = refl;
     few = omega arith;
     ahead_is = tt;
     rest = λ g n r. plus_zero _ ∙ ap counted_of (first g n);
   }
     where
-      first : (g : Grid) (n : ℕ) → left g n 0 ≡ pages_from (es g n) (fixed_pages_of a) (fixed_pages h) 0 0 (accepted [])
+      first : (g : Grid) (n : ℕ) → left g n 0 ≡ pages_from (es g n) (fixed_pages_of a) (fixed_pages h) 0 0 (Ok [])
       first g n =
           let y : fixed_pages h - 0 ≡ fixed_pages h = omega arith in
           let z : 0 * fixed_page_elements h ≡ 0 = omega arith in
           rw (y, z) refl
 
-  module _ {refused : Checked} {total : ℕ} {ahead : Ahead} {p : ℕ} (i : InPages refused total ahead p) where
+  module _ {total : ℕ} {ahead : Option Ahead} {p : ℕ} (i : InPages total ahead p) where
     -- behind the last page
-    pub pages_end : w.pages ≤ p → Done refused total
-    unfolding answered
+    pub pages_end : w.pages ≤ p → Done (Ok total)
     pages_end le g n r =
         let e = i.fixed.pages_are in
-        ap (λ (x : Checked). answered x total) i.passes
-        ∙ sym (plus_none total _ (pages_none (es g n) (fixed_pages_of a) (fixed_pages h) p _ (accepted []) (omega arith))) ∙ i.rest g n r
+        sym (plus_none total _ (pages_none (es g n) (fixed_pages_of a) (fixed_pages h) p _ (Ok []) (omega arith))) ∙ i.rest g n r
 
     module _ (lt : p < w.pages) where
       page_of_lem : p < fixed_pages h
@@ -136,29 +125,27 @@ module _ (w : Setting) where
       next_slot : (p + 1) * fixed_page_elements h ≡ p * fixed_page_elements h + fixed_page_elements h
       next_slot = omega arith
 
-      next_left : (g : Grid) (n : ℕ) → pages_from (es g n) (fixed_pages_of a) (fixed_pages h - (p + 1)) (p + 1) (p * fixed_page_elements h + fixed_page_elements h) (accepted []) ≡ left g n (p + 1)
+      next_left : (g : Grid) (n : ℕ) → pages_from (es g n) (fixed_pages_of a) (fixed_pages h - (p + 1)) (p + 1) (p * fixed_page_elements h + fixed_page_elements h) (Ok []) ≡ left g n (p + 1)
       next_left g n = rw next_slot refl
 
       -- its bit is clear
-      pub page_clear : {next : Ahead} → EnteredFixedPage a p Absent → TestedBy (fixed_page_test a) next → InPages refused total next (p + 1)
+      pub page_clear : {next : Option Ahead} → EnteredFixedPage a p (Ok None) → TestedBy (fixed_page_test a) next → InPages total next (p + 1)
       page_clear e t = record {
         fixed = i.fixed;
-        upto = omega arith;
-        passes = i.passes;
         few = let x = i.few in omega arith;
         ahead_is = t;
         rest = λ g n r.
-            ap (plus total) (sym (pages_clear (es g n) (fixed_pages_of a) (fixed_pages h) p _ (accepted []) page_of_lem e ∙ next_left g n)) ∙ i.rest g n r;
+            ap (plus total) (sym (pages_clear (es g n) (fixed_pages_of a) (fixed_pages h) p _ (Ok []) page_of_lem e ∙ next_left g n)) ∙ i.rest g n r;
       }
 
       -- it is refused
-      pub page_refused : (x : Refusal) → EnteredFixedPage a p (EnteredRefused x) → Done (Refused x) total
-      unfolding answered plus
+      pub page_refused : (x : Refusal) → EnteredFixedPage a p (Err x) → Done (Err x)
+      unfolding plus
       page_refused x e g n r =
-          ap (plus total) (sym (pages_refused (es g n) (fixed_pages_of a) (fixed_pages h) p _ (accepted []) page_of_lem e.0 x e.1)) ∙ i.rest g n r
+          ap (plus total) (sym (pages_refused (es g n) (fixed_pages_of a) (fixed_pages h) p _ (Ok []) page_of_lem e.0 x e.1)) ∙ i.rest g n r
 
       -- it has passed its test
-      module _ {pos entries : ℕ} (e : EnteredFixedPage a p (At pos)) (are : entries ≡ page_entries h p) where
+      module _ {pos entries : ℕ} (e : EnteredFixedPage a p (Ok (Some pos))) (are : entries ≡ page_entries h p) where
         pub page_run : RunInFile w.file w.reader w.chunk w.bound w.down pos entries
         page_run =
             let b = i.fixed.by.by in
@@ -182,10 +169,10 @@ module _ (w : Setting) where
             let c = i.fixed.by.entries in
             ⊎_elim
             (λ (past : w.reader.count < p * fixed_page_elements h + fixed_page_elements h).
-            pages_last (es g n) (fixed_pages_of a) (fixed_pages h) p _ (accepted []) page_of_lem e.0 e.1 past
-            ∙ ap run (sym (pages_none (es g n) (fixed_pages_of a) (fixed_pages h) (p + 1) _ (accepted []) (last (omega arith)))))
+            pages_last (es g n) (fixed_pages_of a) (fixed_pages h) p _ (Ok []) page_of_lem e.0 e.1 past
+            ∙ ap run (sym (pages_none (es g n) (fixed_pages_of a) (fixed_pages h) (p + 1) _ (Ok []) (last (omega arith)))))
             (λ (le : p * fixed_page_elements h + fixed_page_elements h ≤ w.reader.count).
-            pages_set (es g n) (fixed_pages_of a) (fixed_pages h) p _ (accepted []) page_of_lem e.0 e.1 le ∙ ap run (next_left g n))
+            pages_set (es g n) (fixed_pages_of a) (fixed_pages h) p _ (Ok []) page_of_lem e.0 e.1 le ∙ ap run (next_left g n))
             (lt_or_ge w.reader.count (p * fixed_page_elements h + fixed_page_elements h))
 
         -- .. of which only its own lie below the count
@@ -195,12 +182,11 @@ module _ (w : Setting) where
             let y : min (fixed_page_elements h) (w.reader.count - p * fixed_page_elements h) ≡ entries = rw i.fixed.by.entries (sym are) in
             full g n ∙ run_clamp (es g n) _ _ _ _ ∙ rw (y, e.2, i.fixed.page_is) refl
 
-        pub run_ends : (x : Refusal) → Run pos entries (p * w.page) (CountedRefused x) → Done (Refused x) total
-        unfolding answered
+        pub run_ends : (x : Refusal) → Run pos entries (p * w.page) (Err x) → Done (Err x)
         run_ends x c g n r =
             sym (run_refused (es g n) pos entries (p * w.page) x (sym (c g n r)) total (left g n (p + 1))) ∙ ap (plus total) (sym (turn g n)) ∙ i.rest g n r
 
-        module _ {m : ℕ} (c : Run pos entries (p * w.page) (Count m)) where
+        module _ {m : ℕ} (c : Run pos entries (p * w.page) (Ok m)) where
           few : m ≤ entries
           few = let b = i.fixed.by.by in count_few (es b.grid b.element_bytes) pos entries (p * w.page) m (c b.grid b.element_bytes b.reads)
 
@@ -208,12 +194,10 @@ module _ (w : Setting) where
           unfolding page_entries
           total-fits = let x = few in let y = rw i.fixed.page_is at i.few in let z = page_before h p page_of_lem in omega arith
 
-          pub page_counted : {next : Ahead} → TestedBy (fixed_page_test a) next → InPages refused (total + m) next (p + 1)
+          pub page_counted : {next : Option Ahead} → TestedBy (fixed_page_test a) next → InPages (total + m) next (p + 1)
           unfolding page_entries
           page_counted t = record {
             fixed = i.fixed;
-            upto = omega arith;
-            passes = i.passes;
             few = let x = few in let y = i.few in let z = i.fixed.page_is in omega arith;
             ahead_is = t;
             rest = λ g n r.

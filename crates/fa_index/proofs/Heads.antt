@@ -4,10 +4,9 @@ use Prim.Native.Nat.{ℕ, ◌+◌}
 use mathlib.Core.Path.{◌≡◌, refl}
 use mathlib.Core.Bool.{true, false}
 use mathlib.Core.List.{[]}
+use Rattle.std.specs.Prelude.{Err, Ok}
 use Rattle.refusal.specs.declared.Refusal.{Refusal}
-use Rattle.refusal.specs.declared.Checked.TheVariants.{Passed, Refused}
-use Rattle.refusal.specs.declared.Counted.TheVariants.{Count, Refused as CountedRefused}
-use Rattle.refusal.specs.Outcome.{accepted, ◌yields◌}
+use Rattle.refusal.specs.Outcome.{◌yields◌}
 use Rattle.refusal.specs.Values.{counted_of}
 use Rattle.elements.specs.Elements.{Elements}
 use Rattle.elements.specs.Runs.{elements_from, pages_from}
@@ -18,26 +17,26 @@ use Rattle.fa_blocks.specs.Blocks.{fixed_block_test, fixed_pages_of}
 use Rattle.fa_walk.specs.Walk.{fixed_in_block, fixed_walk}
 
 module _ (a : FixedArray) (e : Elements) where
-  pub walk_unserved : (r : Refusal) → fixed_served_test a.header ≡ Refused r → CountedRefused r ≡ counted_of (fixed_walk a e)
+  pub walk_unserved : (r : Refusal) → fixed_served_test a.header ≡ Err r → Err r ≡ counted_of (fixed_walk a e)
   unfolding fixed_walk ◌yields◌ counted_of
   walk_unserved r t = rw t refl
 
-  module _ (v : fixed_served_test a.header ≡ Passed) where
-    pub walk_never : never_stored a ≡ true → Count 0 ≡ counted_of (fixed_walk a e)
+  module _ (v : fixed_served_test a.header ≡ Ok tt) where
+    pub walk_never : never_stored a ≡ true → Ok 0 ≡ counted_of (fixed_walk a e)
     unfolding fixed_walk ◌yields◌ counted_of
     walk_never n = rw (v, n) refl
 
     module _ (n : never_stored a ≡ false) where
-      pub walk_refused : (r : Refusal) → fixed_block_test a ≡ Refused r → CountedRefused r ≡ counted_of (fixed_walk a e)
+      pub walk_refused : (r : Refusal) → fixed_block_test a ≡ Err r → Err r ≡ counted_of (fixed_walk a e)
       unfolding fixed_walk ◌yields◌ counted_of
       walk_refused r t = rw (v, n, t) refl
 
-      module _ (t : fixed_block_test a ≡ Passed) where
-        pub walk_paged : is_paged a.header ≡ true → counted_of (pages_from e (fixed_pages_of a) (fixed_pages a.header) 0 0 (accepted [])) ≡ counted_of (fixed_walk a e)
+      module _ (t : fixed_block_test a ≡ Ok tt) where
+        pub walk_paged : is_paged a.header ≡ true → counted_of (pages_from e (fixed_pages_of a) (fixed_pages a.header) 0 0 (Ok [])) ≡ counted_of (fixed_walk a e)
         unfolding fixed_in_block fixed_walk ◌yields◌
         walk_paged q = rw (v, n, t, q) refl
 
         pub walk_unpaged : is_paged a.header ≡ false → (pos : ℕ) → pos ≡ fixed_block_at a + fixed_element_at a.header a.offset_size 0
-            → counted_of (elements_from e pos a.header.num_elements 0 (accepted [])) ≡ counted_of (fixed_walk a e)
+            → counted_of (elements_from e pos a.header.num_elements 0 (Ok [])) ≡ counted_of (fixed_walk a e)
         unfolding fixed_in_block fixed_walk ◌yields◌
         walk_unpaged q pos p = rw (v, n, t, q, p) refl

@@ -7,7 +7,7 @@ use mathlib.Core.List.{List}
 use native.Mathlib.Omega.{arith}
 use native.Mathlib.Nat.{mod-lt, div-add-mod', mul-le-mul_right}
 use lib.ListN.{length}
-use Rattle.refusal.specs.declared.Checked.TheVariants.{Passed}
+use Rattle.std.specs.Prelude.{Ok}
 use Rattle.refusal.specs.Refusals.{figure}
 use Rattle.fa_header.specs.declared.FixedArrayHeader.{FixedArrayHeader}
 use Rattle.fa_geometry.specs.declared.FixedArray.{FixedArray as ArrayValue}
@@ -25,7 +25,7 @@ one_inside : (st i n at room : ℕ) → i < n → at + n * st ≤ room → at + 
 one_inside st i n at room lt le = let m = mul-le-mul_right {m = i + 1} {n = n} st (omega arith) in omega arith
 
 -- the elements of a data block that is read unpaged, behind a prefix that may be given as 2^64 − 1
-module _ (a : FixedArray) (t : fixed_block_test a ≡ Passed) (q : is_paged a.header ≡ false) (small : length a.file < 2 ^ 63)
+module _ (a : FixedArray) (t : fixed_block_test a ≡ Ok tt) (q : is_paged a.header ≡ false) (small : length a.file < 2 ^ 63)
     (prefix : ℕ) (e : prefix ≡ figure (fixed_prefix a.offset_size)) where
   pub first_is : fixed_block_at a + prefix ≡ fixed_block_at a + fixed_element_at a.header a.offset_size 0
   unfolding figure fixed_element_at
@@ -65,7 +65,7 @@ unfolding fixed_position fixed_place page_of_slot fixed_page_position
 entry_at_lem a s q = rw q (omega arith)
 
 -- .. which lies in the file where the page has passed its test
-pub entry_inside : (a : FixedArray) (s : ℕ) → s < a.header.num_elements → fixed_page_test a (page_of a.header s) ≡ Passed
+pub entry_inside : (a : FixedArray) (s : ℕ) → s < a.header.num_elements → fixed_page_test a (page_of a.header s) ≡ Ok tt
     → fixed_page_position a (page_of a.header s) + within a.header s * fixed_stride a.header a.offset_size + fixed_stride a.header a.offset_size ≤ length a.file
 entry_inside a s lt t = one_inside _ (within a.header s) (page_entries a.header (page_of a.header s)) _ _ (within_entries a.header s lt) (entries_inside a _ t)
 

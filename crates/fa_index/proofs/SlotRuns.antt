@@ -6,7 +6,7 @@ use mathlib.Core.Bool.{true, false}
 use mathlib.Core.List.{List}
 use native.Mathlib.Omega.{arith}
 use lib.ListN.{length}
-use Rattle.refusal.specs.declared.Checked.TheVariants.{Passed}
+use Rattle.std.specs.Prelude.{Ok}
 use Rattle.refusal.specs.Refusals.{figure}
 use Rattle.element_form.specs.Form.{stride}
 use Rattle.elements.specs.Elements.{Elements}
@@ -72,7 +72,7 @@ module _ (f : List ℕ) (array : ArrayValue) (s : ℕ) (t : TestedTo f array s) 
           (λ j lt. clear_slot a e form n tested.passed q p j (few j lt) b)
 
       module _ (b : fixed_page_set (fixed_of f array) (page_of array.header s) ≡ true) where
-        pub page_tested : fixed_page_test a p ≡ Passed
+        pub page_tested : fixed_page_test a p ≡ Ok tt
         unfolding page_of_slot
         page_tested = page_passed a s n t.tests q b
 

@@ -1,6 +1,5 @@
 -- What the code's values stand for: what a fixed array is walked by.
-use Rattle.std.specs.Prelude.{ℕ, ◌<◌, ◌≡◌, false, List}
-use Rattle.refusal.specs.declared.Checked.TheVariants.{Passed}
+use Rattle.std.specs.Prelude.{ℕ, ◌<◌, ◌≡◌, false, List, Ok}
 use Rattle.elements.specs.declared.ElementReader.{ElementReader}
 use Rattle.fa_header.specs.declared.FixedArrayHeader.{FixedArrayHeader}
 use Rattle.fa_geometry.specs.declared.FixedArray.{FixedArray}
@@ -25,10 +24,10 @@ pub record ReadsAll (a : FixedArray) (r : ElementReader) (chunk bound down : Lis
 pub record BlockTested (file : List ℕ) (a : FixedArray) : Type 0 where
   pub served : Served a
   pub stored : never_stored (fixed_of file a) ≡ false
-  pub passed : fixed_block_test (fixed_of file a) ≡ Passed
+  pub passed : fixed_block_test (fixed_of file a) ≡ Ok tt
 
 -- The array is served, and what leads to the place of slot s, one of its entries, has passed its tests.
 pub record TestedTo (file : List ℕ) (a : FixedArray) (s : ℕ) : Type 0 where
   pub served : Served a
   pub entry : s < a.header.num_elements
-  pub tests : fixed_path_test (fixed_of file a) s ≡ Passed
+  pub tests : fixed_path_test (fixed_of file a) s ≡ Ok tt

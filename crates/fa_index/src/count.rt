@@ -1,6 +1,5 @@
 // The walk of a fixed array that tests and counts.
-ghost use Rattle.std.specs.Prelude.{◌≡◌, true, [], ℕ};
-ghost use Rattle.refusal.specs.Outcome.{accepted};
+ghost use Rattle.std.specs.Prelude.{◌≡◌, true, [], ℕ, Ok};
 ghost use Rattle.refusal.specs.Values.{counted_of};
 ghost use Rattle.chunk_grid.specs.Grid.{Grid};
 ghost use Rattle.elements.specs.Runs.{pages_from};
@@ -16,8 +15,7 @@ use elements::ElementReader;
 use fa_blocks::enter::enter_page_in_turn;
 use fa_blocks::{never_stored, test_block};
 use fa_geometry::FixedArray;
-use refusal::{Checked, Counted};
-use structures::enter::{Ahead, Entered};
+use refusal::Refusal;
 
 // Tests the structures of an array in slot order, and counts the records of its elements.
 pub fn count_walk(
@@ -27,21 +25,17 @@ pub fn count_walk(
     chunk: &[u64; 32],
     bound: &[u64; 32],
     down: &[u64; 32],
-) -> Counted
+) -> Result<u64, Refusal>
     requires { ReadsAll array reader chunk.now bound.now down.now }
     ensures { (grid : Grid) (n : ℕ)
         → Reads reader chunk.now bound.now down.now grid n
         → result ≡ counted_of (fixed_walk (fixed_of file.now array) (elements_of file.now reader grid n)) }
 {
-    if let Checked::Refused(r) = array.header.served_test() {
-        return Counted::Refused(r);
-    }
+    array.header.served_test()?;
     if never_stored(array) {
-        return Counted::Count(0);
+        return Ok(0);
     }
-    if let Checked::Refused(r) = test_block(file, array) {
-        return Counted::Refused(r);
-    }
+    test_block(file, array)?;
     if array.is_paged() {
         return count_pages(file, array, reader, chunk, bound, down);
     }
@@ -58,48 +52,27 @@ fn count_pages(
     chunk: &[u64; 32],
     bound: &[u64; 32],
     down: &[u64; 32],
-) -> Counted
+) -> Result<u64, Refusal>
     requires { ReadsAll array reader chunk.now bound.now down.now × BlockInFile file.now array
         × (is_paged array.header ≡ true) }
     ensures { (grid : Grid) (n : ℕ)
         → Reads reader chunk.now bound.now down.now grid n
         → result ≡ counted_of (pages_from (elements_of file.now reader grid n)
-        (fixed_pages_of (fixed_of file.now array)) (fixed_pages array.header) 0 0 (accepted [])) }
+        (fixed_pages_of (fixed_of file.now array)) (fixed_pages array.header) 0 0 (Ok [])) }
 {
     let pages = array.pages();
     let page = array.page_elements();
-    let mut refused = Checked::Passed;
     let mut total = 0;
-    let mut ahead = Ahead::Unknown;
-    let mut p = 0;
+    let mut ahead = None;
     // What is counted, and the walk from page p on, are the whole.
-    'pages: while p < pages {
+    'pages: for p in 0..pages {
         let turn = enter_page_in_turn(file, array, p, ahead);
         ahead = turn.ahead;
-        let found = turn.found;
-        let pos = match found {
-            Entered::Absent => {
-                p += 1;
-                continue 'pages;
-            }
-            Entered::At(pos) => pos,
-            Entered::Refused(r) => {
-                refused = Checked::Refused(r);
-                break 'pages;
-            }
+        let Some(pos) = turn.found? else {
+            continue 'pages;
         };
         let entries = array.page_entries(p);
-        match count_elements(file, pos, entries, p * page, reader, chunk, bound, down) {
-            Counted::Count(n) => total += n,
-            Counted::Refused(r) => {
-                refused = Checked::Refused(r);
-                break 'pages;
-            }
-        }
-        p += 1;
+        total += count_elements(file, pos, entries, p * page, reader, chunk, bound, down)?;
     }
-    match refused {
-        Checked::Passed => Counted::Count(total),
-        Checked::Refused(r) => Counted::Refused(r),
-    }
+    Ok(total)
 }

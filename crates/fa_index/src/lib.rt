@@ -16,10 +16,9 @@ ghost use Rattle.fa_index.specs.Given.{indexed};
 use element_form::Form;
 use elements::ElementReader;
 use fa_geometry::FixedArray;
-use fa_header::{FixedArrayHeader, Parsed};
+use fa_header::FixedArrayHeader;
 use located::Run;
-use refusal::{Checked, Counted, Refusal};
-use structures::enter::Entered;
+use refusal::Refusal;
 use walked_index::WalkedIndex;
 use walked_index::call::HeadedIndex;
 
@@ -66,7 +65,7 @@ impl WalkedIndex for FixedIndex {
         self.array.header.num_elements
     }
 
-    fn test_entry(self, _file: &[u8]) -> Checked {
+    fn test_entry(self, _file: &[u8]) -> Result<(), Refusal> {
         self.array.header.served_test()
     }
 
@@ -77,7 +76,7 @@ impl WalkedIndex for FixedIndex {
         chunk: &[u64; 32],
         bound: &[u64; 32],
         down: &[u64; 32],
-    ) -> Counted {
+    ) -> Result<u64, Refusal> {
         count::count_walk(file, self.array, reader, chunk, bound, down)
     }
 
@@ -85,7 +84,7 @@ impl WalkedIndex for FixedIndex {
         runs::run_of(file, self.array, slot)
     }
 
-    fn path_of(self, file: &[u8], slot: u64) -> Entered {
+    fn path_of(self, file: &[u8], slot: u64) -> Result<Option<u64>, Refusal> {
         paths::path_of(file, self.array, slot)
     }
 
@@ -107,9 +106,7 @@ impl HeadedIndex for FixedIndex {
         offset_size: u64,
         length_size: u64,
     ) -> Result<Self, Refusal> {
-        match FixedArrayHeader::parse(file, address, offset_size, length_size) {
-            Parsed::Header(header) => Ok(Self::from_header(header, offset_size)),
-            Parsed::Refused(r) => Err(r),
-        }
+        let header = FixedArrayHeader::parse(file, address, offset_size, length_size)?;
+        Ok(Self::from_header(header, offset_size))
     }
 }

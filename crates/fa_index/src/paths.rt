@@ -9,30 +9,26 @@ ghost use Rattle.walked_index.specs.PathEnds.{PathEnds};
 use fa_blocks::enter::enter_page;
 use fa_blocks::{never_stored, test_block};
 use fa_geometry::FixedArray;
-use refusal::Checked;
-use structures::enter::Entered;
+use refusal::Refusal;
 
 // The path to one of the entries: it ends at no element, at the slot's, or with a refusal.
-pub fn path_of(file: &[u8], array: FixedArray, slot: u64) -> Entered
+pub fn path_of(file: &[u8], array: FixedArray, slot: u64) -> Result<Option<u64>, Refusal>
     requires { Served array × (slot < array.header.num_elements) }
     ensures { PathEnds (fixed_located (fixed_of file.now array)) file.now (fixed_form array.header array.offset_size)
         slot result }
 {
     if never_stored(array) {
-        return Entered::Absent;
+        return Ok(None);
     }
-    if let Checked::Refused(r) = test_block(file, array) {
-        return Entered::Refused(r);
-    }
+    test_block(file, array)?;
     let stride = array.element_stride();
     if !array.is_paged() {
         let pos = array.header.data_block_address + array.prefix() + slot * stride;
-        return Entered::At(pos);
+        return Ok(Some(pos));
     }
     let page = array.page_elements();
-    let found = enter_page(file, array, slot / page);
-    let Entered::At(at) = found else {
-        return found;
+    let Some(at) = enter_page(file, array, slot / page)? else {
+        return Ok(None);
     };
-    Entered::At(at + slot % page * stride)
+    Ok(Some(at + slot % page * stride))
 }

@@ -5,9 +5,7 @@ use mathlib.Core.Path.{◌≡◌}
 use mathlib.Core.Bool.{true, false}
 use mathlib.Core.List.{[]}
 use native.Mathlib.Omega.{arith}
-use Rattle.refusal.specs.declared.Checked.{Checked}
-use Rattle.refusal.specs.declared.Checked.TheVariants.{Passed}
-use Rattle.refusal.specs.Outcome.{accepted}
+use Rattle.std.specs.Prelude.{Ok}
 use Rattle.index.specs.Index.{Listing}
 use Rattle.elements.specs.Elements.{Elements}
 use Rattle.elements.proofs.Induction.{Steps, by_conds, lacks_kept, elements_kept, pages_kept}
@@ -20,15 +18,16 @@ use Rattle.fa_blocks.specs.Blocks.{fixed_block_test, fixed_page_set, fixed_page_
 use Rattle.fa_walk.specs.Walk.{fixed_located, fixed_in_block, fixed_walk}
 use Rattle.fa_walk.proofs.Paths.{never_stored_lem}
 use Rattle.fa_walk.proofs.Slots.{block_slots_lem, page_slots}
+use Rattle.refusal.specs.Refusals.{Checked}
 
 -- all elements of the array, in its form, and a relation that the steps of a walk over them keep, whose end is the
 -- empty list
 module _ (a : FixedArray) (e : Elements) (form : fixed_form a.header a.offset_size ≡ e.form) (count : e.count ≡ a.header.num_elements)
     {Tests : Checked → Type 0} {R : ℕ → Listing → Listing → Type 0} (steps : Steps e (LeadsTo (fixed_located a e)) (LeadsNowhere (fixed_located a e)) Tests R)
-    (end : (s : ℕ) → e.count ≤ s → R s (accepted []) (accepted [])) where
+    (end : (s : ℕ) → e.count ≤ s → R s (Ok []) (Ok [])) where
   -- its pages are among the walk's tests, ..
   module _ (pages : (p : ℕ) → p < fixed_pages a.header → fixed_page_set a p ≡ true → Tests (fixed_page_test a p)) where
-    in_block_kept : never_stored a ≡ false → fixed_block_test a ≡ Passed → R 0 (fixed_in_block a e) (fixed_in_block a e)
+    in_block_kept : never_stored a ≡ false → fixed_block_test a ≡ Ok tt → R 0 (fixed_in_block a e) (fixed_in_block a e)
     unfolding fixed_in_block
     in_block_kept n t =
         by_conds (R 0) (is_paged a.header)

@@ -4,4 +4,3 @@ pub mod Passed
 pub mod Slots
 pub mod Induction
 pub mod Walks
-pub mod Numbered

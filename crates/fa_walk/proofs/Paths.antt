@@ -3,8 +3,8 @@
 use Prim.Native.Nat.{ℕ}
 use mathlib.Core.Path.{◌≡◌, refl}
 use mathlib.Core.Bool.{true, false}
+use Rattle.std.specs.Prelude.{Err, Ok}
 use Rattle.refusal.specs.declared.Refusal.{Refusal}
-use Rattle.refusal.specs.declared.Checked.TheVariants.{Passed, Refused}
 use Rattle.refusal.specs.Refusals.{◌then◌}
 use Rattle.elements.specs.Elements.{Elements}
 use Rattle.located.proofs.Paths.{LeadsTo, LeadsNowhere}
@@ -20,11 +20,11 @@ module _ (a : FixedArray) (e : Elements) (s : ℕ) where
 
   module _ (n : never_stored a ≡ false) where
     -- the data block is refused, or has passed its test
-    pub block_refused : (r : Refusal) → fixed_block_test a ≡ Refused r → (fixed_located a e).tests s ≡ Refused r
+    pub block_refused : (r : Refusal) → fixed_block_test a ≡ Err r → (fixed_located a e).tests s ≡ Err r
     unfolding fixed_path_test ◌then◌
     block_refused r t = rw (n, t) refl
 
-    module _ (t : fixed_block_test a ≡ Passed) where
+    module _ (t : fixed_block_test a ≡ Ok tt) where
       pub in_block_lem : is_paged a.header ≡ false → LeadsTo (fixed_located a e) s (fixed_position a s)
       unfolding in_set_page fixed_reached fixed_path_test ◌then◌
       in_block_lem q = record { tested = rw (n, t, q) refl; reach = rw (n, q) refl; position = refl }
@@ -36,10 +36,10 @@ module _ (a : FixedArray) (e : Elements) (s : ℕ) where
         in_clear b = record { tested = rw (n, t, q, b) refl; reach = rw (n, q, b) refl }
 
         module _ (b : fixed_page_set a (page_of_slot a.header s) ≡ true) where
-          pub in_page : fixed_page_test a (page_of_slot a.header s) ≡ Passed → LeadsTo (fixed_located a e) s (fixed_position a s)
+          pub in_page : fixed_page_test a (page_of_slot a.header s) ≡ Ok tt → LeadsTo (fixed_located a e) s (fixed_position a s)
           unfolding in_set_page fixed_reached fixed_path_test ◌then◌
           in_page d = record { tested = rw (n, t, q, b, d) refl; reach = rw (n, q, b) refl; position = refl }
 
-          pub page_refused : (r : Refusal) → fixed_page_test a (page_of_slot a.header s) ≡ Refused r → (fixed_located a e).tests s ≡ Refused r
+          pub page_refused : (r : Refusal) → fixed_page_test a (page_of_slot a.header s) ≡ Err r → (fixed_located a e).tests s ≡ Err r
           unfolding in_set_page fixed_path_test ◌then◌
           page_refused r d = rw (n, t, q, b, d) refl

@@ -4,7 +4,7 @@ use mathlib.Core.Path.{◌≡◌}
 use mathlib.Core.Bool.{false}
 use native.Mathlib.Omega.{arith}
 use lib.ListN.{length}
-use Rattle.refusal.specs.declared.Checked.TheVariants.{Passed}
+use Rattle.std.specs.Prelude.{Ok}
 use Rattle.fa_geometry.specs.Layout.{fixed_stride, is_paged, fixed_element_at, fixed_block_extent, page_entries, fixed_page_extent, fixed_tested_extent}
 use Rattle.fa_blocks.specs.FixedArray.{FixedArray, fixed_block_at}
 use Rattle.fa_blocks.specs.Blocks.{fixed_block_test, fixed_page_test, fixed_page_position}
@@ -12,13 +12,13 @@ use Rattle.fa_blocks.proofs.FixedBlocks.{block_inside, page_inside}
 
 module _ (a : FixedArray) where
   -- those of an unpaged data block
-  pub elements_inside : fixed_block_test a ≡ Passed → is_paged a.header ≡ false
+  pub elements_inside : fixed_block_test a ≡ Ok tt → is_paged a.header ≡ false
       → fixed_block_at a + fixed_element_at a.header a.offset_size 0 + a.header.num_elements * fixed_stride a.header a.offset_size ≤ length a.file
   unfolding fixed_tested_extent fixed_block_extent fixed_element_at
   elements_inside t q = let x = block_inside a t in let y = rw q at x in omega arith
 
   -- and of a page
-  pub entries_inside : (p : ℕ) → fixed_page_test a p ≡ Passed
+  pub entries_inside : (p : ℕ) → fixed_page_test a p ≡ Ok tt
       → fixed_page_position a p + page_entries a.header p * fixed_stride a.header a.offset_size ≤ length a.file
   unfolding fixed_page_extent
   entries_inside p t = let x = page_inside a p t in omega arith

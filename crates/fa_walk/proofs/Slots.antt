@@ -4,7 +4,7 @@ use Prim.Native.Nat.{ℕ, ◌+◌, ◌*◌, ◌<◌}
 use mathlib.Core.Path.{◌≡◌, ap, subst, ◌∙◌}
 use mathlib.Core.Bool.{true, false}
 use native.Mathlib.Omega.{arith}
-use Rattle.refusal.specs.declared.Checked.TheVariants.{Passed}
+use Rattle.std.specs.Prelude.{Ok}
 use Rattle.element_form.specs.Form.{stride}
 use Rattle.elements.specs.Elements.{Elements}
 use Rattle.elements.proofs.Induction.{PagesAt}
@@ -39,7 +39,7 @@ module _ (a : FixedArray) (e : Elements) (form : fixed_form a.header a.offset_si
   unfolding fixed_position fixed_page_position
   paged_at_lem p i lt q = let x = paged_place a.header p i lt a.offset_size q in rw (← form) (omega arith)
 
-  module _ (n : never_stored a ≡ false) (t : fixed_block_test a ≡ Passed) where
+  module _ (n : never_stored a ≡ false) (t : fixed_block_test a ≡ Ok tt) where
     pub block_slots_lem : is_paged a.header ≡ false → (i : ℕ) → Lead (0 + i) (element_at i)
     block_slots_lem q i =
         let z : i ≡ 0 + i = omega arith in
@@ -57,7 +57,7 @@ module _ (a : FixedArray) (e : Elements) (form : fixed_form a.header a.offset_si
         pub clear_slot : fixed_page_set a p ≡ false → Miss slot
         clear_slot b = in_clear a e slot n t q (ap (fixed_page_set a) of_page ∙ b)
 
-        pub set_slot : fixed_page_set a p ≡ true → fixed_page_test a p ≡ Passed → Lead slot (paged_at p i)
+        pub set_slot : fixed_page_set a p ≡ true → fixed_page_test a p ≡ Ok tt → Lead slot (paged_at p i)
         set_slot b d =
             subst (Lead slot) (paged_at_lem p i lt q) (in_page a e slot n t q (ap (fixed_page_set a) of_page ∙ b) (ap (fixed_page_test a) of_page ∙ d))
 

@@ -2,8 +2,7 @@
 -- chunk, in slot order, and the path to each slot is accepted with the slot's record. Assumes nothing.
 use mathlib.Core.Path.{◌≡◌}
 use mathlib.Core.List.{List}
-use Rattle.refusal.specs.declared.Checked.TheVariants.{Passed}
-use Rattle.refusal.specs.Outcome.{accepted}
+use Rattle.std.specs.Prelude.{Ok}
 use Rattle.refusal.proofs.Outcomes.{yields_inv}
 use Rattle.index.specs.Index.{Rec}
 use Rattle.elements.specs.Elements.{Elements}
@@ -15,11 +14,11 @@ use Rattle.fa_walk.specs.Walk.{fixed_located, fixed_walk}
 use Rattle.fa_walk.proofs.Induction.{walk_kept}
 
 module _ (a : FixedArray) (e : Elements) where
-  pub walk-served : (l : List Rec) → fixed_walk a e ≡ accepted l → fixed_served_test a.header ≡ Passed
+  pub walk-served : (l : List Rec) → fixed_walk a e ≡ Ok l → fixed_served_test a.header ≡ Ok tt
   unfolding fixed_walk
   walk-served l h = (yields_inv _ _ l h).0
 
   pub walk_right : fixed_form a.header a.offset_size ≡ e.form → e.count ≡ a.header.num_elements
-      → (l : List Rec) → fixed_walk a e ≡ accepted l → Right (fixed_located a e) 0 l
+      → (l : List Rec) → fixed_walk a e ≡ Ok l → Right (fixed_located a e) 0 l
   walk_right form count =
       walk_kept a e form count (right_steps (fixed_located a e)) (λ s h l x. right_end (fixed_located a e) s l h x) (λ p lt b. tt) tt tt

@@ -1,8 +1,7 @@
 -- The list of a fixed array: which test comes when, and which records it gives; and the lookup.
-use Rattle.std.specs.Prelude.{ℕ, ◌+◌, cond, List, []}
-use Rattle.std.proofs.Math.Option.{Option}
-use Rattle.refusal.specs.Refusals.{◌then◌}
-use Rattle.refusal.specs.Outcome.{Outcome, accepted, ◌yields◌}
+use Rattle.std.specs.Prelude.{ℕ, ◌+◌, cond, List, [], Ok, Option}
+use Rattle.refusal.specs.Refusals.{◌then◌, Outcome}
+use Rattle.refusal.specs.Outcome.{◌yields◌}
 use Rattle.chunk_grid.specs.Grid.{Grid, grid_test, corner_test, slot_of}
 use Rattle.index.specs.Index.{Rec, Listing}
 use Rattle.elements.specs.Elements.{Elements}
@@ -32,15 +31,15 @@ fixed_located a e = record {
 -- the elements of the data block, or its pages
 unfoldable pub fixed_in_block : FixedArray → Elements → Listing
 fixed_in_block a e =
-    cond (is_paged a.header) (pages_from e (fixed_pages_of a) (fixed_pages a.header) 0 0 (accepted []))
+    cond (is_paged a.header) (pages_from e (fixed_pages_of a) (fixed_pages a.header) 0 0 (Ok []))
     (elements_from e (fixed_block_at a + fixed_element_at a.header a.offset_size 0) a.header.num_elements 0
-    (accepted []))
+    (Ok []))
 
 -- 27; nothing where nothing was ever stored; the data block, its elements or its pages in slot order
 unfoldable pub fixed_walk : FixedArray → Elements → Listing
 fixed_walk a e =
     fixed_served_test a.header
-    yields cond (never_stored a) (accepted []) (fixed_block_test a yields fixed_in_block a e)
+    yields cond (never_stored a) (Ok []) (fixed_block_test a yields fixed_in_block a e)
 
 -- List: 3 to 8, then 27 and the walk.
 unfoldable pub fixed_list : FixedArray → Elements → Listing

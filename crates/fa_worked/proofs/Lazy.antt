@@ -6,13 +6,13 @@ use mathlib.Core.Bool.{false}
 use mathlib.Core.List.Memᴰ
 use mathlib.Core.List.{List, [], ◌∷◌, map, Memᴰ}
 use mathlib.Core.Logic.{⊎_elim}
-use mathlib.Core.Option.{none, some}
 use native.Mathlib.Omega.{arith}
 use borrow.Author.Tests.{eq-eqb}
 use lib.Dec.{eqb}
 use lib.ListN.{get_or, take, replicate}
+use Rattle.std.specs.Prelude.{Err, None, Ok, Some}
 use Rattle.refusal.specs.declared.Refusal.{Refusal}
-use Rattle.refusal.specs.Outcome.{refused, accepted}
+use Rattle.refusal.specs.Values.{number_of}
 use Rattle.refusal.proofs.Tests.{false_true, neither}
 use Rattle.refusal.proofs.Outcomes.{never}
 use Rattle.chunk_grid.specs.Grid.{any}
@@ -50,7 +50,7 @@ unfolding opened P.file P.grid P.call_on
 four_stored = record { chunk = refl; slot = refl; published = omega arith; holds = refl }
 
 -- what is listed
-chunks_listed : (l : List Rec) → list_of P.call ≡ accepted l → Memᴰ four l
+chunks_listed : (l : List Rec) → list_of P.call ≡ Ok l → Memᴰ four l
 unfolding P.chunks
 chunks_listed l h =
     let e : l ≡ P.chunks = cc (Pages.listed) in rw e (Memᴰ.tail (Memᴰ.head refl))
@@ -63,20 +63,20 @@ without_four l h = (
 )
 
 -- All pages treated as unset.
-unset_is : pages_unset P.call ≡ accepted []
+unset_is : pages_unset P.call ≡ Ok []
 unfolding opened P.file P.grid P.call_on pages_unset
 unset_is = refl
 
-pub pages_unset_lem : (l : List Rec) → pages_unset P.call ≡ accepted l → Excluded P.call l
+pub pages_unset_lem : (l : List Rec) → pages_unset P.call ≡ Ok l → Excluded P.call l
 unfolding any
 pages_unset_lem l h = let e : l ≡ [] = cc (unset_is) in without_four l (rw e refl)
 
 -- Ended at the first clear page.
-ended_is : ended_at_clear P.call ≡ accepted (P.record_at_slot 0 (0 ∷ 0 ∷ []) ∷ [])
+ended_is : ended_at_clear P.call ≡ Ok (P.record_at_slot 0 (0 ∷ 0 ∷ []) ∷ [])
 unfolding opened P.file P.grid P.call_on ended_at_clear until_clear
 ended_is = refl
 
-pub ended_at_clear_lem : (l : List Rec) → ended_at_clear P.call ≡ accepted l → Excluded P.call l
+pub ended_at_clear_lem : (l : List Rec) → ended_at_clear P.call ≡ Ok l → Excluded P.call l
 unfolding any
 ended_at_clear_lem l h = let e : l ≡ P.record_at_slot 0 (0 ∷ 0 ∷ []) ∷ [] = cc (ended_is) in without_four l (rw e refl)
 
@@ -95,19 +95,19 @@ always_nine_lem needed h = never _ U.chunks (sym h ∙ Unpaged.fits)
 
 -- 9 without the walk: it refuses.
 pub nine_unwalked : (needed : ℕ) → list_in (P.call_on (take 100 P.file)) 0 ≡ always_nine needed → ⊥
-unfolding opened P.file P.grid P.call_on
+unfolding number_of opened P.file P.grid P.call_on
 nine_unwalked needed h = let z : ◌≡◌ {A = ℕ} 20 9 = ap number h in omega arith
   where
     number : Listing → ℕ
-    number (refused r) = r.number
-    number (accepted l) = 0
+    number (Err r) = number_of r
+    number (Ok l) = 0
 
 -- Absent first thing: not the lookup, and no answer.
 pub always_absent_lem : lookup_in P.call (10 ∷ 5 ∷ []) ≡ always_absent → ⊥
 unfolding opened P.file P.grid P.call_on
-always_absent_lem h = none_some four (some_is none (some four) (sym h))
+always_absent_lem h = none_some four (some_is None (Some four) (sym h))
 
-pub never_absent : Answers (index_in P.call) (10 ∷ 5 ∷ []) none → ⊥
+pub never_absent : Answers (index_in P.call) (10 ∷ 5 ∷ []) None → ⊥
 never_absent n = n 4 four.entry four_stored
 
 -- A right count over an unwritten list: the second byte is another.

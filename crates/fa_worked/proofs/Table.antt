@@ -2,9 +2,9 @@
 use Prim.Native.Nat.{ℕ}
 use mathlib.Core.Path.{◌≡◌, refl}
 use mathlib.Core.List.{map}
-use Rattle.refusal.specs.declared.Checked.{Checked}
 use Rattle.fa_worked.specs.Table.{sizes, tests}
 use Rattle.fa_worked.proofs.Opened.{opened}
+use Rattle.refusal.specs.Refusals.{Checked}
 
 pub sizes_agree : map (λ (r : ℕ × ℕ). r.0) sizes ≡ map (λ (r : ℕ × ℕ). r.1) sizes
 unfolding opened sizes

@@ -2,35 +2,35 @@
 use Prim.Native.Nat.{ℕ}
 use mathlib.Core.Path.{◌≡◌, refl}
 use mathlib.Core.List.{[], ◌∷◌, ◌++◌, map}
-use mathlib.Core.Option.{none, some}
 use lib.ListN.{length, replicate}
-use Rattle.refusal.specs.Outcome.{refused, accepted}
+use Rattle.std.specs.Prelude.{Err, None, Ok, Some}
 use Rattle.fields.specs.LittleEndian.{le_bytes}
 use Rattle.records.specs.Records.{list_content}
 use Rattle.fa_worked.specs.Files.{list_of, list_in, lookup_in, Case}
 use Rattle.fa_worked.specs.Unpaged.{file, grid, call_on, call, chunk, chunks, refusals}
 use Rattle.fa_worked.proofs.Opened.{opened}
+use Rattle.refusal.specs.declared.Refusal.TheVariants.{ListTooSmall}
 
 pub long : length file ≡ 51
 unfolding opened file
 long = refl
 
-pub listed : list_of call ≡ accepted chunks
+pub listed : list_of call ≡ Ok chunks
 unfolding opened file grid call_on chunks
 listed = refl
 
 -- slot 1 has an undefined address
 pub found : map (λ (x : ℕ). lookup_in call (x ∷ [])) (0 ∷ 10 ∷ 20 ∷ 30 ∷ [])
-    ≡ accepted (some (chunk 4096 0)) ∷ accepted none ∷ accepted (some (chunk 0xffff 20)) ∷ accepted (some (chunk 8192 30)) ∷ []
+    ≡ Ok (Some (chunk 4096 0)) ∷ Ok None ∷ Ok (Some (chunk 0xffff 20)) ∷ Ok (Some (chunk 8192 30)) ∷ []
 unfolding opened file grid call_on
 found = refl
 
 -- 72 bytes hold the three records, one byte fewer is 9; bytes behind the last record stay.
-pub fits : list_in call 72 ≡ accepted chunks
+pub fits : list_in call 72 ≡ Ok chunks
 unfolding opened file grid call_on chunks
 fits = refl
 
-pub too_small : list_in call 71 ≡ refused (record { number = 9; first = 3; second = 0 })
+pub too_small : list_in call 71 ≡ Err (ListTooSmall 3)
 unfolding opened file grid call_on
 too_small = refl
 
@@ -42,16 +42,16 @@ pub written : list_content (list_in call 74) (replicate 74 7)
 unfolding opened file grid call_on
 written = refl
 
-pub refuses : map (λ (x : Case). list_of x.call) refusals ≡ map (λ (x : Case). refused x.refusal) refusals
+pub refuses : map (λ (x : Case). list_of x.call) refusals ≡ map (λ (x : Case). Err x.refusal) refusals
 unfolding opened file grid call_on refusals
 refuses = refl
 
-pub tested : map (λ (x : Case). lookup_in x.call (30 ∷ [])) refusals ≡ map (λ (x : Case). refused x.refusal) refusals
+pub tested : map (λ (x : Case). lookup_in x.call (30 ∷ [])) refusals ≡ map (λ (x : Case). Err x.refusal) refusals
 unfolding opened file grid call_on refusals
 tested = refl
 
 -- ten elements of the largest size that a chunk's bytes can have
 pub largest : lookup_in (call_on file 429_496_729) (30 ∷ [])
-    ≡ accepted (some (record { entry = record { address = 8192; size = 4_294_967_290; mask = 0 }; corner = 30 ∷ [] }))
+    ≡ Ok (Some (record { entry = record { address = 8192; size = 4_294_967_290; mask = 0 }; corner = 30 ∷ [] }))
 unfolding opened file grid call_on
 largest = refl

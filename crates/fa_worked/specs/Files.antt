@@ -1,8 +1,8 @@
 -- Calls on small files. Their checksum is the sum of the bytes, which a proof can compute.
-use Rattle.std.specs.Prelude.{ℕ, ◌/◌, List, ◌++◌, replicate}
-use Rattle.std.proofs.Math.Option.{Option}
+use Rattle.std.specs.Prelude.{ℕ, ◌/◌, List, ◌++◌, replicate, Option}
+use Rattle.refusal.specs.Refusals.{Outcome}
 use Rattle.refusal.specs.declared.Refusal.{Refusal}
-use Rattle.refusal.specs.Outcome.{Outcome, ◌yields◌, in_room}
+use Rattle.refusal.specs.Outcome.{◌yields◌, in_room}
 use Rattle.fields.specs.LittleEndian.{le_bytes}
 use Rattle.chunk_grid.specs.Grid.{total}
 use Rattle.calls.specs.Call.{Call}
@@ -63,6 +63,5 @@ pub record Case : Type 0 where
   pub call : Call
   pub refusal : Refusal
 
-abbrev pub refusing : Call → ℕ → ℕ → ℕ → Case
-refusing c number first second =
-    record { call = c; refusal = record { number = number; first = first; second = second } }
+abbrev pub refusing : Call → Refusal → Case
+refusing c r = record { call = c; refusal = r }

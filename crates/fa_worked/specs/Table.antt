@@ -1,8 +1,7 @@
 -- Worked values of arrays that are too large for a small file: what the definitions compute, and the value.
-use Rattle.std.specs.Prelude.{ℕ, ◌-◌, ◌^◌, List, [], ◌∷◌}
-use Rattle.refusal.specs.declared.Checked.{Checked}
-use Rattle.refusal.specs.declared.Checked.TheVariants.{Refused}
-use Rattle.refusal.specs.Refusals.{largest64}
+use Rattle.std.specs.Prelude.{ℕ, ◌-◌, ◌^◌, List, [], ◌∷◌, Err}
+use Rattle.refusal.specs.declared.Refusal.TheVariants.{PastEnd, SpanOverflow}
+use Rattle.refusal.specs.Refusals.{largest64, Checked}
 use Rattle.fa_header.specs.declared.FixedArrayHeader.{FixedArrayHeader}
 use Rattle.fa_header.specs.Header.{fixed_header_bytes}
 use Rattle.fa_geometry.specs.Layout.{fixed_pages, fixed_page_at, fixed_page_extent, fixed_place, fixed_tested_extent}
@@ -35,9 +34,6 @@ filtered entries address =
       data_block_address = address;
     }) 8
 
-abbrev pub refusal : ℕ → ℕ → ℕ → Checked
-refusal number first second = Refused (record { number = number; first = first; second = second })
-
 unfoldable pub sizes : List (ℕ × ℕ)
 sizes =
     -- O = L = 8: a header has 28 bytes,
@@ -66,9 +62,10 @@ unfoldable pub tests : List (Checked × Checked)
 tests =
     -- 2^64 − 1 is 17 times 1,085,102,592,571,150,095: that page ends past it, the next one's number times the stride
     -- passes it.
-    (fixed_page_test (filtered largest64 0) 1_085_102_592_571_150_095 is refusal 20 largest64 0)
-    ∷ (fixed_page_test (filtered largest64 0) 1_085_102_592_571_150_096 is refusal 31 1_085_102_592_571_150_096 17)
+    (fixed_page_test (filtered largest64 0) 1_085_102_592_571_150_095 is Err (PastEnd largest64 0))
+    ∷ (fixed_page_test (filtered largest64 0) 1_085_102_592_571_150_096
+    is Err (SpanOverflow 1_085_102_592_571_150_096 17))
     -- The data block's first 14 bytes end past 2^64 − 1, or at 14.
-    ∷ (fixed_block_test (filtered 1 (2 ^ 64 - 2)) is refusal 20 largest64 0)
-    ∷ (fixed_block_test (filtered 1 0) is refusal 20 14 0)
+    ∷ (fixed_block_test (filtered 1 (2 ^ 64 - 2)) is Err (PastEnd largest64 0))
+    ∷ (fixed_block_test (filtered 1 0) is Err (PastEnd 14 0))
     ∷ []

@@ -1,6 +1,7 @@
 -- A file of 51 bytes with an unpaged data block: O = 4, L = 2, header at 3, data block at 21, unfiltered, page exponent
 -- 2, 4 entries, which are as many as a page has elements.
 use Rattle.std.specs.Prelude.{ℕ, false, List, [], ◌∷◌, ◌++◌, replicate, take, set}
+use Rattle.refusal.specs.declared.Refusal.TheVariants.{PastEnd, Checksum, Size, FixedDataBlockSignature}
 use Rattle.fields.specs.LittleEndian.{le_bytes}
 use Rattle.chunk_grid.specs.Grid.{Grid}
 use Rattle.calls.specs.Call.{Call, call_of}
@@ -46,9 +47,9 @@ chunks = chunk 4096 0 ∷ chunk 0xffff 20 ∷ chunk 8192 30 ∷ []
 -- size of a chunk.
 unfoldable pub refusals : List Case
 refusals =
-    refusing (call_on (take 30 file) 4) 20 31 30
-    ∷ refusing (call_on (set file 21 0) 4) 35 0 0
-    ∷ refusing (call_on (take 50 file) 4) 20 51 50
-    ∷ refusing (call_on (set file 47 0x3b) 4) 26 1851 1850
-    ∷ refusing (call_on file 429_496_730) 30 4_294_967_300 0
+    refusing (call_on (take 30 file) 4) (PastEnd 31 30)
+    ∷ refusing (call_on (set file 21 0) 4) FixedDataBlockSignature
+    ∷ refusing (call_on (take 50 file) 4) (PastEnd 51 50)
+    ∷ refusing (call_on (set file 47 0x3b) 4) (Checksum 1851 1850)
+    ∷ refusing (call_on file 429_496_730) (Size 4_294_967_300)
     ∷ []

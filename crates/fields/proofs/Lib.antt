@@ -3,4 +3,3 @@ pub mod Stored
 pub mod Numbers
 pub mod Widths
 pub mod Fields
-pub mod Numbered

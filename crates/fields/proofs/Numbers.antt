@@ -3,29 +3,26 @@ use mathlib.Core.Path.{◌≡◌, refl}
 use mathlib.Core.Bool.{Bool, true, false}
 use Prim.Native.Nat.{ℕ, zero, suc, ◌+◌, ◌*◌, ◌^◌, ◌-◌, ◌<◌, ◌≤◌, min}
 use mathlib.Core.Logic.{◌⊎◌, inl, inr, ⊎_elim}
+use Rattle.std.specs.Prelude.{Err, None, Ok, Option, Some, SomeIff, is_some, unwrap_or}
+use Rattle.refusal.specs.declared.Refusal.TheVariants.{Size}
 use Rattle.refusal.proofs.Tests.{lt_or_ge}
 use native.Mathlib.Omega.{arith}
 use lib.Dec.{leb}
 use borrow.Author.Tests.{le-leb, lt-leb, lt-ltb, le-ltb, leb-true, leb-false}
-use Rattle.refusal.specs.declared.Refusal.{Refusal}
-use Rattle.refusal.specs.declared.Checked.{Checked}
-use Rattle.refusal.specs.declared.Checked.TheVariants.{Passed, Refused}
 use Rattle.refusal.specs.Refusals.{refuse, figure, largest64}
-use Rattle.refusal.specs.Outcome.{accepted, ◌yields◌}
-use Rattle.fields.specs.declared.convert.Exact.TheVariants.{Fits, Overflows}
-use Rattle.fields.specs.declared.convert.Narrowed.TheVariants.{Value, Refused as NarrowedRefused}
-use Rattle.fields.specs.Values.{exact, narrowed, narrowed_of}
+use Rattle.refusal.specs.Outcome.{◌yields◌}
+use Rattle.fields.specs.Values.{exact, narrowed}
 use Rattle.fields.specs.Fields.{size_test}
 
-pub fits : (n : ℕ) → n ≤ largest64 → Fits n ≡ exact n
+pub fits : (n : ℕ) → n ≤ largest64 → Some n ≡ exact n
 unfolding exact
 fits n h = simp (le-leb n largest64 h)
 
-pub overflows : (n : ℕ) → largest64 < n → Overflows ≡ exact n
+pub overflows : (n : ℕ) → largest64 < n → None ≡ exact n
 unfolding exact
 overflows n h = simp (lt-leb n largest64 h)
 
-pub fits_is : (n v : ℕ) → Fits v ≡ exact n → (v ≡ n) × (n ≤ largest64)
+pub fits_is : (n v : ℕ) → Some v ≡ exact n → (v ≡ n) × (n ≤ largest64)
 unfolding exact
 fits_is n v h = go (leb n largest64) refl
   where
@@ -33,7 +30,7 @@ fits_is n v h = go (leb n largest64) refl
     go true e = (cc (simp e at h), leb-true n largest64 e)
     go false e = let z : ◌≡◌ {A = ℕ} 0 1 = cc (simp e at h) in absurd (omega arith)
 
-pub overflows_is : (n : ℕ) → Overflows ≡ exact n → largest64 < n
+pub overflows_is : (n : ℕ) → None ≡ exact n → largest64 < n
 unfolding exact
 overflows_is n h = go (leb n largest64) refl
   where
@@ -41,37 +38,46 @@ overflows_is n h = go (leb n largest64) refl
     go true e = let z : ◌≡◌ {A = ℕ} 0 1 = cc (simp e at h) in absurd (omega arith)
     go false e = leb-false n largest64 e
 
+-- what std's checked sums and products answer
+pub checked_exact : (r : Option ℕ) (n : ℕ) → SomeIff r (n < 2 ^ 64) n → r ≡ exact n
+checked_exact None n past = overflows n (⊎_elim (λ (lt : largest64 < n). lt) (λ (le : n ≤ largest64). absurd (past (omega arith))) (lt_or_ge largest64 n))
+checked_exact (Some v) n s = rw s.1 (fits n (omega (arith, s.0)))
+
 -- what is more than a number past 2^64 − 1 is past it too
-pub overflows_more : (n m : ℕ) → n ≤ m → Overflows ≡ exact n → Overflows ≡ exact m
+pub overflows_more : (n m : ℕ) → n ≤ m → None ≡ exact n → None ≡ exact m
 overflows_more n m le h = overflows m (omega (arith, overflows_is n h))
 
 -- the figure of a number that 64 bits hold, or not
-pub figure-fits : (n v : ℕ) → Fits v ≡ exact n → v ≡ figure n
+pub figure-fits : (n v : ℕ) → Some v ≡ exact n → v ≡ figure n
 unfolding figure
 figure-fits n v h = omega (arith, fits_is n v h)
 
-pub figure-overflows : (n : ℕ) → Overflows ≡ exact n → largest64 ≡ figure n
+pub figure-overflows : (n : ℕ) → None ≡ exact n → largest64 ≡ figure n
 unfolding figure
 figure-overflows n h = omega (arith, overflows_is n h)
 
--- a number in 32 bits, from its test and back
-pub narrow : (n : ℕ) → n ≤ 2 ^ 32 - 1 → Value n ≡ narrowed_of (narrowed n)
-unfolding narrowed narrowed_of size_test refuse ◌yields◌
+-- .. as std answers it, and what stands in its place where they don't
+pub figure_of : (r : Option ℕ) (n : ℕ) → r ≡ exact n → unwrap_or r largest64 ≡ figure n
+figure_of None n e = figure-overflows n e
+figure_of (Some v) n e = figure-fits n v e
+
+-- whether 64 bits hold a number
+pub none_past : (r : Option ℕ) (n : ℕ) → r ≡ exact n → is_some r ≡ false → largest64 < n
+none_past None n e t = overflows_is n e
+none_past (Some v) n e t = let z : ◌≡◌ {A = ℕ} 0 1 = cc in absurd (omega arith)
+
+pub some_fits : (r : Option ℕ) (n : ℕ) → r ≡ exact n → is_some r ≡ true → n ≤ largest64
+some_fits None n e t = let z : ◌≡◌ {A = ℕ} 0 1 = cc in absurd (omega arith)
+some_fits (Some v) n e t = (fits_is n v e).1
+
+-- a number in 32 bits
+pub narrow : (n : ℕ) → n ≤ 2 ^ 32 - 1 → Ok n ≡ narrowed n
+unfolding narrowed size_test refuse ◌yields◌
 narrow n h = simp (le-ltb (2 ^ 32 - 1) n h)
 
-pub too_wide : (n : ℕ) → 2 ^ 32 - 1 < n → n ≤ largest64 → NarrowedRefused (record { number = 30; first = n; second = 0 }) ≡ narrowed_of (narrowed n)
-unfolding narrowed narrowed_of size_test refuse ◌yields◌ figure
+pub too_wide : (n : ℕ) → 2 ^ 32 - 1 < n → n ≤ largest64 → Err (Size n) ≡ narrowed n
+unfolding narrowed size_test refuse ◌yields◌ figure
 too_wide n h fit = let e : figure n ≡ n = omega arith in simp (lt-ltb (2 ^ 32 - 1) n h, e)
-
-pub narrow_is : (t : Checked) (n v : ℕ) → Value v ≡ narrowed_of (t yields accepted n) → (Passed ≡ t) × (v ≡ n)
-unfolding narrowed_of ◌yields◌
-narrow_is Passed n v h = (refl, cc)
-narrow_is (Refused r) n v h = (cc, cc)
-
-pub too_wide_is : (t : Checked) (n : ℕ) (r : Refusal) → NarrowedRefused r ≡ narrowed_of (t yields accepted n) → Refused r ≡ t
-unfolding narrowed_of ◌yields◌
-too_wide_is Passed n r h = cc
-too_wide_is (Refused q) n r h = cc
 
 -- a summand past 2^64 − 1 may be given as 2^64 − 1
 pub figure_add : (a b : ℕ) → figure (figure a + b) ≡ figure (a + b)

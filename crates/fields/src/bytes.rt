@@ -4,26 +4,9 @@ ghost use Rattle.std.proofs.lemmas.List.Edits.{sets};
 ghost use Rattle.fields.specs.LittleEndian.{le_at, le_bytes};
 ghost use Rattle.fields.specs.Fields.{is_width, width_test, in_file, address_at};
 ghost use Rattle.fields.specs.Values.{field_test, offset_field, optional_offset_field, length_field, size_field};
-ghost use Rattle.fields.specs.Values.{field_of, optional_of};
 
 use crate::address::{Address, is_undefined_addr};
-use crate::convert::{Exact, checked_add, saturating_add};
-use refusal::{Checked, Refusal};
-
-// What reading a field finds: its number, or why it is not read.
-#[derive(Clone, Copy)]
-pub enum Field {
-    Value(u64),
-    Refused(Refusal),
-}
-
-// What reading an address finds that may be undefined.
-#[derive(Clone, Copy)]
-pub enum OptionalOffset {
-    Undefined,
-    At(u64),
-    Refused(Refusal),
-}
+use refusal::Refusal;
 
 // Whether an offset or length can be `width` bytes wide.
 pub fn is_width(width: u64) -> bool
@@ -36,96 +19,75 @@ pub fn is_width(width: u64) -> bool
 }
 
 // Tests that `needed` bytes from pos on lie in s: 20 where they don't.
-pub fn ensure_len(s: &[u8], pos: u64, needed: u64) -> Checked
+pub fn ensure_len(s: &[u8], pos: u64, needed: u64) -> Result<(), Refusal>
     ensures { result ≡ in_file s.now pos needed }
 {
     let len = s.len() as u64;
-    if let Exact::Fits(end) = checked_add(pos, needed) {
-        if end <= len {
-            return Checked::Passed;
-        }
+    let end = pos.saturating_add(needed);
+    if end <= len {
+        Ok(())
+    } else {
+        Err(Refusal::PastEnd(end, len))
     }
-    Checked::Refused(Refusal {
-        number: Refusal::PAST_END,
-        first: saturating_add(pos, needed),
-        second: len,
-    })
 }
 
-// Tests that an offset or length can be `width` bytes wide; where it can't, `number` is its refusal.
-pub fn ensure_width(width: u64, number: u64) -> Checked
-    ensures { result ≡ width_test number width }
+// Tests that an offset or length can be `width` bytes wide: `refusal` where it can't.
+pub fn ensure_width(width: u64, refusal: Refusal) -> Result<(), Refusal>
+    ensures { result ≡ width_test refusal width }
 {
     if is_width(width) {
-        return Checked::Passed;
+        Ok(())
+    } else {
+        Err(refusal)
     }
-    Checked::Refused(Refusal {
-        number,
-        first: width,
-        second: 0,
-    })
 }
 
 // The tests of an offset or length: its width, then that it lies in s.
-fn ensure_field(s: &[u8], pos: u64, width: u64, number: u64) -> Checked
-    ensures { result ≡ field_test number s.now pos width }
+fn ensure_field(s: &[u8], pos: u64, width: u64, refusal: Refusal) -> Result<(), Refusal>
+    ensures { result ≡ field_test refusal s.now pos width }
 {
-    match ensure_width(width, number) {
-        Checked::Passed => ensure_len(s, pos, width),
-        Checked::Refused(r) => Checked::Refused(r),
-    }
+    ensure_width(width, refusal)?;
+    ensure_len(s, pos, width)
 }
 
 // The address in the `width` bytes of s from pos on: 1 where no offset is so wide, 20 past the end.
-pub fn read_offset(s: &[u8], pos: u64, width: u64) -> Field
-    ensures { result ≡ field_of (offset_field s.now pos width) }
+pub fn read_offset(s: &[u8], pos: u64, width: u64) -> Result<u64, Refusal>
+    ensures { result ≡ offset_field s.now pos width }
 {
-    match ensure_field(s, pos, width, Refusal::OFFSET_SIZE) {
-        Checked::Passed => {
-            let a = read_address(s, pos as usize, width as usize);
-            Field::Value(a.value)
-        }
-        Checked::Refused(r) => Field::Refused(r),
-    }
+    ensure_field(s, pos, width, Refusal::OffsetSize(width))?;
+    let address = read_address(s, pos as usize, width as usize);
+    Ok(address.value)
 }
 
 // The same, where the address may be undefined.
-pub fn read_optional_offset(s: &[u8], pos: u64, width: u64) -> OptionalOffset
-    ensures { result ≡ optional_of (optional_offset_field s.now pos width) }
+pub fn read_optional_offset(s: &[u8], pos: u64, width: u64) -> Result<Option<u64>, Refusal>
+    ensures { result ≡ optional_offset_field s.now pos width }
 {
-    match read_offset(s, pos, width) {
-        Field::Value(value) => {
-            if is_undefined_addr(Address { value }, width) {
-                OptionalOffset::Undefined
-            } else {
-                OptionalOffset::At(value)
-            }
-        }
-        Field::Refused(r) => OptionalOffset::Refused(r),
+    let value = read_offset(s, pos, width)?;
+    if is_undefined_addr(Address { value }, width) {
+        Ok(None)
+    } else {
+        Ok(Some(value))
     }
 }
 
 // The length in the `width` bytes of s from pos on: 2 where no length is so wide, 20 past the end.
-pub fn read_length(s: &[u8], pos: u64, width: u64) -> Field
-    ensures { result ≡ field_of (length_field s.now pos width) }
+pub fn read_length(s: &[u8], pos: u64, width: u64) -> Result<u64, Refusal>
+    ensures { result ≡ length_field s.now pos width }
 {
-    match ensure_field(s, pos, width, Refusal::LENGTH_SIZE) {
-        Checked::Passed => Field::Value(read_le(s, pos as usize, width as usize)),
-        Checked::Refused(r) => Field::Refused(r),
-    }
+    ensure_field(s, pos, width, Refusal::LengthSize(width))?;
+    Ok(read_le(s, pos as usize, width as usize))
 }
 
 // The size in the `width` bytes of s from pos on: 29 over 8 bytes, 20 past the end.
-pub fn read_variable_length(s: &[u8], pos: u64, width: u64) -> Field
-    ensures { result ≡ field_of (size_field s.now pos width) }
+pub fn read_variable_length(s: &[u8], pos: u64, width: u64) -> Result<u64, Refusal>
+    ensures { result ≡ size_field s.now pos width }
 {
     if 8 < width {
-        return Field::Refused(Refusal::plain(Refusal::SIZE_FIELD));
+        return Err(Refusal::SizeField);
     }
-    match ensure_len(s, pos, width) {
-        Checked::Passed => Field::Value(read_le(s, pos as usize, width as usize)),
-        Checked::Refused(r) => Field::Refused(r),
-    }
+    ensure_len(s, pos, width)?;
+    Ok(read_le(s, pos as usize, width as usize))
 }
 
 // The address that is stored in the `width` bytes of s from pos on. No other function reads one.
@@ -144,17 +106,11 @@ pub fn read_le(s: &[u8], pos: usize, width: usize) -> u64
     ensures { (result ≡ le_at s.now pos width) × (result < 2 ^ (8 * width)) }
 {
     match width {
-        2 => read_u16_le(s, pos) as u64,
-        4 => read_u32_le(s, pos) as u64,
+        2 => u64::from(read_u16_le(s, pos)),
+        4 => u64::from(read_u32_le(s, pos)),
         8 => read_u64_le(s, pos),
         _ => read_le_bytes(s, pos, width),
     }
-}
-
-fn wide(b: u8) -> u64
-    ensures { (result ≡ b) × (result < 256) }
-{
-    b as u64
 }
 
 // The same, byte by byte.
@@ -165,11 +121,9 @@ fn read_le_bytes(s: &[u8], pos: usize, width: usize) -> u64
     ensures { (result ≡ le_at s.now pos width) × (result < 2 ^ (8 * width)) }
 {
     let mut v = 0u64;
-    let mut i = width;
     // v is the number in the bytes from pos + i to pos + width.
-    while 0 < i {
-        i -= 1;
-        v = v * 256 + wide(s[pos + i]);
+    for i in (0..width).rev() {
+        v = v * 256 + u64::from(s[pos + i]);
     }
     v
 }
@@ -179,17 +133,17 @@ fn read_u16_le(s: &[u8], pos: usize) -> u16
     requires { pos + 2 ≤ length s.now }
     ensures { result ≡ le_at s.now pos 2 }
 {
-    let low = wide(s[pos]);
-    let high = wide(s[pos + 1]);
-    (low + 0x100 * high) as u16
+    let low = u16::from(s[pos]);
+    let high = u16::from(s[pos + 1]);
+    low + 0x100 * high
 }
 
 pub fn read_u32_le(s: &[u8], pos: usize) -> u32
     requires { pos + 4 ≤ length s.now }
     ensures { result ≡ le_at s.now pos 4 }
 {
-    let low = read_u16_le(s, pos) as u32;
-    let high = read_u16_le(s, pos + 2) as u32;
+    let low = u32::from(read_u16_le(s, pos));
+    let high = u32::from(read_u16_le(s, pos + 2));
     low + 0x1_0000 * high
 }
 
@@ -197,8 +151,8 @@ pub fn read_u64_le(s: &[u8], pos: usize) -> u64
     requires { pos + 8 ≤ length s.now }
     ensures { result ≡ le_at s.now pos 8 }
 {
-    let low = read_u32_le(s, pos) as u64;
-    let high = read_u32_le(s, pos + 4) as u64;
+    let low = u64::from(read_u32_le(s, pos));
+    let high = u64::from(read_u32_le(s, pos + 4));
     low + 0x1_0000_0000 * high
 }
 
@@ -223,11 +177,9 @@ pub fn put_le(s: &mut [u8], pos: usize, width: usize, value: u64)
     ensures { s.new ≡ sets s.old pos (le_bytes width value) }
 {
     let mut rest = value;
-    let mut i = 0;
     // The lowest i bytes are stored, and `rest` is the number without them.
-    while i < width {
+    for i in 0..width {
         s[pos + i] = (rest % 256) as u8;
-        rest = rest / 256;
-        i += 1;
+        rest /= 256;
     }
 }

@@ -3,23 +3,21 @@
 // positions near 2^64, all bits set at each width and one less.
 use check_lines::print_refusal;
 use fields::address::{Address, is_undefined_addr};
-use fields::bytes::{Field, OptionalOffset};
-use fields::convert::{Exact, Narrowed};
-use refusal::Checked;
+use refusal::Refusal;
 use std::io;
 
-fn print_field(rt: &impl Print, f: Field) -> io::Result<()> {
-    match f {
-        Field::Value(n) => print!(rt; " {n}"),
-        Field::Refused(r) => print_refusal(rt, r),
+fn print_field(rt: &impl Print, field: Result<u64, Refusal>) -> io::Result<()> {
+    match field {
+        Ok(n) => print!(rt; " {n}"),
+        Err(r) => print_refusal(rt, r),
     }
 }
 
-fn print_optional(rt: &impl Print, o: OptionalOffset) -> io::Result<()> {
-    match o {
-        OptionalOffset::Undefined => print!(rt; " undefined"),
-        OptionalOffset::At(a) => print!(rt; " {a}"),
-        OptionalOffset::Refused(r) => print_refusal(rt, r),
+fn print_optional(rt: &impl Print, field: Result<Option<u64>, Refusal>) -> io::Result<()> {
+    match field {
+        Ok(None) => print!(rt; " undefined"),
+        Ok(Some(address)) => print!(rt; " {address}"),
+        Err(r) => print_refusal(rt, r),
     }
 }
 
@@ -40,8 +38,8 @@ fn print_readers(rt: &impl Print, s: &[u8], pos: u64, width: u64) -> io::Result<
 fn print_ensured(rt: &impl Print, s: &[u8], pos: u64, needed: u64) -> io::Result<()> {
     print!(rt; "ensure {} {pos} {needed}:", s.len())?;
     match fields::bytes::ensure_len(s, pos, needed) {
-        Checked::Passed => print!(rt; " passed")?,
-        Checked::Refused(r) => print_refusal(rt, r)?,
+        Ok(()) => print!(rt; " passed")?,
+        Err(r) => print_refusal(rt, r)?,
     }
     println!(rt)
 }
@@ -106,27 +104,27 @@ fn print_bytes(rt: &impl Print, s: &[u8]) -> io::Result<()> {
     Ok(())
 }
 
-fn print_exact(rt: &impl Print, e: Exact) -> io::Result<()> {
-    match e {
-        Exact::Fits(n) => print!(rt; " {n}"),
-        Exact::Overflows => print!(rt; " overflows"),
+fn print_exact(rt: &impl Print, exact: Option<u64>) -> io::Result<()> {
+    match exact {
+        Some(n) => print!(rt; " {n}"),
+        None => print!(rt; " overflows"),
     }
 }
 
 // Sum and product of two numbers, each checked and saturating.
 fn print_sums(rt: &impl Print, a: u64, b: u64) -> io::Result<()> {
     print!(rt; "sum {a} {b}:")?;
-    print_exact(rt, fields::convert::checked_add(a, b))?;
-    print!(rt; " {}", fields::convert::saturating_add(a, b))?;
-    print_exact(rt, fields::convert::checked_mul(a, b))?;
-    println!(rt; " {}", fields::convert::saturating_mul(a, b))
+    print_exact(rt, a.checked_add(b))?;
+    print!(rt; " {}", a.saturating_add(b))?;
+    print_exact(rt, a.checked_mul(b))?;
+    println!(rt; " {}", a.saturating_mul(b))
 }
 
 fn print_narrowed(rt: &impl Print, value: u64) -> io::Result<()> {
     print!(rt; "narrow {value}:")?;
     match fields::convert::u32_from(value) {
-        Narrowed::Value(n) => print!(rt; " {n}")?,
-        Narrowed::Refused(r) => print_refusal(rt, r)?,
+        Ok(n) => print!(rt; " {n}")?,
+        Err(r) => print_refusal(rt, r)?,
     }
     println!(rt)
 }

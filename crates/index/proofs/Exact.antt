@@ -3,12 +3,11 @@
 use Prim.Native.Nat.{ℕ, zero, suc, ◌+◌, ◌<◌, ◌≤◌}
 use mathlib.Core.Path.{◌≡◌, refl, sym, ◌∙◌}
 use mathlib.Core.List.{List}
-use mathlib.Core.Option.{Option, none, some}
 use native.Mathlib.Omega.{arith}
 use lib.ListN.{length}
+use Rattle.std.specs.Prelude.{None, Option, Some}
 use Rattle.refusal.specs.Refusals.{largest64}
 use Rattle.chunk_grid.specs.Grid.{slot_of}
-use Rattle.chunk_grid.specs.declared.Slot.TheVariants.{At}
 use Rattle.chunk_grid.proofs.Grids.{Accepted}
 use Rattle.chunk_grid.proofs.Chunks.{chunk_at_slot, slot_chunk_at}
 use Rattle.index.specs.declared.Entry.{Entry}
@@ -17,31 +16,31 @@ use Rattle.index.specs.SlotRecords.{record_of, record_at, with, records}
 use Rattle.index.specs.ExactList.{Stored, Used, Tally, hit, miss, end, Rising, ExactList}
 use Rattle.index.proofs.Records.{none_some, record_at_lem, listed, whole}
 
-at_is : (s t : ℕ) → At s ≡ At t → s ≡ t
+at_is : (s t : ℕ) → Some s ≡ Some t → s ≡ t
 at_is s t h = cc
 
 -- a stored chunk's slot has its record
 pub stored_record : (i : Index) → Accepted i.grid → (corner : List ℕ) (s : ℕ) (e : Entry) → Stored i corner s e
-    → record_at i s ≡ some (record { entry = e; corner = corner })
+    → record_at i s ≡ Some (record { entry = e; corner = corner })
 unfolding record_at record_of
 stored_record i b corner s e h = rw (h.holds, slot_chunk_at i.grid b corner s h.chunk h.slot) refl
 
 -- a count that 64 bits hold
 module _ (i : Index) (b : Accepted i.grid) (ranked : 0 < i.grid.rank) (fits : i.count ≤ largest64) where
-  stored : (t : ℕ) (r : Rec) → t < i.count → record_at i t ≡ some r → Stored i r.corner t r.entry
+  stored : (t : ℕ) (r : Rec) → t < i.count → record_at i t ≡ Some r → Stored i r.corner t r.entry
   stored t r lt h =
       let p = record_at_lem i t r h in
       let k = chunk_at_slot i.grid b t r.corner ranked (omega arith) p.1 in
       record { chunk = k.0; slot = k.1; published = lt; holds = p.0 }
 
-  slot_is : (t s : ℕ) (r : Rec) → t < i.count → record_at i t ≡ some r → slot_of i.grid r.corner ≡ At s → s ≡ t
+  slot_is : (t s : ℕ) (r : Rec) → t < i.count → record_at i t ≡ Some r → slot_of i.grid r.corner ≡ Some s → s ≡ t
   slot_is t s r lt h e = at_is s t (sym e ∙ (stored t r lt h).slot)
 
   rising_with : (s m : ℕ) (x : Option Rec) → s + suc m ≤ i.count → record_at i s ≡ x → Rising i (records i (s + 1) m)
       → Rising i (with x (records i (s + 1) m))
   unfolding with
-  rising_with s m none lt e h = h
-  rising_with s m (some r) lt e h = (
+  rising_with s m None lt e h = h
+  rising_with s m (Some r) lt e h = (
     (λ q k a b' p p'.
         let f = listed i m (s + 1) q k in
         let y = slot_is s a r (omega arith) e p in
@@ -56,14 +55,14 @@ module _ (i : Index) (b : Accepted i.grid) (ranked : 0 < i.grid.rank) (fits : i.
   rises (suc m) s h = rising_with s m (record_at i s) (omega arith) refl (rises m (s + 1) (omega arith))
 
   -- the slots of stored chunks are those with a record
-  unused : (s : ℕ) → record_at i s ≡ none → Used i s → ⊥
+  unused : (s : ℕ) → record_at i s ≡ None → Used i s → ⊥
   unused s h u = none_some _ (sym h ∙ stored_record i b u.0 s u.1 u.2)
 
   tally_with : (s m : ℕ) (x : Option Rec) (l : List Rec) → s < i.count → record_at i s ≡ x → Tally (Used i) (s + 1) m (length l)
       → Tally (Used i) s (suc m) (length (with x l))
   unfolding with
-  tally_with s m none l lt e t = miss s m (length l) (unused s e) t
-  tally_with s m (some r) l lt e t = hit s m (length l) (r.corner, r.entry, stored s r lt e) t
+  tally_with s m None l lt e t = miss s m (length l) (unused s e) t
+  tally_with s m (Some r) l lt e t = hit s m (length l) (r.corner, r.entry, stored s r lt e) t
 
   tally : (m s : ℕ) → s + m ≤ i.count → Tally (Used i) s m (length (records i s m))
   unfolding records

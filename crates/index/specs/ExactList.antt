@@ -1,18 +1,16 @@
 -- What a list of an index is that is complete and exact, and what the answer to one corner says.
-use Rattle.std.specs.Prelude.{ℕ, suc, ◌+◌, ◌<◌, ◌≡◌, true, length}
+use Rattle.std.specs.Prelude.{ℕ, suc, ◌+◌, ◌<◌, ◌≡◌, true, length, None, Option, Some}
 use mathlib.Core.List.{List, [], ◌∷◌, Memᴰ}
-use Rattle.std.proofs.Math.Option.{Option, none, some}
 use Rattle.chunk_grid.specs.Grid.{is_chunk, slot_of}
-use Rattle.chunk_grid.specs.declared.Slot.TheVariants.{At}
 use Rattle.index.specs.declared.Entry.{Entry}
 use Rattle.index.specs.Index.{Index, Rec}
 
 -- The chunk at this corner has slot s, below the published count, and the place of that slot holds e.
 pub record Stored (i : Index) (corner : List ℕ) (s : ℕ) (e : Entry) : Type 0 where
   pub chunk : is_chunk i.grid corner ≡ true
-  pub slot : slot_of i.grid corner ≡ At s
+  pub slot : slot_of i.grid corner ≡ Some s
   pub published : s < i.count
-  pub holds : i.held s ≡ some e
+  pub holds : i.held s ≡ Some e
 
 -- some chunk is stored at slot s
 abbrev pub Used : Index → ℕ → Type 0
@@ -28,7 +26,7 @@ pub data Tally (P : ℕ → Type 0) : ℕ → ℕ → ℕ → Type 0 where
 abbrev pub Rising : Index → List Rec → Type 0
 Rising i [] = Unit {0}
 Rising i (r ∷ l) =
-    ((q : Rec) → Memᴰ q l → (s t : ℕ) → slot_of i.grid r.corner ≡ At s → slot_of i.grid q.corner ≡ At t
+    ((q : Rec) → Memᴰ q l → (s t : ℕ) → slot_of i.grid r.corner ≡ Some s → slot_of i.grid q.corner ≡ Some t
     → s < t) × Rising i l
 
 -- A list of records with the count that is answered.
@@ -48,10 +46,10 @@ pub record ExactList (i : Index) (l : List Rec) (count : ℕ) : Type 0 where
 -- What the answer to a corner says: a record is the corner's, with what the place of its slot, below the count, holds;
 -- absent says that no such slot and place are the corner's.
 abbrev pub Answers : Index → List ℕ → Option Rec → Type 0
-Answers i corner (some r) = ((s : ℕ) × Stored i corner s r.entry) × (r.corner ≡ corner)
-Answers i corner none = (s : ℕ) (e : Entry) → Stored i corner s e → ⊥
+Answers i corner (Some r) = ((s : ℕ) × Stored i corner s r.entry) × (r.corner ≡ corner)
+Answers i corner None = (s : ℕ) (e : Entry) → Stored i corner s e → ⊥
 
 -- How it agrees with a list: it is the corner's record of the list, or the list has none.
 abbrev pub Agrees : List Rec → List ℕ → Option Rec → Type 0
-Agrees l corner (some r) = Memᴰ r l × (r.corner ≡ corner)
-Agrees l corner none = (r : Rec) → Memᴰ r l → r.corner ≡ corner → ⊥
+Agrees l corner (Some r) = Memᴰ r l × (r.corner ≡ corner)
+Agrees l corner None = (r : Rec) → Memᴰ r l → r.corner ≡ corner → ⊥

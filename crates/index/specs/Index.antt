@@ -1,9 +1,8 @@
 -- An index: which entry each slot holds; records of it.
-use Rattle.std.specs.Prelude.{ℕ, List}
-use Rattle.std.proofs.Math.Option.{Option}
-use Rattle.refusal.specs.Outcome.{Outcome}
+use Rattle.std.specs.Prelude.{ℕ, List, Option}
 use Rattle.chunk_grid.specs.Grid.{Grid}
 use Rattle.index.specs.declared.Entry.{Entry}
+use Rattle.refusal.specs.Refusals.{Outcome}
 
 -- The grid that numbers the chunks, the published count, from which on no slot is in use, and what the place of each
 -- slot holds.

@@ -1,5 +1,5 @@
 -- Laws of the texts of numbers and of records. Assumes nothing.
-use mathlib.Core.Path.{◌≡◌, refl, ap, ◌∙◌}
+use mathlib.Core.Path.{◌≡◌, refl, ap}
 use mathlib.Core.List.{List, [], ◌∷◌, ◌++◌, append_assoc, append-nil}
 use Prim.Native.Nat.{ℕ, zero, suc, ◌+◌, ◌-◌, ◌*◌, ◌≤◌, ◌<◌}
 use native.Mathlib.Omega.{arith}
@@ -43,29 +43,27 @@ record_parts s from rank =
     rw (at_part s from 0 8, at_part s from 8 4, at_part s from 12 4, drop-drop 16 from s, here) (simp append_assoc)
 
 -- records, one by one
-module _ (s : List ℕ) (from rank left : ℕ) where
-  pub records_on : 0 < left → record_lines (records_in rank left (drop from s))
-      ≡ record_line (record_in rank (drop from s)) ++ record_lines (records_in rank (left - 1) (drop (from + (16 + 8 * rank)) s))
+module _ (s : List ℕ) (rank n i : ℕ) where
+  pub records_on : i < n → record_lines (records_in rank (n - i) (drop (i * record_length rank) s))
+      ≡ record_line (record_in rank (drop (i * record_length rank) s)) ++ record_lines (records_in rank (n - (i + 1)) (drop ((i + 1) * record_length rank) s))
   unfolding records_in record_lines record_length
   records_on h =
-      let more : left ≡ suc (left - 1) = omega arith in
-      ap (λ (n : ℕ). record_lines (records_in rank n (drop from s))) more
-      ∙ ap (λ (l : List ℕ). record_line (record_in rank (drop from s)) ++ record_lines (records_in rank (left - 1) l)) (drop-drop (16 + 8 * rank) from s)
+      let more : n - i ≡ suc (n - (i + 1)) = omega arith in
+      let next : i * (16 + 8 * rank) + (16 + 8 * rank) ≡ (i + 1) * (16 + 8 * rank) = omega arith in
+      rw (more, drop-drop (16 + 8 * rank) (i * (16 + 8 * rank)) s, next) refl
 
-  pub room_on : 0 < left → from + left * record_length rank ≤ length s
-      → (from + record_length rank ≤ length s) × (from + (16 + 8 * rank) + (left - 1) * record_length rank ≤ length s)
+  pub room_on : i < n → n * record_length rank ≤ length s → i * record_length rank + record_length rank ≤ length s
   unfolding record_length
   room_on h k =
-      let more : left ≡ suc (left - 1) = omega arith in
-      let split : suc (left - 1) * (16 + 8 * rank) ≡ (16 + 8 * rank) + (left - 1) * (16 + 8 * rank) = omega arith in
-      let all = rw more at k in
-      (omega (arith, rw split at all), omega (arith, rw split at all))
+      let more : n ≡ i + 1 + (n - (i + 1)) = omega arith in
+      let split : (i + 1 + (n - (i + 1))) * (16 + 8 * rank) ≡ i * (16 + 8 * rank) + (16 + 8 * rank) + (n - (i + 1)) * (16 + 8 * rank) = omega arith in
+      omega (arith, rw split at (rw more at k))
 
-pub records_none : (rank left : ℕ) (s : List ℕ) → left ≤ 0 → record_lines (records_in rank left s) ≡ []
-unfolding records_in record_lines
-records_none rank left s h =
-    let none : left ≡ 0 = omega arith in
-    rw none refl
+  pub records_none : n ≤ i → record_lines (records_in rank (n - i) (drop (i * record_length rank) s)) ≡ []
+  unfolding records_in record_lines
+  records_none h =
+      let none : n - i ≡ 0 = omega arith in
+      rw none refl
 
 length-records : (rank n : ℕ) (s : List ℕ) → length (records_in rank n s) ≡ n
 unfolding records_in

@@ -2,6 +2,7 @@
 use Rattle.std.specs.Prelude.{ℕ, zero, suc, ◌+◌, ◌/◌, ◌%◌, ◌≡◌, cond, List, [], ◌∷◌, ◌++◌, ltb, length}
 use Rattle.std.proofs.lemmas.List.Edits.{sets}
 use Rattle.refusal.specs.declared.Refusal.{Refusal}
+use Rattle.refusal.specs.Values.{number_of, first_of, second_of}
 use Rattle.index.specs.Index.{Rec}
 
 -- A text is put into a buffer at a place: where it ends, and what the buffer holds then.
@@ -42,4 +43,4 @@ abbrev pub refused_word : List ℕ
 refused_word = 114 ∷ 101 ∷ 102 ∷ 117 ∷ 115 ∷ 101 ∷ 100 ∷ []
 
 unfoldable pub refusal_text : Refusal → List ℕ
-refusal_text r = refused_word ++ spaced (r.number ∷ r.first ∷ r.second ∷ []) ++ 10 ∷ []
+refusal_text r = refused_word ++ spaced (number_of r ∷ first_of r ∷ second_of r ∷ []) ++ 10 ∷ []

@@ -2,8 +2,7 @@
 // The text of a list and of a refusal, put into a buffer. The program `eals` prints it.
 ghost use Rattle.std.specs.Prelude.{◌≡◌, ◌∷◌, ◌+◌, ◌*◌, ◌≤◌, length, drop};
 ghost use Rattle.shapes.specs.Shapes.{numbers_in};
-ghost use Rattle.records.specs.Records.{record_length};
-ghost use Rattle.records.specs.Records.{record_in, records_in};
+ghost use Rattle.records.specs.Records.{record_length, record_in, records_in};
 ghost use Rattle.list_text.specs.Printed.{Put, decimal, spaced, record_line, record_lines, list_text, refusal_text};
 
 use fields::bytes::{read_u32_le, read_u64_le};
@@ -65,11 +64,9 @@ fn put_offsets(out: &mut [u8], at: usize, list: &[u8], from: usize, n: usize) ->
     ensures upper_bound { result ≤ at + 21 * n }
 {
     let mut to = at;
-    let mut i = 0;
     // The first i numbers stand before `to`.
-    while i < n {
+    for i in 0..n {
         to = put_spaced(out, to, read_u64_le(list, from + 8 * i));
-        i += 1;
     }
     to
 }
@@ -97,13 +94,9 @@ fn put_records(out: &mut [u8], list: &[u8], count: usize, rank: usize) -> usize
     ensures upper_bound { result ≤ 4 * length list.now }
 {
     let mut to = 0;
-    let mut from = 0;
-    let mut left = count;
-    // The lines of the records before `from` stand before `to`; so many are left.
-    while 0 < left {
-        to = put_record(out, to, list, from, rank);
-        from += 16 + 8 * rank;
-        left -= 1;
+    // The lines of the first i records stand before `to`.
+    for i in 0..count {
+        to = put_record(out, to, list, i * (16 + 8 * rank), rank);
     }
     to
 }
@@ -128,8 +121,8 @@ pub fn put_refusal(out: &mut [u8], refusal: Refusal) -> usize
     ensures upper_bound { result ≤ 71 }
 {
     let word = put_text(out, 0, b"refused");
-    let number = put_spaced(out, word, refusal.number);
-    let first = put_spaced(out, number, refusal.first);
-    let second = put_spaced(out, first, refusal.second);
+    let number = put_spaced(out, word, refusal.number());
+    let first = put_spaced(out, number, refusal.first());
+    let second = put_spaced(out, first, refusal.second());
     put_text(out, second, b"\n")
 }

@@ -2,6 +2,5 @@ pub mod Paths
 pub mod Walks
 pub mod Runs
 pub mod Lookups
-pub mod Numbered
 pub mod Written
 pub mod Lists

@@ -3,16 +3,13 @@
 use Prim.Native.Nat.{ℕ, ◌+◌, ◌/◌, ◌<◌, ◌≤◌}
 use mathlib.Core.Path.{◌≡◌, sym, ap, subst, ◌∙◌}
 use mathlib.Core.List.{List}
-use mathlib.Core.Option.{Option, none, some}
 use native.Mathlib.Nat.{le-div_iff_mul-le}
 use native.Mathlib.Omega.{arith}
 use lib.ListN.{length, get_or}
 use lib.Seq.{sets}
-use Rattle.refusal.specs.declared.Checked.TheVariants.{Passed}
-use Rattle.refusal.specs.declared.Counted.{Counted}
-use Rattle.refusal.specs.declared.Counted.TheVariants.{Count}
-use Rattle.refusal.specs.Refusals.{largest64}
-use Rattle.refusal.specs.Outcome.{Outcome, accepted, in_room}
+use Rattle.std.specs.Prelude.{None, Ok, Option, Some}
+use Rattle.refusal.specs.Refusals.{largest64, Outcome}
+use Rattle.refusal.specs.Outcome.{in_room}
 use Rattle.refusal.specs.Values.{counted_of}
 use Rattle.refusal.proofs.Tests.{by_cond}
 use Rattle.refusal.proofs.Outcomes.{yields_inv, room_had, room_inv}
@@ -32,20 +29,20 @@ use Rattle.located.specs.Located.{Located, index_of, path}
 use Rattle.located.proofs.Walks.{Right, right_records, right_exact}
 
 module _ (x : Located) (bytes : (i : ℕ) → get_or x.elements.file i 0 < 256) where
-  path-fits : (s : ℕ) (r : Rec) → path x s ≡ accepted (some r) → Fits r
+  path-fits : (s : ℕ) (r : Rec) → path x s ≡ Ok (Some r) → Fits r
   unfolding path
   path-fits s r h =
-      by_cond (λ (a : Outcome (Option Rec)). a ≡ accepted (some r) → Fits r) (x.reached s)
-      (λ t e. element-fits x.elements bytes _ s r e) (λ t e. absurd (none_some r (some_is none (some r) e)))
-      (yields_inv _ _ (some r) h).1
+      by_cond (λ (a : Outcome (Option Rec)). a ≡ Ok (Some r) → Fits r) (x.reached s)
+      (λ t e. element-fits x.elements bytes _ s r e) (λ t e. absurd (none_some r (some_is None (Some r) e)))
+      (yields_inv _ _ (Some r) h).1
 
   -- the records of slots fit their bytes, where the paths to these slots are accepted
-  pub records_fit : (m s : ℕ) → ((t : ℕ) → s ≤ t → t < s + m → path x t ≡ accepted (record_at (index_of x) t))
+  pub records_fit : (m s : ℕ) → ((t : ℕ) → s ≤ t → t < s + m → path x t ≡ Ok (record_at (index_of x) t))
       → All Fits (records (index_of x) s m)
-  records_fit m s p = records_all Fits (index_of x) m s (λ t r le lt e. path-fits t r (p t le lt ∙ ap accepted e))
+  records_fit m s p = records_all Fits (index_of x) m s (λ t r le lt e. path-fits t r (p t le lt ∙ ap Ok e))
 
 -- an accepted walk from slot 0 on, in a grid that has passed its test
-module _ (x : Located) (t : grid_test x.elements.grid ≡ Passed) (l : List Rec) (r : Right x 0 l) where
+module _ (x : Located) (t : grid_test x.elements.grid ≡ Ok tt) (l : List Rec) (r : Right x 0 l) where
   abbrev rank : ℕ
   rank = x.elements.grid.rank
 
@@ -68,12 +65,12 @@ module _ (x : Located) (t : grid_test x.elements.grid ≡ Passed) (l : List Rec)
 
 -- What is answered and what the lent list is then, where a listing is accepted: the number of records, and an exact
 -- list of them.
-pub delivered : (x : Located) (a : Listing) → ((l : List Rec) → a ≡ accepted l → (grid_test x.elements.grid ≡ Passed) × Right x 0 l)
+pub delivered : (x : Located) (a : Listing) → ((l : List Rec) → a ≡ Ok l → (grid_test x.elements.grid ≡ Ok tt) × Right x 0 l)
     → ((i : ℕ) → get_or x.elements.file i 0 < 256) → 0 < x.elements.grid.rank → x.elements.count ≤ largest64
-    → (out out' : List ℕ) (c : Counted)
+    → (out out' : List ℕ) (c : Outcome ℕ)
     → c ≡ counted_of (in_room a (length out / record_length x.elements.grid.rank))
     → out' ≡ list_content (in_room a (length out / record_length x.elements.grid.rank)) out
-    → (n : ℕ) → c ≡ Count n → ExactList (index_of x) (records_in x.elements.grid.rank n out') n
+    → (n : ℕ) → c ≡ Ok n → ExactList (index_of x) (records_in x.elements.grid.rank n out') n
 unfolding list_content
 delivered x a right bytes ranked fits out out' c e w n h =
     let i = counted_inv _ n (sym h ∙ e) in
@@ -82,7 +79,7 @@ delivered x a right bytes ranked fits out out' c e w n h =
     rank : ℕ
     rank = x.elements.grid.rank
 
-    go : (l : List Rec) → in_room a (length out / record_length rank) ≡ accepted l → n ≡ length l → out' ≡ sets out 0 (list_bytes l)
+    go : (l : List Rec) → in_room a (length out / record_length rank) ≡ Ok l → n ≡ length l → out' ≡ sets out 0 (list_bytes l)
         → ExactList (index_of x) (records_in rank n out') n
     go l k m o =
         let p = right l (room_inv a _ l k) in

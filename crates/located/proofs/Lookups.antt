@@ -4,13 +4,11 @@ use Prim.Native.Nat.{ℕ, ◌<◌, ◌≤◌}
 use mathlib.Core.Path.{◌≡◌, refl, ◌∙◌}
 use mathlib.Core.Bool.{true}
 use mathlib.Core.List.{List}
-use mathlib.Core.Option.{Option}
 use native.Mathlib.Omega.{arith}
 use lib.ListN.{length}
-use Rattle.refusal.specs.declared.Checked.{Checked}
-use Rattle.refusal.specs.declared.Checked.TheVariants.{Passed}
-use Rattle.refusal.specs.Refusals.{largest64, ◌then◌}
-use Rattle.refusal.specs.Outcome.{Outcome, accepted, ◌yields◌}
+use Rattle.std.specs.Prelude.{Ok, Option}
+use Rattle.refusal.specs.Refusals.{largest64, ◌then◌, Checked, Outcome}
+use Rattle.refusal.specs.Outcome.{◌yields◌}
 use Rattle.refusal.proofs.Tests.{then_inv}
 use Rattle.refusal.proofs.Outcomes.{yields_inv, yields_passed}
 use Rattle.chunk_grid.specs.Grid.{Grid, grid_test, corner_test, is_chunk, slot_of}
@@ -33,16 +31,16 @@ module _ (x : Located) (t : Checked) (corner : List ℕ) where
 
   -- An accepted lookup has a record exactly when the corner's slot is below the count and its place holds an address,
   -- and then that record; otherwise it is absent. Every rank.
-  pub lookup_answers : (r : Option Rec) → lookup ≡ accepted r → Answers (index_of x) corner r
+  pub lookup_answers : (r : Option Rec) → lookup ≡ Ok r → Answers (index_of x) corner r
   lookup_answers r h =
       let a = yields_inv _ _ r h in
       let b = then_inv _ _ a.0 in
       let k = corner_chunk g corner (then_inv _ _ b.1).0 in
       answers (index_of x) corner (grid_accepted g b.0) k r (slot_record_lem x (slot_of g corner) r a.1)
 
-  module _ (l : List Rec) (right : Right x 0 l) (a : grid_test g ≡ Passed) (b : t ≡ Passed) (k : is_chunk g corner ≡ true) where
+  module _ (l : List Rec) (right : Right x 0 l) (a : grid_test g ≡ Ok tt) (b : t ≡ Ok tt) (k : is_chunk g corner ≡ true) where
     -- Where a list is accepted, the lookup of any chunk refuses nothing. Every rank.
-    pub lookup_accepts : lookup ≡ accepted (slot_record (index_of x) (slot_of g corner))
+    pub lookup_accepts : lookup ≡ Ok (slot_record (index_of x) (slot_of g corner))
     unfolding ◌then◌
     lookup_accepts =
         yields_passed _ _ (rw (a, chunk_corner g corner k, b) refl) ∙ slot_accepts x (slot_of g corner) (λ s lt. right.paths s (omega arith) lt)

@@ -8,7 +8,7 @@ use native.Mathlib.Omega.{arith}
 use native.Mathlib.Nat.{add-mul}
 use borrow.Author.Tests.{le-leb, lt-leb}
 use lib.ListN.{length}
-use Rattle.refusal.specs.Outcome.{accepted}
+use Rattle.std.specs.Prelude.{Ok}
 use Rattle.refusal.proofs.Tests.{lt_or_ge}
 use Rattle.element_form.specs.Form.{stride}
 use Rattle.index.specs.SlotRecords.{record_at, records}
@@ -69,9 +69,9 @@ module _ (x : Located) where
   gap_records n s h = records_none (index_of x) n s (λ i lt. unreached x (s + i) (h i lt))
 
   -- a run of elements gives the records of its slots up to the count
-  pub run_records : (n pos s : ℕ) → ((t : ℕ) → s ≤ t → t < count → path x t ≡ accepted (record_at (index_of x) t))
+  pub run_records : (n pos s : ℕ) → ((t : ℕ) → s ≤ t → t < count → path x t ≡ Ok (record_at (index_of x) t))
       → ((i : ℕ) → i < n → HasAt x (s + i) (pos + i * st))
-      → elements_from x.elements pos n s (accepted []) ≡ accepted (records (index_of x) s (min n (count - s)))
+      → elements_from x.elements pos n s (Ok []) ≡ Ok (records (index_of x) s (min n (count - s)))
   unfolding elements_from records
   run_records zero pos s p h = let z : min 0 (count - s) ≡ 0 = omega arith in rw z refl
   run_records (suc n) pos s p h =

@@ -4,12 +4,11 @@ use Prim.Native.Nat.{ℕ, ◌+◌, ◌<◌, ◌≤◌}
 use mathlib.Core.Path.{◌≡◌, refl, sym, ap, subst, ◌∙◌}
 use mathlib.Core.List.{List, []}
 use mathlib.Core.Logic.{⊎_elim}
-use mathlib.Core.Option.{Option, none}
 use native.Mathlib.Omega.{arith}
 use native.Mathlib.Nat.{eq-or-lt_of_le}
 use lib.ListN.{length}
+use Rattle.std.specs.Prelude.{None, Ok, Option}
 use Rattle.refusal.specs.Refusals.{largest64}
-use Rattle.refusal.specs.Outcome.{accepted}
 use Rattle.refusal.proofs.Outcomes.{yields_inv}
 use Rattle.chunk_grid.proofs.Grids.{Accepted}
 use Rattle.index.specs.Index.{Rec, Listing}
@@ -22,13 +21,13 @@ use Rattle.elements.proofs.Induction.{Steps}
 use Rattle.located.specs.Located.{Located, index_of, path}
 use Rattle.located.proofs.Paths.{LeadsTo, LeadsNowhere, way_to, way_nowhere, path_record}
 
-nil_is : (l : List Rec) → accepted [] ≡ accepted l → l ≡ []
+nil_is : (l : List Rec) → ◌≡◌ {A = Listing} (Ok []) (Ok l) → l ≡ []
 nil_is l h = cc
 
 -- what an accepted walk from slot s on, with the list l, has shown
 pub record Right (x : Located) (s : ℕ) (l : List Rec) : Type 0 where
   pub is : l ≡ from (index_of x) s
-  pub paths : (t : ℕ) → s ≤ t → t < x.elements.count → path x t ≡ accepted (record_at (index_of x) t)
+  pub paths : (t : ℕ) → s ≤ t → t < x.elements.count → path x t ≡ Ok (record_at (index_of x) t)
 
 module _ (x : Located) where
   abbrev count : ℕ
@@ -38,29 +37,29 @@ module _ (x : Located) where
   right_past : (s s' : ℕ) (l : List Rec) → count ≤ s → count ≤ s' → Right x s' l → Right x s l
   right_past s s' l h h' r = record { is = r.is ∙ from_end (index_of x) s' h' ∙ sym (from_end (index_of x) s h); paths = λ t a b. absurd (omega arith) }
 
-  pub right_end : (s : ℕ) (l : List Rec) → count ≤ s → accepted [] ≡ accepted l → Right x s l
+  pub right_end : (s : ℕ) (l : List Rec) → count ≤ s → ◌≡◌ {A = Listing} (Ok []) (Ok l) → Right x s l
   right_end s l h e = record { is = nil_is l e ∙ sym (from_end (index_of x) s h); paths = λ t a b. absurd (omega arith) }
 
   -- one slot whose path is accepted
-  right_more : (s : ℕ) (r : Option Rec) (l m : List Rec) → s < count → path x s ≡ accepted r → l ≡ with r m → Right x (s + 1) m → Right x s l
+  right_more : (s : ℕ) (r : Option Rec) (l m : List Rec) → s < count → path x s ≡ Ok r → l ≡ with r m → Right x (s + 1) m → Right x s l
   right_more s r l m lt q h k =
       let e = path_record x s r q in
       record {
         is = h ∙ ap (with r) k.is ∙ sym (from_more (index_of x) s r lt e);
         paths = λ t a b. ⊎_elim
-            (λ (z : s ≡ t). subst (λ (y : ℕ). path x y ≡ accepted (record_at (index_of x) y)) z (q ∙ ap (λ (y : Option Rec). accepted y) (sym e)))
+            (λ (z : s ≡ t). subst (λ (y : ℕ). path x y ≡ Ok (record_at (index_of x) y)) z (q ∙ ap (λ (y : Option Rec). Ok y) (sym e)))
             (λ (z : s < t). k.paths t (omega arith) b) (eq-or-lt_of_le a);
       }
 
   -- what an accepted listing from slot s on has shown: each step of a walk keeps it
   abbrev pub Shows : ℕ → Listing → Listing → Type 0
-  Shows s a b = (l : List Rec) → a ≡ accepted l → Right x s l
+  Shows s a b = (l : List Rec) → a ≡ Ok l → Right x s l
 
   pub right_steps : Steps x.elements (LeadsTo x) (LeadsNowhere x) (λ t. Unit {0}) Shows
   unfolding with
   right_steps = record {
     past = λ s s' a b h h' r l e. right_past s s' l h h' (r l e);
-    lack = λ s a b lt n r l e. right_more s none l l lt (way_nowhere x s n) refl (r l e);
+    lack = λ s a b lt n r l e. right_more s None l l lt (way_nowhere x s n) refl (r l e);
     has = λ s pos a b lt w r l e.
         let i = also_element_inv _ _ l e in
         right_more s i.0 l i.1 lt (way_to x s pos w ∙ i.2) i.4 (r i.1 i.3);

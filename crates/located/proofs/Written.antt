@@ -7,7 +7,7 @@ use native.Mathlib.Nat.{zero-add}
 use native.Mathlib.Omega.{arith}
 use lib.ListN.{length, length-append}
 use lib.Seq.{sets}
-use Rattle.refusal.specs.Outcome.{accepted}
+use Rattle.std.specs.Prelude.{Ok}
 use Rattle.index.specs.Index.{Rec}
 use Rattle.index.specs.SlotRecords.{records}
 use Rattle.index.proofs.Records.{from, from_end, from_split}
@@ -34,9 +34,9 @@ module _ {x : Located} {l : List Rec} where
 
   -- a run of elements is accepted with the records of its slots up to the count
   pub run_accepted : Right x 0 l → (slot pos n m : ℕ) → RunOf x slot (Elements pos n) → m ≡ min n (x.elements.count - slot)
-      → elements_from x.elements pos n slot (accepted []) ≡ accepted (records (index_of x) slot m)
+      → elements_from x.elements pos n slot (Ok []) ≡ Ok (records (index_of x) slot m)
   run_accepted r slot pos n m k e =
-      run_records x n pos slot (λ t le lt. r.paths t (omega arith) lt) k.2 ∙ ap (λ (y : ℕ). accepted (records (index_of x) slot y)) (sym e)
+      run_records x n pos slot (λ t le lt. r.paths t (omega arith) lt) k.2 ∙ ap (λ (y : ℕ). Ok (records (index_of x) slot y)) (sym e)
 
   module _ {out₀ out : List ℕ} {at slot : ℕ} (w : Written x l out₀ out at slot) where
     pub written_done : x.elements.count ≤ slot → out ≡ sets out₀ 0 (list_bytes l)
@@ -65,7 +65,7 @@ module _ {x : Located} {l : List Rec} where
 
     -- slots with elements, whose records are written
     pub written_run : Right x 0 l → (pos n m : ℕ) → m ≡ min n (x.elements.count - slot) → RunOf x slot (Elements pos n) → (out' : List ℕ) (at' : ℕ)
-        → ((k : List Rec) → elements_from x.elements pos n slot (accepted []) ≡ accepted k
+        → ((k : List Rec) → elements_from x.elements pos n slot (Ok []) ≡ Ok k
         → (out' ≡ sets out at (list_bytes k)) × (at' ≡ at + length (list_bytes k)))
         → Written x l out₀ out' at' (slot + m)
     written_run r pos n m e k out' at' h =

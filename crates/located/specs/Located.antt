@@ -1,10 +1,7 @@
 -- An index whose elements lie in a file, of any kind.
-use Rattle.std.specs.Prelude.{ℕ, Bool, not, cond, ◌&&◌, ltb}
-use Rattle.std.proofs.Math.Option.{Option, none, some}
-use Rattle.refusal.specs.declared.Checked.{Checked}
-use Rattle.refusal.specs.Outcome.{Outcome, accepted, ◌yields◌}
-use Rattle.chunk_grid.specs.declared.Slot.{Slot}
-use Rattle.chunk_grid.specs.declared.Slot.TheVariants.{At, NoSlot}
+use Rattle.std.specs.Prelude.{ℕ, Bool, not, cond, ◌&&◌, ltb, None, Ok, Option, Some}
+use Rattle.refusal.specs.Refusals.{Checked, Outcome}
+use Rattle.refusal.specs.Outcome.{◌yields◌}
 use Rattle.index.specs.declared.Entry.{Entry}
 use Rattle.index.specs.Index.{Index, Rec}
 use Rattle.elements.specs.Elements.{Elements, undefined_element, entry_at, element}
@@ -20,7 +17,7 @@ pub record Located : Type 0 where
 -- A place holds an address if it is reached and its address is defined. It holds its element's address, size and mask.
 unfoldable pub held_in : Located → ℕ → Option Entry
 held_in l s = cond (l.reached s && not (undefined_element l.elements (l.position s)))
-    (some (entry_at l.elements (l.position s))) none
+    (Some (entry_at l.elements (l.position s))) None
 
 -- the index that it is
 abbrev pub index_of : Located → Index
@@ -28,9 +25,9 @@ index_of l = record { grid = l.elements.grid; count = l.elements.count; held = h
 
 -- The path to a slot's place: the tests of the structures that lead to it, then its element.
 unfoldable pub path : Located → ℕ → Outcome (Option Rec)
-path l s = l.tests s yields cond (l.reached s) (element l.elements (l.position s) s) (accepted none)
+path l s = l.tests s yields cond (l.reached s) (element l.elements (l.position s) s) (Ok None)
 
 -- What a slot is answered: below the count what its path comes to, else nothing.
-unfoldable pub slot_path : Located → Slot → Outcome (Option Rec)
-slot_path l NoSlot = accepted none
-slot_path l (At s) = cond (ltb s l.elements.count) (path l s) (accepted none)
+unfoldable pub slot_path : Located → Option ℕ → Outcome (Option Rec)
+slot_path l None = Ok None
+slot_path l (Some s) = cond (ltb s l.elements.count) (path l s) (Ok None)

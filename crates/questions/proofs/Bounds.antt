@@ -1,12 +1,12 @@
 -- How much room a line's numbers take. Assumes nothing.
 use mathlib.Core.Path.{◌≡◌, refl, ap}
 use mathlib.Core.List.{List, [], ◌∷◌}
-use mathlib.Core.Option.{Option, none, some}
 use Prim.Native.Nat.{ℕ, suc, ◌+◌, ◌*◌, ◌≤◌}
 use native.Mathlib.Omega.{arith}
 use lib.Dec.{eqb}
 use lib.ListN.{length}
 use borrow.Author.Tests.{eqb-true}
+use Rattle.std.specs.Prelude.{None, Option, Some}
 use Rattle.refusal.proofs.Tests.{by_cond}
 use Rattle.questions.specs.Text.{words, on_first}
 use Rattle.questions.specs.Line.{line_of, fits, word_number, if_number, no_question, with_number, question_from, line_question, question_of}
@@ -29,13 +29,13 @@ words_few (x ∷ s) =
     (λ _. omega (arith, on_first_length x (words s)))
 
 -- so a question's numbers have room in 32,768 bytes
-none_asked : {A : Type 0} (q : Question) → none ≡ some q → A
+none_asked : {A : Type 0} (q : Question) → None ≡ Some q → A
 none_asked q h = let z : ◌≡◌ {A = ℕ} 0 1 = cc in absurd (omega arith)
 
-asked_words : (p : Question) (i : ℕ) (ws : List (List ℕ)) (q : Question) → question_from p i ws ≡ some q → i + length ws ≡ 6 + 3 * q.rank
+asked_words : (p : Question) (i : ℕ) (ws : List (List ℕ)) (q : Question) → question_from p i ws ≡ Some q → i + length ws ≡ 6 + 3 * q.rank
 unfolding question_from if_number
 asked_words p i [] q h =
-    by_cond (λ (x : Option Question). x ≡ some q → i + 0 ≡ 6 + 3 * q.rank) (eqb i (6 + 3 * p.rank))
+    by_cond (λ (x : Option Question). x ≡ Some q → i + 0 ≡ 6 + 3 * q.rank) (eqb i (6 + 3 * p.rank))
     (λ t e.
     let same : p ≡ q = cc in
     omega (arith, eqb-true i (6 + 3 * p.rank) t, ap (λ (x : Question). x.rank) same))
@@ -43,15 +43,15 @@ asked_words p i [] q h =
     h
 asked_words p i (w ∷ ws) q h = go (word_number p.rank i w) (λ n. asked_words (with_number p i n) (suc i) ws q) h
   where
-    go : (x : Option ℕ) → ((n : ℕ) → question_from (with_number p i n) (suc i) ws ≡ some q → suc i + length ws ≡ 6 + 3 * q.rank)
-        → if_number x none (λ n. question_from (with_number p i n) (suc i) ws) ≡ some q → i + suc (length ws) ≡ 6 + 3 * q.rank
-    go (some n) f e = omega (arith, f n e)
-    go none f e = none_asked q e
+    go : (x : Option ℕ) → ((n : ℕ) → question_from (with_number p i n) (suc i) ws ≡ Some q → suc i + length ws ≡ 6 + 3 * q.rank)
+        → if_number x None (λ n. question_from (with_number p i n) (suc i) ws) ≡ Some q → i + suc (length ws) ≡ 6 + 3 * q.rank
+    go (Some n) f e = omega (arith, f n e)
+    go None f e = none_asked q e
 
-pub rank_small : (input : List ℕ) (q : Question) → question_of input ≡ some q → 48 + 24 * q.rank ≤ 32768
+pub rank_small : (input : List ℕ) (q : Question) → question_of input ≡ Some q → 48 + 24 * q.rank ≤ 32768
 unfolding question_of line_question
 rank_small input q h =
-    by_cond (λ (x : Option Question). x ≡ some q → 48 + 24 * q.rank ≤ 32768) (fits input)
+    by_cond (λ (x : Option Question). x ≡ Some q → 48 + 24 * q.rank ≤ 32768) (fits input)
     (λ t e. omega (arith, line_short input t, words_few (line_of input), asked_words no_question 0 (words (line_of input)) q e))
     (λ _ e. none_asked q e)
     h

@@ -1,19 +1,19 @@
 -- Laws of a number that is read digit by digit. Assumes nothing.
 use mathlib.Core.Path.{◌≡◌, refl}
-use mathlib.Core.Bool.{cond, ◌&&◌, and-false}
+use mathlib.Core.Bool.{true, false, cond, ◌&&◌, and-false}
 use mathlib.Core.List.{List, [], ◌∷◌}
-use mathlib.Core.Option.{Option, none, some}
 use Prim.Native.Nat.{ℕ, suc, ◌+◌, ◌-◌, ◌*◌, ◌≤◌, ◌<◌}
 use native.Mathlib.Omega.{arith}
 use lib.ListN.{length, get_or, drop, drop_of_length-le}
 use lib.Seq.{drop-cons}
 use lib.Dec.{leb}
-use borrow.Author.Tests.{lt-ltb, le-leb, lt-leb}
+use borrow.Author.Tests.{lt-ltb, lt-leb}
+use Rattle.std.specs.Prelude.{None, Option, Some}
 use Rattle.questions.specs.Text.{is_digit, digits_only, value_from, value_of, is_number, number_of}
 
 -- what the digits w come to behind digits of the value v
 unfoldable pub number_from : ℕ → ℕ → List ℕ → Option ℕ
-number_from largest v w = cond (digits_only w && leb (value_from v w) largest) (some (value_from v w)) none
+number_from largest v w = cond (digits_only w && leb (value_from v w) largest) (Some (value_from v w)) None
 
 -- further digits make no number less
 value_grows : (v : ℕ) (w : List ℕ) → v ≤ value_from v w
@@ -22,7 +22,7 @@ value_grows v [] = omega arith
 value_grows v (b ∷ w) = omega (arith, value_grows (v * 10 + (b - 48)) w)
 
 module _ (largest : ℕ) (w : List ℕ) where
-  pub number_empty : length w ≡ 0 → none ≡ number_of largest w
+  pub number_empty : length w ≡ 0 → None ≡ number_of largest w
   unfolding number_of is_number
   number_empty e = rw e refl
 
@@ -31,29 +31,25 @@ module _ (largest : ℕ) (w : List ℕ) where
   number_start h = rw (lt-ltb 0 (length w) h) refl
 
   module _ (v i : ℕ) where
-    pub number_end : length w ≤ i → number_from largest v (drop i w) ≡ cond (leb v largest) (some v) none
+    pub number_end : length w ≤ i → number_from largest v (drop i w) ≡ cond (leb v largest) (Some v) None
     unfolding number_from digits_only value_from
     number_end h = rw (drop_of_length-le w {i = i} h) refl
 
     -- a digit is read
-    pub number_on : i < length w → 48 ≤ get_or w i 0 → get_or w i 0 ≤ 57
+    pub number_on : i < length w → is_digit (get_or w i 0) ≡ true
         → number_from largest (v * 10 + (get_or w i 0 - 48)) (drop (i + 1) w) ≡ number_from largest v (drop i w)
-    unfolding number_from digits_only value_from is_digit
-    number_on h a z =
+    unfolding number_from digits_only value_from
+    number_on h e =
         let next : i + 1 ≡ suc i = omega arith in
-        rw (next, drop-cons w i 0 h, le-leb 48 (get_or w i 0) a, le-leb (get_or w i 0) 57 z) refl
+        rw (next, drop-cons w i 0 h, e) refl
 
     -- another byte
-    pub number_below : i < length w → get_or w i 0 < 48 → none ≡ number_from largest v (drop i w)
-    unfolding number_from digits_only is_digit
-    number_below h a = rw (drop-cons w i 0 h, lt-leb 48 (get_or w i 0) a) refl
-
-    pub number_above : i < length w → 57 < get_or w i 0 → none ≡ number_from largest v (drop i w)
-    unfolding number_from digits_only is_digit
-    number_above h z = rw (drop-cons w i 0 h, le-leb 48 (get_or w i 0) (omega arith), lt-leb (get_or w i 0) 57 z) refl
+    pub number_other : i < length w → is_digit (get_or w i 0) ≡ false → None ≡ number_from largest v (drop i w)
+    unfolding number_from digits_only
+    number_other h e = rw (drop-cons w i 0 h, e) refl
 
     -- a digit that makes the number too large
-    pub number_over : i < length w → largest < v * 10 + (get_or w i 0 - 48) → none ≡ number_from largest v (drop i w)
+    pub number_over : i < length w → largest < v * 10 + (get_or w i 0 - 48) → None ≡ number_from largest v (drop i w)
     unfolding number_from value_from
     number_over h z =
         let more = v * 10 + (get_or w i 0 - 48) in

@@ -1,44 +1,20 @@
 -- Laws of a line's question and of its numbers, read word by word. Assumes nothing.
-use mathlib.Core.Path.{◌≡◌, refl, sym, ap, ◌∙◌}
+use mathlib.Core.Path.{◌≡◌, refl, sym, ◌∙◌}
 use mathlib.Core.Bool.{cond}
 use mathlib.Core.List.{List}
-use mathlib.Core.Option.{Option, none, some}
 use Prim.Native.Nat.{ℕ, suc, ◌+◌, ◌*◌, ◌≤◌, ◌<◌}
 use native.Mathlib.Omega.{arith}
 use lib.Dec.{eqb}
 use lib.ListN.{length, drop}
 use lib.Seq.{sets, length-sets}
+use Rattle.std.specs.Prelude.{None, Some}
 use Rattle.fields.specs.LittleEndian.{le_bytes}
 use Rattle.records.specs.Records.{offset_bytes}
 use Rattle.records.proofs.Records.{sets_bytes}
 use Rattle.questions.specs.Text.{before, words}
 use Rattle.questions.specs.Line.{word_number, if_number, no_question, with_number, question_from, numbers_from, line_question, line_stored}
-use Rattle.questions.specs.declared.text.Number.TheVariants.{Value, NoNumber}
 use Rattle.questions.specs.declared.Question.{Question}
-use Rattle.questions.specs.Values.{word_of, parsed_of}
-use Rattle.questions.specs.declared.Parsed.TheVariants.{Asked, Unreadable}
 use Rattle.questions.proofs.Words.{words_from, words_at, no_words}
-
--- what a word is, and a line, of which this is answered
-pub word_value : (w : Option ℕ) (n : ℕ) → Value n ≡ word_of w → some n ≡ w
-unfolding word_of
-word_value none n h = let z : ◌≡◌ {A = ℕ} 0 1 = cc in absurd (omega arith)
-word_value (some m) n h = cc
-
-pub word_none : (w : Option ℕ) → NoNumber ≡ word_of w → none ≡ w
-unfolding word_of
-word_none none h = refl
-word_none (some m) h = let z : ◌≡◌ {A = ℕ} 0 1 = cc in absurd (omega arith)
-
-pub asked_inv : (o : Option Question) (q : Question) → parsed_of o ≡ Asked q → o ≡ some q
-unfolding parsed_of
-asked_inv none q h = let z : ◌≡◌ {A = ℕ} 0 1 = cc in absurd (omega arith)
-asked_inv (some p) q h = cc
-
-pub unreadable_inv : (o : Option Question) → parsed_of o ≡ Unreadable → o ≡ none
-unfolding parsed_of
-unreadable_inv none h = refl
-unreadable_inv (some p) h = let z : ◌≡◌ {A = ℕ} 0 1 = cc in absurd (omega arith)
 
 -- While a line is read, word i begins at `at`: what its words from there on come to is what the line comes to.
 pub record Parsing (out₀ line out : List ℕ) (q : Question) (at i : ℕ) : Type 0 where
@@ -55,11 +31,10 @@ parsing_first out line = record { size = refl; few = omega arith; near = omega a
 module _ {out₀ line out : List ℕ} {q : Question} {at i : ℕ} (p : Parsing out₀ line out q at i) where
   module _ (w : List ℕ) (here : at ≤ length line) (is : w ≡ before 32 (drop at line)) where
     -- a word has a number
-    pub parsing_on : (n : ℕ) → at + length w ≤ length line → Value n ≡ word_of (word_number q.rank i w)
+    pub parsing_on : (n : ℕ) → at + length w ≤ length line → Some n ≡ word_number q.rank i w
         → Parsing out₀ line (sets out (8 * i) (le_bytes 8 n)) (with_number q i n) (at + length w + 1) (i + 1)
     unfolding question_from numbers_from if_number offset_bytes
-    parsing_on n room h =
-        let e = word_value _ n h in
+    parsing_on n room e =
         let more : i + 1 ≡ suc i = omega arith in
         let place : 8 * i + 8 ≡ 8 * suc i = omega arith in
         let split = rw (← is) at (words_at line at here) in
@@ -72,14 +47,13 @@ module _ {out₀ line out : List ℕ} {q : Question} {at i : ℕ} (p : Parsing o
         }
 
     -- a word has none
-    pub parsing_refused : NoNumber ≡ word_of (word_number q.rank i w) → (Unreadable ≡ parsed_of (line_question (words line))) × (out ≡ line_stored (words line) out₀)
-    unfolding question_from numbers_from if_number offset_bytes parsed_of
-    parsing_refused h =
-        let e = word_none _ h in
+    pub parsing_refused : None ≡ word_number q.rank i w → (None ≡ line_question (words line)) × (out ≡ line_stored (words line) out₀)
+    unfolding question_from numbers_from if_number offset_bytes
+    parsing_refused e =
         let split = rw (← is) at (words_at line at here) in
-        (ap parsed_of (rw (split, ← e) at p.question), rw (split, ← e) at p.stored)
+        (rw (split, ← e) at p.question, rw (split, ← e) at p.stored)
 
   -- no word is left
-  pub parsing_end : length line < at → (parsed_of (cond (eqb i (6 + 3 * q.rank)) (some q) none) ≡ parsed_of (line_question (words line))) × (out ≡ line_stored (words line) out₀)
+  pub parsing_end : length line < at → (cond (eqb i (6 + 3 * q.rank)) (Some q) None ≡ line_question (words line)) × (out ≡ line_stored (words line) out₀)
   unfolding question_from numbers_from offset_bytes
-  parsing_end h = let last = no_words line at h in (ap parsed_of (rw last at p.question), rw last at p.stored)
+  parsing_end h = let last = no_words line at h in (rw last at p.question, rw last at p.stored)

@@ -1,6 +1,6 @@
 -- What the program reads: a line, and behind it the file.
+use Rattle.std.specs.Prelude.{None, Option, Some}
 use Rattle.std.specs.Prelude.{ℕ, suc, ◌+◌, ◌*◌, Bool, cond, ◌&&◌, List, [], ◌∷◌, eqb, leb, ltb, length, drop}
-use Rattle.std.proofs.Math.Option.{Option, none, some}
 use Rattle.std.proofs.lemmas.List.Edits.{sets}
 use Rattle.refusal.specs.Refusals.{largest64}
 use Rattle.records.specs.Records.{offset_bytes}
@@ -22,7 +22,7 @@ fits input =
 
 -- The order is R (82) or U (85); to the library these are 0 and 1.
 unfoldable pub order_number : List ℕ → Option ℕ
-order_number w = cond (is_only 82 w) (some 0) (cond (is_only 85 w) (some 1) none)
+order_number w = cond (is_only 82 w) (Some 0) (cond (is_only 85 w) (Some 1) None)
 
 -- The line is `O L address elementbytes order rank` and 3 × rank lengths: the chunk's, the present and the maximum
 -- ones. O and L are below 256, other numbers below 2^64; a maximum length may be `*` (42), unlimited. The number of
@@ -31,12 +31,12 @@ unfoldable pub word_number : ℕ → ℕ → List ℕ → Option ℕ
 word_number rank i w =
     cond (ltb i 2) (number_of 255 w)
     (cond (eqb i 4) (order_number w)
-    (cond (leb (6 + 2 * rank) i && is_only 42 w) (some largest64) (number_of largest64 w)))
+    (cond (leb (6 + 2 * rank) i && is_only 42 w) (Some largest64) (number_of largest64 w)))
 
 -- what is made of a word's number, or this where it has none
 unfoldable pub if_number : {A : Type 0} → Option ℕ → A → (ℕ → A) → A
-if_number none x f = x
-if_number (some n) x f = f n
+if_number None x f = x
+if_number (Some n) x f = f n
 
 -- a question with the number of word i; lengths are no part of it
 unfoldable pub with_number : Question → ℕ → ℕ → Question
@@ -56,8 +56,8 @@ no_question = record { offset_size = 0; length_size = 0; address = 0; element_by
 -- what a line asks for, where the words before word i ask for q and these follow: a line of another form is
 -- unreadable; ..
 unfoldable pub question_from : Question → ℕ → List (List ℕ) → Option Question
-question_from q i [] = cond (eqb i (6 + 3 * q.rank)) (some q) none
-question_from q i (w ∷ ws) = if_number (word_number q.rank i w) none (λ n. question_from (with_number q i n) (suc i) ws)
+question_from q i [] = cond (eqb i (6 + 3 * q.rank)) (Some q) None
+question_from q i (w ∷ ws) = if_number (word_number q.rank i w) None (λ n. question_from (with_number q i n) (suc i) ws)
 
 -- .. and the numbers of these words, up to the first that has none
 unfoldable pub numbers_from : Question → ℕ → List (List ℕ) → List ℕ
@@ -69,7 +69,7 @@ line_question ws = question_from no_question 0 ws
 
 -- A line or a file that is too long is unreadable too.
 unfoldable pub question_of : List ℕ → Option Question
-question_of input = cond (fits input) (line_question (words (line_of input))) none
+question_of input = cond (fits input) (line_question (words (line_of input))) None
 
 -- The line's numbers are stored 8 bytes each.
 unfoldable pub line_stored : List (List ℕ) → List ℕ → List ℕ

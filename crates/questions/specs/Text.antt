@@ -1,6 +1,6 @@
 -- Text: lines, words and numbers.
+use Rattle.std.specs.Prelude.{None, Option, Some}
 use Rattle.std.specs.Prelude.{ℕ, ◌+◌, ◌-◌, ◌*◌, Bool, true, cond, ◌&&◌, List, [], ◌∷◌, eqb, leb, ltb, length, get_or}
-use Rattle.std.proofs.Math.Option.{Option, none, some}
 
 -- the bytes before the first b, or all where there is none
 unfoldable pub before : ℕ → List ℕ → List ℕ
@@ -41,4 +41,4 @@ unfoldable pub is_number : ℕ → List ℕ → Bool
 is_number largest w = ltb 0 (length w) && digits_only w && leb (value_of w) largest
 
 unfoldable pub number_of : ℕ → List ℕ → Option ℕ
-number_of largest w = cond (is_number largest w) (some (value_of w)) none
+number_of largest w = cond (is_number largest w) (Some (value_of w)) None

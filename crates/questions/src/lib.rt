@@ -4,10 +4,9 @@ ghost use Rattle.std.specs.Prelude.{◌≡◌, cond, ◌≤◌, length};
 ghost use Rattle.questions.specs.Text.{words};
 ghost use Rattle.questions.specs.Line.{order_number, word_number, no_question, with_number, line_question, line_stored};
 ghost use Rattle.questions.specs.Line.{file_of, question_of, numbers_stored};
-ghost use Rattle.questions.specs.Values.{word_of, parsed_of};
 
 use fields::bytes::put_le;
-use text::{Number, is_only, parse_number, until};
+use text::{is_only, parse_number, until};
 
 mod text;
 
@@ -57,29 +56,22 @@ fn chosen(first: bool, a: u64, b: u64) -> u64
     if first { a } else { b }
 }
 
-// What a line comes to.
-#[derive(Clone, Copy)]
-pub enum Parsed {
-    Asked(Question),
-    Unreadable,
-}
-
 // The order that a word names.
-fn parse_order(word: &[u8]) -> Number
-    ensures { result ≡ word_of (order_number word.now) }
+fn parse_order(word: &[u8]) -> Option<u64>
+    ensures { result ≡ order_number word.now }
 {
     if is_only(word, b'R') {
-        return Number::Value(0);
+        return Some(0);
     }
     if is_only(word, b'U') {
-        return Number::Value(1);
+        return Some(1);
     }
-    Number::NoNumber
+    None
 }
 
 // The number of word i.
-fn parse_word(word: &[u8], i: usize, rank: u64) -> Number
-    ensures { result ≡ word_of (word_number rank i word.now) }
+fn parse_word(word: &[u8], i: usize, rank: u64) -> Option<u64>
+    ensures { result ≡ word_number rank i word.now }
 {
     if i < 2 {
         return parse_number(word, 255);
@@ -90,7 +82,7 @@ fn parse_word(word: &[u8], i: usize, rank: u64) -> Number
     if 6 <= i {
         if rank <= (i - 6) as u64 / 2 {
             if is_only(word, b'*') {
-                return Number::Value(u64::MAX);
+                return Some(u64::MAX);
             }
         }
     }
@@ -98,9 +90,9 @@ fn parse_word(word: &[u8], i: usize, rank: u64) -> Number
 }
 
 // Reads a line, and stores its numbers up to the first word that has none.
-fn parse_line(numbers: &mut [u8], line: &[u8]) -> Parsed
+fn parse_line(numbers: &mut [u8], line: &[u8]) -> Option<Question>
     requires { (length line.now ≤ 4095) × (32768 ≤ length numbers.old) }
-    ensures value { result ≡ parsed_of (line_question (words line.now)) }
+    ensures value { result ≡ line_question (words line.now) }
     ensures numbers_after { numbers.new ≡ line_stored (words line.now) numbers.old }
 {
     let mut question = Question::none();
@@ -109,10 +101,7 @@ fn parse_line(numbers: &mut [u8], line: &[u8]) -> Parsed
     // Word i begins at `at`; the numbers of the words before it are stored, and in the question.
     while at <= line.len() {
         let word = until(line, at, b' ');
-        let number = parse_word(word, i, question.rank);
-        let Number::Value(n) = number else {
-            return Parsed::Unreadable;
-        };
+        let n = parse_word(word, i, question.rank)?;
         put_le(numbers, 8 * i, 8, n);
         question = question.with(i, n);
         at = at + word.len() + 1;
@@ -121,10 +110,10 @@ fn parse_line(numbers: &mut [u8], line: &[u8]) -> Parsed
     let rank = question.rank;
     if rank <= 4096 {
         if i as u64 == 6 + 3 * rank {
-            return Parsed::Asked(question);
+            return Some(question);
         }
     }
-    Parsed::Unreadable
+    None
 }
 
 // The file, which is what stands behind the line.
@@ -140,21 +129,21 @@ pub fn file_of(input: &[u8]) -> &[u8]
 }
 
 // Reads the line in front of a file, and stores its numbers.
-pub fn parse(numbers: &mut [u8], input: &[u8]) -> Parsed
+pub fn parse(numbers: &mut [u8], input: &[u8]) -> Option<Question>
     requires { 32768 ≤ length numbers.old }
-    ensures value { result ≡ parsed_of (question_of input.now) }
+    ensures value { result ≡ question_of input.now }
     ensures numbers_after { numbers.new ≡ numbers_stored input.now numbers.old }
 {
     let line = until(input, 0, b'\n');
     let file = file_of(input);
     if line.len() == input.len() {
-        return Parsed::Unreadable;
+        return None;
     }
     if 4095 < line.len() {
-        return Parsed::Unreadable;
+        return None;
     }
     if 60000 < file.len() {
-        return Parsed::Unreadable;
+        return None;
     }
     parse_line(numbers, line)
 }

@@ -4,12 +4,10 @@ use mathlib.Core.Path.{◌≡◌, sym, ap, ◌∙◌}
 use mathlib.Core.List.{List, []}
 use native.Mathlib.Omega.{arith}
 use lib.ListN.{length, get_or, take, set, length-take}
-use Rattle.refusal.specs.Refusals.{figure}
-use Rattle.refusal.specs.Outcome.{accepted}
+use Rattle.std.specs.Prelude.{Bool, Ok, true}
+use Rattle.refusal.specs.Refusals.{figure, Outcome}
 use Rattle.chunk_grid.specs.Grid.{Grid, offsets}
 use Rattle.chunk_grid.specs.Values.{in_extent, offsets_of}
-use Rattle.chunk_grid.specs.declared.Offsets.{Offsets}
-use Rattle.chunk_grid.specs.declared.Offsets.TheVariants.{Inside}
 use Rattle.chunk_slots.specs.Values.{handed}
 use Rattle.chunk_slots.specs.Lines.{InLine}
 use Rattle.chunk_slots.specs.declared.Line.{Line}
@@ -23,8 +21,8 @@ use Rattle.records.specs.Values.{ReadsLine}
 
 -- the line of a slot inside the extents, whose offsets are handed over in a lent array
 pub reads_line : {r : ElementReader} {chunk bound down : List ℕ} {grid : Grid} {n : ℕ} → Reads r chunk bound down grid n
-    → (s : ℕ) (a : List ℕ) {o : Offsets} {a' : List ℕ} → (o ≡ offsets_of (in_extent grid s)) × (a' ≡ handed grid s a) → length a ≡ 32 → o ≡ Inside
-    → {line : Line} → (offsets_of (in_extent grid s) ≡ Inside → InLine grid chunk s line) → ReadsLine r a' line chunk grid n s
+    → (s : ℕ) (a : List ℕ) {o : Outcome Bool} {a' : List ℕ} → (o ≡ offsets_of (in_extent grid s)) × (a' ≡ handed grid s a) → length a ≡ 32 → o ≡ Ok true
+    → {line : Line} → (offsets_of (in_extent grid s) ≡ Ok true → InLine grid chunk s line) → ReadsLine r a' line chunk grid n s
 reads_line {bound = bound} {down = down} q s a {a' = a'} told array inside lies =
     let e = sym told.0 ∙ inside in
     record { bound = bound; down = down; reads = q; begins = inside_corner q s e a a' array told.1; lies = lies e }
@@ -61,13 +59,13 @@ module _ {r : ElementReader} {corner : List ℕ} {line : Line} {chunk : List ℕ
 -- `dim`, whose offset grows from `first` by `step`.
 pub record Lined (file : List ℕ) (r : ElementReader) (corner : List ℕ) (dim first step pos n : ℕ) (grid : Grid) (m s : ℕ) (l : List Rec) : Type 0 where
   pub chunked : r.chunk_bytes ≡ figure (chunk_bytes grid m)
-  pub is : elements_from (elements_of file r grid m) pos n s (accepted []) ≡ accepted l
+  pub is : elements_from (elements_of file r grid m) pos n s (Ok []) ≡ Ok l
   pub below : s + n ≤ r.count
-  pub inside : (i : ℕ) → i < n → offsets_of (in_extent grid (s + i)) ≡ Inside
+  pub inside : (i : ℕ) → i < n → offsets_of (in_extent grid (s + i)) ≡ Ok true
   pub corners : (i : ℕ) → i < n → set (take r.rank corner) dim (first + i * step) ≡ offsets grid (s + i)
 
 pub lined : {file : List ℕ} {r : ElementReader} {chunk corner : List ℕ} {line : Line} {pos n : ℕ} → n ≤ line.slots → {grid : Grid} {m s : ℕ} {l : List Rec}
-    → ReadsLine r corner line chunk grid m s → elements_from (elements_of file r grid m) pos n s (accepted []) ≡ accepted l → s + n ≤ r.count
+    → ReadsLine r corner line chunk grid m s → elements_from (elements_of file r grid m) pos n s (Ok []) ≡ Ok l → s + n ≤ r.count
     → Lined file r corner line.dim (line.first * get_or chunk line.dim 0) (get_or chunk line.dim 0) pos n grid m s l
 lined k q e b = record {
   chunked = q.reads.chunked;

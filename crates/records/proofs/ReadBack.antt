@@ -3,7 +3,6 @@ use Prim.Native.Nat.{ℕ, ◌+◌, ◌-◌, ◌*◌, ◌^◌, ◌<◌, ◌≤◌
 use mathlib.Core.Path.{◌≡◌, refl, sym, ap, subst, ◌∙◌}
 use mathlib.Core.Bool.{false}
 use mathlib.Core.List.{List, [], ◌∷◌, ◌++◌, append_assoc}
-use mathlib.Core.Option.{some}
 use native.Mathlib.Nat.{mod-eq_of_lt}
 use native.Mathlib.Omega.{arith}
 use borrow.Author.Tests.{ltb-false}
@@ -11,9 +10,8 @@ use lib.Dec.{ltb}
 use lib.ListN.{length, get_or, drop, length-append}
 use lib.Pow.{pow_mono}
 use lib.Seq.{sets, sets-eq, take_at, drop_at}
-use Rattle.refusal.specs.declared.Checked.TheVariants.{Passed}
+use Rattle.std.specs.Prelude.{Ok, Some, true}
 use Rattle.refusal.specs.Refusals.{largest64}
-use Rattle.refusal.specs.Outcome.{accepted}
 use Rattle.refusal.proofs.Tests.{by_cond, refuse_inv, then_inv, neither}
 use Rattle.fields.specs.LittleEndian.{le_at, le_bytes}
 use Rattle.fields.specs.Fields.{address_at, size_test}
@@ -23,7 +21,6 @@ use Rattle.fields.proofs.Widths.{width_le}
 use Rattle.chunk_grid.specs.Grid.{any, offsets, overflows}
 use Rattle.chunk_grid.specs.Values.{in_extent, offsets_of}
 use Rattle.shapes.specs.Shapes.{numbers_in}
-use Rattle.chunk_grid.specs.declared.Offsets.TheVariants.{Inside}
 use Rattle.chunk_grid.proofs.Slots.{inside_inv}
 use Rattle.element_form.specs.Form.{filtered, element_size_test}
 use Rattle.element_form.proofs.Forms.{sized_width}
@@ -118,14 +115,14 @@ module _ (es : Elements) (bytes : (i : ℕ) → get_or es.file i 0 < 256) (pos s
   unfolding mask_at
   mask_small = by_cond (λ (n : ℕ). n < 2 ^ 32) (filtered es.form) (λ t. le_small es.file bytes 4 _) (λ t. omega arith)
 
-  entry_fits : element_size_test es.form ≡ Passed → offsets_of (in_extent es.grid s) ≡ Inside → entry_test es pos ≡ Passed
+  entry_fits : element_size_test es.form ≡ Ok tt → offsets_of (in_extent es.grid s) ≡ Ok true → entry_test es pos ≡ Ok tt
       → Fits (record { entry = entry_at es pos; corner = offsets es.grid s })
   unfolding entry_at entry_test size_test address_at
   entry_fits t i e =
       let o = es.form.offset_size in
       let w = width_le _ (sized_width es.form t) in
       let big : 2 ^ (8 * o) ≤ 2 ^ 64 = pow_mono {j = 64} (omega arith) in
-      let n = ltb-false (2 ^ 32 - 1) (size_at es pos) (refuse_inv _ _ _ _ (then_inv _ _ e).1) in
+      let n = ltb-false (2 ^ 32 - 1) (size_at es pos) (refuse_inv _ _ (then_inv _ _ e).1) in
       record {
         address = omega (arith, big, le_small es.file bytes o pos);
         size = omega (arith, n);
@@ -133,5 +130,5 @@ module _ (es : Elements) (bytes : (i : ℕ) → get_or es.file i 0 < 256) (pos s
         corner = (inside_inv _ s i).1;
       }
 
-  pub element-fits : (r : Rec) → element es pos s ≡ accepted (some r) → Fits r
+  pub element-fits : (r : Rec) → element es pos s ≡ Ok (Some r) → Fits r
   element-fits r h = let i = chunk_inv es pos s r h in subst Fits (sym i.3) (entry_fits i.0 i.1 i.2)

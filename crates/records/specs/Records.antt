@@ -1,7 +1,6 @@
 -- The bytes of a list of records.
-use Rattle.std.specs.Prelude.{ℕ, zero, suc, ◌+◌, ◌*◌, List, [], ◌∷◌, ◌++◌, drop}
+use Rattle.std.specs.Prelude.{ℕ, zero, suc, ◌+◌, ◌*◌, List, [], ◌∷◌, ◌++◌, drop, Err, Ok}
 use Rattle.std.proofs.lemmas.List.Edits.{sets}
-use Rattle.refusal.specs.Outcome.{refused, accepted}
 use Rattle.fields.specs.LittleEndian.{le_at, le_bytes}
 use Rattle.shapes.specs.Shapes.{numbers_in}
 use Rattle.index.specs.Index.{Rec, Listing}
@@ -26,8 +25,8 @@ list_bytes (r ∷ l) = record_bytes r ++ list_bytes l
 -- The lent list then: the records from its start on; bytes behind the last record stay. After a refusal it is as it
 -- was.
 unfoldable pub list_content : Listing → List ℕ → List ℕ
-list_content (refused r) out = out
-list_content (accepted l) out = sets out 0 (list_bytes l)
+list_content (Err r) out = out
+list_content (Ok l) out = sets out 0 (list_bytes l)
 
 -- the records that bytes hold, one behind the other
 unfoldable pub record_in : ℕ → List ℕ → Rec

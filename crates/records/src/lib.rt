@@ -1,8 +1,7 @@
 #![tactic(auto)]
 // Records written into a lent list.
-ghost use Rattle.std.specs.Prelude.{◌≡◌, List, [], ℕ, ◌+◌, ◌*◌, ◌≤◌, length, take, set};
+ghost use Rattle.std.specs.Prelude.{◌≡◌, List, [], ℕ, ◌+◌, ◌*◌, ◌≤◌, length, take, set, Ok};
 ghost use Rattle.std.proofs.lemmas.List.Edits.{sets};
-ghost use Rattle.refusal.specs.Outcome.{accepted};
 ghost use Rattle.chunk_grid.specs.Grid.{Grid};
 ghost use Rattle.element_form.specs.Form.{stride};
 ghost use Rattle.index.specs.Index.{Rec};
@@ -11,12 +10,11 @@ ghost use Rattle.elements.specs.Values.{elements_of, Reads};
 ghost use Rattle.records.specs.Records.{record_length, offset_bytes, record_bytes, list_bytes};
 ghost use Rattle.records.specs.Values.{ReadsLine};
 
-use chunk_grid::Offsets;
 use chunk_slots::{Line, line_from};
 use element_runs::count::below_count;
 use element_runs::defined::undefined_run;
+use elements::ElementReader;
 use elements::read::read_inside_element;
-use elements::{ElementReader, Found};
 use fields::bytes::put_le;
 use index::Entry;
 
@@ -48,12 +46,10 @@ fn put_offsets(out: &mut [u8], at: usize, rank: usize, offsets: &[u64; 32], dim:
     ensures { out.new
         ≡ sets out.old at (offset_bytes (set (take rank offsets.now) dim offset)) }
 {
-    let mut i = 0;
     // The first i offsets are written.
-    while i < rank {
+    for i in 0..rank {
         let value = if i == dim { offset } else { offsets[i] };
         put_le(out, at + 8 * i, 8, value);
-        i += 1;
     }
 }
 
@@ -73,12 +69,12 @@ fn write_line(
 ) -> usize
     requires { ((grid : Grid) × (m : ℕ) × (s : ℕ) × (l : List Rec)
         × ReadsLine reader offsets.now line chunk.now grid m s
-        × (elements_from (elements_of file.now reader grid m) pos n s (accepted []) ≡ accepted l)
+        × (elements_from (elements_of file.now reader grid m) pos n s (Ok []) ≡ Ok l)
         × (at + length (list_bytes l) ≤ length out.old) × (s + n ≤ reader.count))
         × (n ≤ line.slots) × (pos + n * stride reader.form ≤ length file.now) }
     ensures { (grid : Grid) (m s : ℕ) (l : List Rec)
         → ReadsLine reader offsets.now line chunk.now grid m s
-        → elements_from (elements_of file.now reader grid m) pos n s (accepted []) ≡ accepted l
+        → elements_from (elements_of file.now reader grid m) pos n s (Ok []) ≡ Ok l
         → s + n ≤ reader.count
         → (out.new ≡ sets out.old at (list_bytes l)) × (result ≡ at + length (list_bytes l)) }
 {
@@ -89,16 +85,13 @@ fn write_line(
     let first = line.first * step;
     let mut to = at;
     let mut from = pos;
-    let mut i = 0;
     // The first i elements are passed, their records written up to `to`, and the next element is at `from`.
-    while i < n {
-        let element = read_inside_element(file, from, reader);
-        if let Found::Chunk(entry) = element {
+    for i in 0..n {
+        if let Ok(Some(entry)) = read_inside_element(file, from, reader) {
             put_record(out, to, entry, rank, offsets, dim, first + i * step);
             to += 16 + 8 * rank;
         }
         from += stride;
-        i += 1;
     }
     to
 }
@@ -118,12 +111,12 @@ pub fn write_elements(
     down: &[u64; 32],
 ) -> usize
     requires { ((grid : Grid) × (m : ℕ) × (l : List Rec) × Reads reader chunk.now bound.now down.now grid m
-        × (elements_from (elements_of file.now reader grid m) pos n slot (accepted []) ≡ accepted l)
+        × (elements_from (elements_of file.now reader grid m) pos n slot (Ok []) ≡ Ok l)
         × (at + length (list_bytes l) ≤ length out.old))
         × (pos + n * stride reader.form ≤ length file.now) }
     ensures { (grid : Grid) (m : ℕ) (l : List Rec)
         → Reads reader chunk.now bound.now down.now grid m
-        → elements_from (elements_of file.now reader grid m) pos n slot (accepted []) ≡ accepted l
+        → elements_from (elements_of file.now reader grid m) pos n slot (Ok []) ≡ Ok l
         → (out.new ≡ sets out.old at (list_bytes l)) × (result ≡ at + length (list_bytes l)) }
 {
     let left = below_count(n, slot, reader.count);
@@ -145,7 +138,7 @@ pub fn write_elements(
         }
         let here = slot + i;
         let reached = reader.reach(&mut offsets, here, chunk, bound, down);
-        let passed = if let Offsets::Inside = reached {
+        let passed = if let Ok(true) = reached {
             let line = line_from(here, rank, rotated, bound, down);
             let n = below_count(line.slots, i, left);
             to = write_line(out, to, file, from, n, reader, &offsets, line, chunk);

@@ -1,24 +1,68 @@
 -- What the code's values stand for.
-use Rattle.std.specs.Prelude.{ℕ, ◌+◌, List, length}
+use Rattle.std.specs.Prelude.{ℕ, ◌+◌, List, length, Ok, Err}
 use Rattle.refusal.specs.declared.Refusal.{Refusal}
-use Rattle.refusal.specs.declared.Checked.{Checked}
-use Rattle.refusal.specs.declared.Checked.TheVariants.{Passed, Refused}
-use Rattle.refusal.specs.declared.Counted.{Counted}
-use Rattle.refusal.specs.declared.Counted.TheVariants.{Count, Refused as CountedRefused}
-use Rattle.refusal.specs.Outcome.{Outcome, refused, accepted}
+use Rattle.refusal.specs.declared.Refusal.TheVariants.{OffsetSize, LengthSize, Rank, PresentRank, MaximumRank}
+use Rattle.refusal.specs.declared.Refusal.TheVariants.{ChunkLength, Unlimited, TooManyChunks, ListTooSmall, Corner}
+use Rattle.refusal.specs.declared.Refusal.TheVariants.{PastEnd, HeaderSignature, HeaderVersion, IndexBlockSignature}
+use Rattle.refusal.specs.declared.Refusal.TheVariants.{DataBlockSignature, SuperBlockSignature, Checksum}
+use Rattle.refusal.specs.declared.Refusal.TheVariants.{HeaderNotServed, ElementSize, SizeField, Size, SpanOverflow}
+use Rattle.refusal.specs.declared.Refusal.TheVariants.{NumbersNothing, OffsetOverflow, FixedHeaderSignature}
+use Rattle.refusal.specs.declared.Refusal.TheVariants.{FixedDataBlockSignature}
+use Rattle.refusal.specs.Refusals.{Outcome}
 
--- The number and the figures of each answer; 0 where nothing is refused.
-unfoldable pub refusal_of : Checked → Refusal
-refusal_of Passed = record { number = 0; first = 0; second = 0 }
-refusal_of (Refused r) = r
+-- The number of each refusal ..
+unfoldable pub number_of : Refusal → ℕ
+number_of (OffsetSize _) = 1
+number_of (LengthSize _) = 2
+number_of Rank = 3
+number_of PresentRank = 4
+number_of MaximumRank = 5
+number_of ChunkLength = 6
+number_of Unlimited = 7
+number_of TooManyChunks = 8
+number_of (ListTooSmall _) = 9
+number_of Corner = 10
+number_of (PastEnd _ _) = 20
+number_of HeaderSignature = 21
+number_of (HeaderVersion _) = 22
+number_of IndexBlockSignature = 23
+number_of DataBlockSignature = 24
+number_of SuperBlockSignature = 25
+number_of (Checksum _ _) = 26
+number_of HeaderNotServed = 27
+number_of ElementSize = 28
+number_of SizeField = 29
+number_of (Size _) = 30
+number_of (SpanOverflow _ _) = 31
+number_of NumbersNothing = 32
+number_of OffsetOverflow = 33
+number_of FixedHeaderSignature = 34
+number_of FixedDataBlockSignature = 35
 
--- What counting the members of a list answers. Refused: the refusal's number and figures. Accepted: number 0, and how
--- many they are.
-unfoldable pub counted_of : {A : Type 0} → Outcome (List A) → Counted
-counted_of (refused r) = CountedRefused r
-counted_of (accepted l) = Count (length l)
+-- .. and its figures: 0 where it has none.
+unfoldable pub first_of : Refusal → ℕ
+first_of (OffsetSize size) = size
+first_of (LengthSize size) = size
+first_of (ListTooSmall needed) = needed
+first_of (PastEnd end length) = end
+first_of (HeaderVersion version) = version
+first_of (Checksum stored computed) = stored
+first_of (Size value) = value
+first_of (SpanOverflow address length) = address
+first_of _ = 0
+
+unfoldable pub second_of : Refusal → ℕ
+second_of (PastEnd end length) = length
+second_of (Checksum stored computed) = computed
+second_of (SpanOverflow address length) = length
+second_of _ = 0
+
+-- What counting the members of a list answers: how many they are, or the refusal.
+unfoldable pub counted_of : {A : Type 0} → Outcome (List A) → Outcome ℕ
+counted_of (Err r) = Err r
+counted_of (Ok l) = Ok (length l)
 
 -- the number of members, with n that are counted already, or the refusal
-unfoldable pub plus : {A : Type 0} → ℕ → Outcome (List A) → Counted
-plus n (refused r) = CountedRefused r
-plus n (accepted l) = Count (n + length l)
+unfoldable pub plus : {A : Type 0} → ℕ → Outcome (List A) → Outcome ℕ
+plus n (Err r) = Err r
+plus n (Ok l) = Ok (n + length l)

@@ -1,130 +1,129 @@
 #![tactic(auto)]
-// Refusals: why a call gives no result, as one number and two figures.
+// Refusals: why a call gives no result.
 ghost use Rattle.std.specs.Prelude.{◌≡◌};
-ghost use Rattle.refusal.specs.Values.{refusal_of};
+ghost use Rattle.refusal.specs.Values.{number_of, first_of, second_of};
 
-// A refusal's number, and the figures that its number names (0 where it names none).
+// Why a call gives no result, with the figures that its number names.
 #[derive(Clone, Copy)]
-pub struct Refusal {
-    pub number: u64,
-    pub first: u64,
-    pub second: u64,
+pub enum Refusal {
+    // The caller's: 1 offset size (size).
+    OffsetSize(u64),
+    // 2 length size (size).
+    LengthSize(u64),
+    // 3 rank over 32, or a chunk shape of another rank.
+    Rank,
+    // 4 present rank differs.
+    PresentRank,
+    // 5 maximum rank differs.
+    MaximumRank,
+    // 6 a chunk length 0.
+    ChunkLength,
+    // 7 an unlimited dimension where a count is needed.
+    Unlimited,
+    // 8 more chunks than 2^64 - 1 can number.
+    TooManyChunks,
+    // 9 list too small (needed records).
+    ListTooSmall(u64),
+    // 10 corner of wrong rank, unaligned or not below the extents.
+    Corner,
+    // The file writer's: 20 past the end (expected end, length).
+    PastEnd(u64, u64),
+    // 21 header signature.
+    HeaderSignature,
+    // 22 header version (version).
+    HeaderVersion(u64),
+    // 23 index block signature.
+    IndexBlockSignature,
+    // 24 data block signature.
+    DataBlockSignature,
+    // 25 super block signature.
+    SuperBlockSignature,
+    // 26 checksum (stored, computed).
+    Checksum(u64, u64),
+    // 27 header not served.
+    HeaderNotServed,
+    // 28 element size too small.
+    ElementSize,
+    // 29 size field over 8 bytes.
+    SizeField,
+    // 30 size over 2^32 - 1 (value).
+    Size(u64),
+    // Either's: 31 address plus length past 2^64 - 1 (both); of a fixed array's page, its number times the pages'
+    // stride (number, stride).
+    SpanOverflow(u64, u64),
+    // The file writer's: 32 grid numbers nothing.
+    NumbersNothing,
+    // 33 offset past 2^64 - 1.
+    OffsetOverflow,
+    // 34 fixed array header signature.
+    FixedHeaderSignature,
+    // 35 fixed array data block signature.
+    FixedDataBlockSignature,
 }
 
 impl Refusal {
-    // The caller's: 1 offset size (size).
-    pub const OFFSET_SIZE: u64 = 1;
-
-    // 2 length size (size).
-    pub const LENGTH_SIZE: u64 = 2;
-
-    // 3 rank over 32, or a chunk shape of another rank.
-    pub const RANK: u64 = 3;
-
-    // 4 present rank differs.
-    pub const PRESENT_RANK: u64 = 4;
-
-    // 5 maximum rank differs.
-    pub const MAXIMUM_RANK: u64 = 5;
-
-    // 6 a chunk length 0.
-    pub const CHUNK_LENGTH: u64 = 6;
-
-    // 7 an unlimited dimension where a count is needed.
-    pub const UNLIMITED: u64 = 7;
-
-    // 8 more chunks than 2^64 - 1 can number.
-    pub const TOO_MANY_CHUNKS: u64 = 8;
-
-    // 9 list too small (needed records).
-    pub const LIST_TOO_SMALL: u64 = 9;
-
-    // 10 corner of wrong rank, unaligned or not below the extents.
-    pub const CORNER: u64 = 10;
-
-    // The file writer's: 20 past the end (expected end, length).
-    pub const PAST_END: u64 = 20;
-
-    // 21 header signature.
-    pub const HEADER_SIGNATURE: u64 = 21;
-
-    // 22 header version (version).
-    pub const HEADER_VERSION: u64 = 22;
-
-    // 23 index block signature.
-    pub const INDEX_BLOCK_SIGNATURE: u64 = 23;
-
-    // 24 data block signature.
-    pub const DATA_BLOCK_SIGNATURE: u64 = 24;
-
-    // 25 super block signature.
-    pub const SUPER_BLOCK_SIGNATURE: u64 = 25;
-
-    // 26 checksum (stored, computed).
-    pub const CHECKSUM: u64 = 26;
-
-    // 27 header not served.
-    pub const HEADER_NOT_SERVED: u64 = 27;
-
-    // 28 element size too small.
-    pub const ELEMENT_SIZE: u64 = 28;
-
-    // 29 size field over 8 bytes.
-    pub const SIZE_FIELD: u64 = 29;
-
-    // 30 size over 2^32 - 1 (value).
-    pub const SIZE: u64 = 30;
-
-    // Either's: 31 address plus length past 2^64 - 1 (both); of a fixed array's page, its number times the pages'
-    // stride (number, stride).
-    pub const SPAN_OVERFLOW: u64 = 31;
-
-    // The file writer's: 32 grid numbers nothing.
-    pub const NUMBERS_NOTHING: u64 = 32;
-
-    // 33 offset past 2^64 - 1.
-    pub const OFFSET_OVERFLOW: u64 = 33;
-
-    // 34 fixed array header signature.
-    pub const FIXED_HEADER_SIGNATURE: u64 = 34;
-
-    // 35 fixed array data block signature.
-    pub const FIXED_DATA_BLOCK_SIGNATURE: u64 = 35;
-
-    // A refusal whose number names no figures.
-    pub fn plain(number: u64) -> Refusal
-        ensures { result ≡ record { number = number; first = 0; second = 0 } }
-    {
-        Refusal {
-            number,
-            first: 0,
-            second: 0,
-        }
-    }
-}
-
-// What a test answers.
-#[derive(Clone, Copy)]
-pub enum Checked {
-    Passed,
-    Refused(Refusal),
-}
-
-impl Checked {
-    // The refusal, or number 0 where there is none.
-    pub fn refusal(self) -> Refusal
-        ensures { result ≡ refusal_of self }
+    // The number by which C and the documents name it.
+    #[tactic(auto, unfolding(crate::specs::Values::number_of))]
+    pub fn number(self) -> u64
+        ensures { result ≡ number_of self }
     {
         match self {
-            Checked::Passed => Refusal::plain(0),
-            Checked::Refused(r) => r,
+            Refusal::OffsetSize(_) => 1,
+            Refusal::LengthSize(_) => 2,
+            Refusal::Rank => 3,
+            Refusal::PresentRank => 4,
+            Refusal::MaximumRank => 5,
+            Refusal::ChunkLength => 6,
+            Refusal::Unlimited => 7,
+            Refusal::TooManyChunks => 8,
+            Refusal::ListTooSmall(_) => 9,
+            Refusal::Corner => 10,
+            Refusal::PastEnd(_, _) => 20,
+            Refusal::HeaderSignature => 21,
+            Refusal::HeaderVersion(_) => 22,
+            Refusal::IndexBlockSignature => 23,
+            Refusal::DataBlockSignature => 24,
+            Refusal::SuperBlockSignature => 25,
+            Refusal::Checksum(_, _) => 26,
+            Refusal::HeaderNotServed => 27,
+            Refusal::ElementSize => 28,
+            Refusal::SizeField => 29,
+            Refusal::Size(_) => 30,
+            Refusal::SpanOverflow(_, _) => 31,
+            Refusal::NumbersNothing => 32,
+            Refusal::OffsetOverflow => 33,
+            Refusal::FixedHeaderSignature => 34,
+            Refusal::FixedDataBlockSignature => 35,
         }
     }
-}
 
-// The number of members of a list, or why there is none.
-#[derive(Clone, Copy)]
-pub enum Counted {
-    Count(u64),
-    Refused(Refusal),
+    // The first figure that its number names; 0 where it names none.
+    #[tactic(auto, unfolding(crate::specs::Values::first_of))]
+    pub fn first(self) -> u64
+        ensures { result ≡ first_of self }
+    {
+        match self {
+            Refusal::OffsetSize(size) | Refusal::LengthSize(size) => size,
+            Refusal::ListTooSmall(needed) => needed,
+            Refusal::HeaderVersion(version) => version,
+            Refusal::Size(value) => value,
+            Refusal::PastEnd(first, _)
+            | Refusal::Checksum(first, _)
+            | Refusal::SpanOverflow(first, _) => first,
+            _ => 0,
+        }
+    }
+
+    // The second.
+    #[tactic(auto, unfolding(crate::specs::Values::second_of))]
+    pub fn second(self) -> u64
+        ensures { result ≡ second_of self }
+    {
+        match self {
+            Refusal::PastEnd(_, second)
+            | Refusal::Checksum(_, second)
+            | Refusal::SpanOverflow(_, second) => second,
+            _ => 0,
+        }
+    }
 }

@@ -2,11 +2,11 @@
 // Shapes and corners as bytes: read, and made into a grid.
 ghost use Rattle.std.specs.Prelude.{◌≡◌, ◌≤◌, length};
 ghost use Rattle.std.proofs.lemmas.List.Edits.{sets};
-ghost use Rattle.chunk_grid.specs.Grid.{grid_test, given};
-ghost use Rattle.chunk_grid.specs.Values.{grid_of, where_tested};
+ghost use Rattle.chunk_grid.specs.Grid.{given};
+ghost use Rattle.chunk_grid.specs.Values.{grids, built};
 ghost use Rattle.shapes.specs.Shapes.{shape_of};
 
-use chunk_grid::{Built, ChunkGrid, GridOrder, refused_grid};
+use chunk_grid::{ChunkGrid, GridOrder};
 use fields::bytes::read_u64_le;
 use refusal::Refusal;
 
@@ -18,13 +18,13 @@ pub fn grid_from_bytes(
     has_maximum: bool,
     maximum: &[u8],
     order: GridOrder,
-) -> Built
-    ensures { let grid = given rank (shape_of rank chunk.now) (shape_of rank present.now)
-        has_maximum (shape_of rank maximum.now) order in
-        (result.checked ≡ grid_test grid) × (grid_of result.grid ≡ where_tested result.checked grid) }
+) -> Result<ChunkGrid, Refusal>
+    ensures { grids result
+        ≡ built (given rank (shape_of rank chunk.now) (shape_of rank present.now)
+        has_maximum (shape_of rank maximum.now) order) }
 {
     if 32 < rank {
-        return refused_grid(Refusal::plain(Refusal::RANK));
+        return Err(Refusal::Rank);
     }
     let mut lengths = [0u64; 32];
     let mut extents = [0u64; 32];
@@ -56,11 +56,9 @@ pub fn read_shape(shape: &mut [u64], rank: u64, bytes: &[u8]) -> u64
         }
         return 0;
     }
-    let mut i = 0;
     // The first i numbers are read.
-    while i < n {
+    for i in 0..n {
         shape[i] = read_u64_le(bytes, 8 * i);
-        i += 1;
     }
     rank
 }

@@ -7,9 +7,9 @@ use native.Mathlib.Omega.{arith}
 use native.Mathlib.Nat.{sub-zero}
 use native.Mathlib.Numerals.{add-one}
 use lib.ListN.{length, length-append}
+use Rattle.std.specs.Prelude.{Err, Ok}
 use Rattle.refusal.specs.declared.Refusal.{Refusal}
-use Rattle.refusal.specs.declared.Counted.TheVariants.{Count, Refused as CountedRefused}
-use Rattle.refusal.specs.Outcome.{accepted, also}
+use Rattle.refusal.specs.Outcome.{also}
 use Rattle.refusal.specs.Values.{plus, counted_of}
 use Rattle.refusal.proofs.Tests.{by_cond}
 use Rattle.refusal.proofs.Outcomes.{yields_inv, also_inv}
@@ -26,14 +26,14 @@ use Rattle.span_walk.proofs.Joined.{joined_inv, plus-joined, plus_refused}
 use Rattle.span_walk.proofs.Turns.{supers_none, supers_next, blocks_none, blocks-undefined, blocks_defined}
 
 -- a count, or a refusal, with one span more
-pub counted_more : (s : Span) (a : Spanning) (n : ℕ) → Count n ≡ counted_of a → Count (n + 1) ≡ counted_of (also s a)
+pub counted_more : (s : Span) (a : Spanning) (n : ℕ) → Ok n ≡ counted_of a → Ok (n + 1) ≡ counted_of (also s a)
 unfolding counted_of also
 counted_more s a n h =
     let i = counted_inv a n h in
-    rw i.1 (ap Count (let z : n + 1 ≡ suc (length i.0) = omega (arith, i.2) in z))
+    rw i.1 (ap Ok (let z : n + 1 ≡ suc (length i.0) = omega (arith, i.2) in z))
 
-pub refused_more : (s : Span) (a : Spanning) (r : Refusal) → CountedRefused r ≡ counted_of a
-    → CountedRefused r ≡ counted_of (also s a)
+pub refused_more : (s : Span) (a : Spanning) (r : Refusal) → Err r ≡ counted_of a
+    → Err r ≡ counted_of (also s a)
 unfolding counted_of also
 refused_more s a r h = rw (refused_inv a r h) refl
 
@@ -45,7 +45,7 @@ block_spans_few a u (suc j) k =
     let i = block_spans_few a u j (k + 1) in
     by_cond (λ (l : List Span). length l ≤ suc j) (block_undefined a u k) (λ t. omega arith) (λ t. omega arith)
 
-super_few : (a : Array) (u : ℕ) (l : List Span) → super_spans a u ≡ accepted l → length l ≤ blocks u + 1
+super_few : (a : Array) (u : ℕ) (l : List Span) → super_spans a u ≡ Ok l → length l ≤ blocks u + 1
 unfolding super_spans
 super_few a u l h =
     let i = block_spans_few a u (blocks u) 0 in
@@ -57,13 +57,13 @@ super_few a u l h =
     omega (arith, ap length z, ap length o.2))) h
   where
     P : Spanning → Type 0
-    P b = b ≡ accepted l → length l ≤ blocks u + 1
+    P b = b ≡ Ok l → length l ≤ blocks u + 1
 
 before_next : (u : ℕ) → blocks_before (u + 1) ≡ blocks_before u + blocks u
 unfolding blocks_before
 before_next u = rw (add-one u) refl
 
-supers_length : (a : Array) (j u : ℕ) (l : List Span) → supers_from a j u ≡ accepted l
+supers_length : (a : Array) (j u : ℕ) (l : List Span) → supers_from a j u ≡ Ok l
     → length l + blocks_before u ≤ j + blocks_before (u + j)
 unfolding supers_from
 supers_length a zero u l h =
@@ -83,7 +83,7 @@ supers_length a (suc j) u l h =
     ))
 
 -- so they are few
-supers_bound : (a : Array) (l : List Span) → Served a.parameters → supers_from a (super_blocks a.parameters) 0 ≡ accepted l
+supers_bound : (a : Array) (l : List Span) → Served a.parameters → supers_from a (super_blocks a.parameters) 0 ≡ Ok l
     → length l < 2 ^ 34
 supers_bound a l v h =
     let n = super_blocks a.parameters in
@@ -91,13 +91,13 @@ supers_bound a l v h =
     omega (arith, rw z at (supers_length a n 0 l h), blocks_before_few a.parameters v n (omega arith), supers_few a.parameters v)
 
 pub supers_bounded : (a : Array) (n : ℕ) → Served a.parameters
-    → Count n ≡ counted_of (supers_from a (super_blocks a.parameters) 0) → n < 2 ^ 34
+    → Ok n ≡ counted_of (supers_from a (super_blocks a.parameters) 0) → n < 2 ^ 34
 supers_bounded a n v h = let i = counted_inv _ n h in omega (arith, i.2, supers_bound a i.0 v i.1)
 
-pub index_bounded : (a : Array) (n : ℕ) → Served a.parameters → Count n ≡ counted_of (index_spans a) → n < 2 ^ 35
+pub index_bounded : (a : Array) (n : ℕ) → Served a.parameters → Ok n ≡ counted_of (index_spans a) → n < 2 ^ 35
 unfolding index_spans
 index_bounded a n v h =
-    by_cond (λ (b : Spanning). Count n ≡ counted_of b → n < 2 ^ 35) (undefined a.offset_size a.index_at)
+    by_cond (λ (b : Spanning). Ok n ≡ counted_of b → n < 2 ^ 35) (undefined a.offset_size a.index_at)
     (λ t e. let i = counted_inv _ n e in let z : i.0 ≡ [] = cc in omega (arith, i.2, ap length z))
     (λ t e.
     let i = counted_inv _ n e in
@@ -136,15 +136,15 @@ module _ (a : Array) (n : ℕ) where
     pub few_counted : Served a.parameters → u ≤ super_blocks a.parameters → total < 2 ^ 34
     few_counted v le = let x = s.few in omega (arith, blocks_before_few a.parameters v u le, supers_few a.parameters v)
 
-    pub supers_done : n ≤ u → Count total ≡ counted_of (supers_from a n 0)
+    pub supers_done : n ≤ u → Ok total ≡ counted_of (supers_from a n 0)
     supers_done le = sym (plus_none total _ (supers_none a u n le)) ∙ s.rest
 
     module _ (lt : u < n) where
-      pub super_refused : (r : Refusal) → CountedRefused r ≡ counted_of (super_spans a u)
-          → CountedRefused r ≡ counted_of (supers_from a n 0)
+      pub super_refused : (r : Refusal) → Err r ≡ counted_of (super_spans a u)
+          → Err r ≡ counted_of (supers_from a n 0)
       super_refused r e = sym (plus_refused total r _ _ e) ∙ ap (plus total) (sym (supers_next a u n lt)) ∙ s.rest
 
-      pub super_counted : (m : ℕ) → Count m ≡ counted_of (super_spans a u) → AtSuper (total + m) (u + 1)
+      pub super_counted : (m : ℕ) → Ok m ≡ counted_of (super_spans a u) → AtSuper (total + m) (u + 1)
       super_counted m e = record {
         few = let i = counted_inv _ m e in let x = s.few in omega (arith, before_next u, i.2, super_few a u i.0 i.1);
         rest = sym (plus-joined total m _ _ e) ∙ ap (plus total) (sym (supers_next a u n lt)) ∙ s.rest;

@@ -3,10 +3,11 @@ use Prim.Native.Nat.{ℕ, ◌+◌, ◌*◌, ◌<◌, ◌≤◌}
 use mathlib.Core.Path.{◌≡◌, refl, ap, ◌∙◌}
 use native.Mathlib.Omega.{arith}
 use borrow.Author.Tests.{lt-ltb, le-ltb}
-use Rattle.refusal.specs.declared.Checked.{Checked}
-use Rattle.refusal.specs.declared.Checked.TheVariants.{Passed, Refused}
-use Rattle.refusal.specs.Refusals.{figure, largest64, ◌then◌}
-use Rattle.refusal.proofs.Tests.{refuse_false, refuse_true}
+use Rattle.std.specs.Prelude.{Err, Ok}
+use Rattle.refusal.specs.declared.Refusal.{Refusal}
+use Rattle.refusal.specs.declared.Refusal.TheVariants.{SpanOverflow}
+use Rattle.refusal.specs.Refusals.{figure, largest64}
+use Rattle.refusal.proofs.Tests.{refuse_false, refuse_true, then_first, then_second}
 use Rattle.ea_header.specs.Header.{header_bytes}
 use Rattle.ea_geometry.specs.declared.EaGeometry.{EaGeometry}
 use Rattle.ea_geometry.specs.Bounded.{Bounded}
@@ -18,38 +19,43 @@ use Rattle.span_walk.specs.declared.Span.{Span}
 use Rattle.span_walk.specs.Spans.{header_span, bytes_of, span_of, span_test, spanned_test}
 
 module _ (s : Span) where
-  pub span_fits : s.address + s.length ≤ largest64 → Passed ≡ span_test s
+  pub span_fits : s.address + s.length ≤ largest64 → Ok tt ≡ span_test s
   unfolding span_test
-  span_fits le = refuse_false _ _ _ _ (le-ltb largest64 (s.address + s.length) le)
+  span_fits le = refuse_false _ _ (le-ltb largest64 (s.address + s.length) le)
 
   pub span_past : (n : ℕ) → n ≡ figure s.length → largest64 < s.address + s.length
-      → Refused (record { number = 31; first = s.address; second = n }) ≡ span_test s
+      → Err (SpanOverflow s.address n) ≡ span_test s
   unfolding span_test
   span_past n e lt =
-      ap (λ (x : ℕ). Refused (record { number = 31; first = s.address; second = x })) e
-      ∙ refuse_true _ _ _ _ (lt-ltb largest64 (s.address + s.length) lt)
+      ap (λ (x : ℕ). Err (SpanOverflow s.address x)) e
+      ∙ refuse_true _ _ (lt-ltb largest64 (s.address + s.length) lt)
 
 -- the same of the header, by the address of its last byte, each sum at most 2^64 − 1
-module _ (address o l a b d last : ℕ) (first : a ≡ figure (6 * l)) (second : b ≡ figure (a + o)) (third : d ≡ figure (15 + b))
+module _ (address o l a b d last : ℕ) (first : a ≡ figure (l * 6)) (second : b ≡ figure (a + o)) (third : d ≡ figure (b + 15))
     (fourth : last ≡ figure (d + address)) where
-  pub header-fits : last < largest64 → Passed ≡ span_test (header_span address o l)
+  pub header-fits : last < largest64 → Ok tt ≡ span_test (header_span address o l)
   unfolding figure header_span
   header-fits lt = span_fits _ (omega arith)
 
   pub header_past : (n : ℕ) → n ≡ figure (header_bytes o l) → largest64 ≤ last
-      → Refused (record { number = 31; first = address; second = n }) ≡ span_test (header_span address o l)
+      → Err (SpanOverflow address n) ≡ span_test (header_span address o l)
   unfolding figure header_span
   header_past n e le = span_past _ n e (omega arith)
 
--- the span that the code makes, and the test that it makes with it
+-- the span that the code makes, and its test
 module _ (a : Array) (x : Structure) where
   pub span_is : (at n : ℕ) → at ≡ start_of a x → n ≡ bytes_of a x → record { address = at; length = n } ≡ span_of a x
   unfolding span_of
   span_is at n e q = rw (e, q) refl
 
-  pub spanned_is : (s : Span) (t : Checked) → s ≡ span_of a x → t ≡ test_of a x → span_test s then t ≡ spanned_test a x
+  -- its own test where 31 is passed, and where it isn't
+  pub spanned_passed : (s : Span) → s ≡ span_of a x → Ok tt ≡ span_test s → test_of a x ≡ spanned_test a x
   unfolding spanned_test
-  spanned_is s t e q = rw (e, q) refl
+  spanned_passed s e h = then_second _ _ (h ∙ ap span_test e)
+
+  pub spanned_refused : (s : Span) (r : Refusal) → s ≡ span_of a x → Err r ≡ span_test s → Err r ≡ spanned_test a x
+  unfolding spanned_test
+  spanned_refused s r e h = then_first _ _ (h ∙ ap span_test e)
 
 -- the bytes of the index block fit 64 bits
 pub index-exact : (g : EaGeometry) → g.parameters.element_size < 256 → g.parameters.idx_blk_elmts < 256 → Bounded g

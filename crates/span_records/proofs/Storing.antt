@@ -1,45 +1,42 @@
 -- Span records in a lent list: where they fit, and what they are. Assumes nothing.
 use Prim.Native.Nat.{ℕ, zero, suc, ◌+◌, ◌<◌, ◌≤◌}
 use mathlib.Core.Path.{◌≡◌, refl, sym, ap, ◌∙◌}
-use mathlib.Core.Bool.{Bool, true, false}
 use mathlib.Core.List.{List, [], ◌∷◌, ◌++◌}
 use native.Mathlib.Omega.{arith}
-use borrow.Author.Tests.{lt-ltb, le-ltb, ltb-false}
-use lib.Dec.{ltb}
+use borrow.Author.Tests.{lt-ltb, le-ltb}
 use lib.ListN.{length, get_or, take, set, length-take, get_or-append}
 use lib.Seq.{sets, sets-eq, take-suc, take_all}
-use Rattle.refusal.specs.declared.Checked.TheVariants.{Passed, Refused}
+use Rattle.std.specs.Prelude.{Err, Ok}
+use Rattle.refusal.specs.declared.Refusal.{Refusal}
+use Rattle.refusal.specs.declared.Refusal.TheVariants.{ListTooSmall}
 use Rattle.refusal.specs.Refusals.{refuse}
-use Rattle.refusal.specs.Outcome.{refused, accepted, in_room}
+use Rattle.refusal.specs.Outcome.{in_room}
 use Rattle.refusal.specs.Values.{counted_of}
 use Rattle.refusal.proofs.Outcomes.{room_had}
+use Rattle.refusal.proofs.Counts.{counted_inv, refused_inv}
 use Rattle.span_walk.specs.declared.Span.{Span}
 use Rattle.span_walk.specs.Walk.{Spanning}
 use Rattle.ea_spans.specs.SpanList.{each, filled, address_of, length_of}
 use Rattle.ea_spans.proofs.Writing.{length-filled}
-use Rattle.span_records.specs.Stored.{span_at, stored, record_room, room_test, stored_number, stored_where, listed_number, recorded}
+use Rattle.span_records.specs.Stored.{span_at, stored, record_room, room_test, stored_number, recorded}
 
 -- the test's two answers
 module _ (n room : ℕ) where
-  pub room_passed : n ≤ room → Passed ≡ room_test n room
+  pub room_passed : n ≤ room → Ok tt ≡ room_test n room
   unfolding room_test refuse
   room_passed le = rw (le-ltb room n le) refl
 
-  pub room_refused : room < n → Refused (record { number = 9; first = n; second = 0 }) ≡ room_test n room
+  pub room_refused : room < n → Err (ListTooSmall n) ≡ room_test n room
   unfolding room_test refuse
   room_refused lt = rw (lt-ltb room n lt) refl
 
-  -- what is stored has room
-  pub number_fits : stored_number (room_test n room) n ≤ room
-  unfolding room_test refuse stored_number
-  number_fits = go (ltb room n) refl
-    where
-      go : (b : Bool) → ltb room n ≡ b → stored_number (refuse 9 n 0 b) n ≤ room
-      go true e = omega arith
-      go false e = ltb-false room n e
+  -- none, where there is not
+  pub number_none : room < n → stored_number (room_test n room) n ≡ 0
+  unfolding stored_number
+  number_none lt = rw (sym (room_refused lt)) refl
 
   -- all of n, where there is room
-  number_all : n ≤ room → stored_number (room_test n room) n ≡ n
+  pub number_all : n ≤ room → stored_number (room_test n room) n ≡ n
   unfolding stored_number
   number_all le = rw (sym (room_passed le)) refl
 
@@ -63,7 +60,7 @@ get_d_each part (s ∷ l) zero d h = refl
 get_d_each part (s ∷ l) (suc i) d h = get_d_each part l i d (omega arith)
 
 get_d_filled : (part : Span → ℕ) (l : List Span) (xs : List ℕ) (i : ℕ) (d : Span) → length l ≤ length xs → i < length l
-    → get_or (filled part (accepted l) 0 xs) i 0 ≡ part (get_or l i d)
+    → get_or (filled part (Ok l) 0 xs) i 0 ≡ part (get_or l i d)
 unfolding filled
 get_d_filled part l xs i d le lt =
     let n = length-each part l in
@@ -74,10 +71,10 @@ get_d_filled part l xs i d le lt =
 -- Spans that were listed into two lists, stored as records: the records are those spans.
 module _ (l : List Span) (xs ls : List ℕ) (ys : List Span) (a : length l ≤ length xs) (b : length l ≤ length ls) where
   abbrev A : List ℕ
-  A = filled address_of (accepted l) 0 xs
+  A = filled address_of (Ok l) 0 xs
 
   abbrev L : List ℕ
-  L = filled length_of (accepted l) 0 ls
+  L = filled length_of (Ok l) 0 ls
 
   none : Span
   none = record { address = 0; length = 0 }
@@ -93,24 +90,37 @@ module _ (l : List Span) (xs ls : List ℕ) (ys : List Span) (a : length l ≤ l
   spans-stored = stored-take (length l) (omega arith) ∙ ap (sets ys 0) (take_all (length l) l (omega arith))
 
 -- Listed and then stored, they are recorded.
-listed_recorded : (t : Spanning) (xs ls : List ℕ) (ys : List Span) → ((l : List Span) → t ≡ accepted l → length l ≤ record_room xs ls ys)
-    → let A = filled address_of t 0 xs in
-    let L = filled length_of t 0 ls in
-    let n = listed_number (counted_of t) in
-    stored_where n A L ys ≡ recorded t ys
-unfolding listed_number counted_of recorded
-listed_recorded (refused r) xs ls ys had = rw (number_all 0 (record_room (filled address_of (refused r) 0 xs) (filled length_of (refused r) 0 ls) ys) (omega arith)) refl
-listed_recorded (accepted l) xs ls ys had =
-    let k = had l refl in
-    let x = length-filled address_of (accepted l) 0 xs in
-    let y = length-filled length_of (accepted l) 0 ls in
-    rw (number_all (length l) (record_room (filled address_of (accepted l) 0 xs) (filled length_of (accepted l) 0 ls) ys) (omega arith))
-    (spans-stored l xs ls ys (omega arith) (omega arith))
+module _ (a : Spanning) (xs ls : List ℕ) (ys : List Span) where
+  abbrev listed : Spanning
+  listed = in_room a (record_room xs ls ys)
 
-pub spans-recorded : (a : Spanning) (xs ls : List ℕ) (ys : List Span)
-    → let t = in_room a (record_room xs ls ys) in
-    let A = filled address_of t 0 xs in
-    let L = filled length_of t 0 ls in
-    let n = listed_number (counted_of t) in
-    stored_where n A L ys ≡ recorded t ys
-spans-recorded a xs ls ys = listed_recorded (in_room a (record_room xs ls ys)) xs ls ys (λ l e. room_had a (record_room xs ls ys) l e)
+  abbrev filled_addresses : List ℕ
+  filled_addresses = filled address_of listed 0 xs
+
+  abbrev filled_lengths : List ℕ
+  filled_lengths = filled length_of listed 0 ls
+
+  module _ (n : ℕ) (e : Ok n ≡ counted_of listed) where
+    pub listed_fit : n ≤ record_room filled_addresses filled_lengths ys
+    listed_fit =
+        let i = counted_inv listed n e in
+        let k = room_had a (record_room xs ls ys) i.0 i.1 in
+        let x = length-filled address_of listed 0 xs in
+        let y = length-filled length_of listed 0 ls in
+        let z = i.2 in
+        omega arith
+
+    pub spans_recorded : stored n filled_addresses filled_lengths ys ≡ recorded listed ys
+    unfolding recorded
+    spans_recorded =
+        let i = counted_inv listed n e in
+        let k = room_had a (record_room xs ls ys) i.0 i.1 in
+        go i.0 listed i.1 n i.2 (omega arith) (omega arith)
+      where
+        go : (l : List Span) (t : Spanning) → t ≡ Ok l → (m : ℕ) → m ≡ length l → length l ≤ length xs → length l ≤ length ls
+            → stored m (filled address_of t 0 xs) (filled length_of t 0 ls) ys ≡ recorded t ys
+        go l t p m q x y = rw (q, p) (spans-stored l xs ls ys x y)
+
+  pub refused_kept : (r : Refusal) → Err r ≡ counted_of listed → ys ≡ recorded listed ys
+  unfolding recorded
+  refused_kept r e = rw (refused_inv listed r e) refl

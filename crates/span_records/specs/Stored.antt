@@ -1,12 +1,9 @@
 -- Span records in a lent list.
-use Rattle.std.specs.Prelude.{ℕ, zero, suc, min, List, ltb, length, get_or, set}
+use Rattle.std.specs.Prelude.{ℕ, zero, suc, min, List, ltb, length, get_or, set, Err, Ok}
 use Rattle.std.proofs.lemmas.List.Edits.{sets}
-use Rattle.refusal.specs.declared.Checked.{Checked}
-use Rattle.refusal.specs.declared.Checked.TheVariants.{Passed, Refused}
-use Rattle.refusal.specs.declared.Counted.{Counted}
-use Rattle.refusal.specs.declared.Counted.TheVariants.{Count, Refused as CountedRefused}
-use Rattle.refusal.specs.Refusals.{refuse}
-use Rattle.refusal.specs.Outcome.{refused, accepted, in_room}
+use Rattle.refusal.specs.declared.Refusal.TheVariants.{ListTooSmall}
+use Rattle.refusal.specs.Refusals.{refuse, Checked}
+use Rattle.refusal.specs.Outcome.{in_room}
 use Rattle.span_walk.specs.declared.Span.{Span}
 use Rattle.span_walk.specs.Walk.{Spanning, spans}
 use Rattle.ea_spans.specs.SpanList.{room_of}
@@ -26,7 +23,7 @@ record_room addresses lengths spans = min (room_of addresses lengths) (length sp
 
 -- 9, list too small (needed records)
 unfoldable pub room_test : ℕ → ℕ → Checked
-room_test n room = refuse 9 n 0 (ltb room n)
+room_test n room = refuse (ListTooSmall n) (ltb room n)
 
 -- the test that three lists hold n spans
 abbrev pub store_test : ℕ → List ℕ → List ℕ → List Span → Checked
@@ -34,8 +31,8 @@ store_test n addresses lengths spans = room_test n (record_room addresses length
 
 -- how many are stored: n, or none after a refusal
 unfoldable pub stored_number : Checked → ℕ → ℕ
-stored_number Passed n = n
-stored_number (Refused r) n = 0
+stored_number (Ok tt) n = n
+stored_number (Err r) n = 0
 
 -- the records then
 abbrev pub stored_where : ℕ → List ℕ → List ℕ → List Span → List Span
@@ -47,12 +44,7 @@ unfoldable pub spans_as_records : List ℕ → ℕ → ℕ → ℕ → List ℕ 
 spans_as_records f address o l addresses lengths records =
     in_room (spans f address o l) (record_room addresses lengths records)
 
--- how many are listed: the count, or none after a refusal
-unfoldable pub listed_number : Counted → ℕ
-listed_number (Count n) = n
-listed_number (CountedRefused r) = 0
-
 -- The records then: the spans from number 0 on, and the others as they were. After a refusal all are as they were.
 unfoldable pub recorded : Spanning → List Span → List Span
-recorded (refused r) out = out
-recorded (accepted l) out = sets out 0 l
+recorded (Err r) out = out
+recorded (Ok l) out = sets out 0 l

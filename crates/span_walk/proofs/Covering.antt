@@ -7,7 +7,7 @@ use mathlib.Core.List.{List, [], ◌∷◌, Memᴰ}
 use mathlib.Core.Logic.{⊎_elim}
 use native.Mathlib.Omega.{arith}
 use lib.Dec.{leb}
-use Rattle.refusal.specs.Outcome.{accepted}
+use Rattle.std.specs.Prelude.{Ok}
 use Rattle.refusal.proofs.Tests.{by_cond, both}
 use Rattle.refusal.proofs.Outcomes.{yields_inv, also_inv}
 use Rattle.fields.specs.Fields.{undefined}
@@ -129,13 +129,13 @@ module _ (a : Array) (v : Served a.parameters) (l : List Span) (index : Memᴰ (
   }
 
 -- the accepted spans of an array whose index block is defined
-index_inv : (a : Array) (l : List Span) → undefined a.offset_size a.index_at ≡ false → index_spans a ≡ accepted l
-    → (m : List Span) × (supers_from a (super_blocks a.parameters) 0 ≡ accepted m) × (l ≡ span_of a index_block ∷ m)
+index_inv : (a : Array) (l : List Span) → undefined a.offset_size a.index_at ≡ false → index_spans a ≡ Ok l
+    → (m : List Span) × (supers_from a (super_blocks a.parameters) 0 ≡ Ok m) × (l ≡ span_of a index_block ∷ m)
 index_inv a l u h = also_inv _ _ l (yields_inv _ _ l (sym (index_defined a u) ∙ h)).1
 
 -- The spans of a file are accepted, and its index block is defined: the header has its span, and every structure that
 -- a list or a lookup of any dataset with this index tests lies in one.
-pub spans_cover : (f : List ℕ) (address o l : ℕ) (s : List Span) → spans f address o l ≡ accepted s
+pub spans_cover : (f : List ℕ) (address o l : ℕ) (s : List Span) → spans f address o l ≡ Ok s
     → undefined o (header_at f address o l).index_block_address ≡ false
     → Memᴰ (header_span address o l) s × Covered (array_from f (header_at f address o l) o) s
 unfolding spans

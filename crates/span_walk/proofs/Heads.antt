@@ -4,7 +4,7 @@ use mathlib.Core.Path.{◌≡◌, sym}
 use mathlib.Core.Bool.{true}
 use mathlib.Core.List.{List}
 use lib.ListN.{length}
-use Rattle.refusal.specs.declared.Checked.TheVariants.{Passed}
+use Rattle.std.specs.Prelude.{Ok}
 use Rattle.refusal.proofs.Tests.{then_passed}
 use Rattle.fields.specs.Fields.{is_width}
 use Rattle.checksum.specs.Lookup3.{lookup3}
@@ -14,7 +14,7 @@ use Rattle.ea_header.proofs.Header.{passed_is}
 use Rattle.ea_header.proofs.Served.{tested_serves}
 use Rattle.span_walk.specs.Walk.{head_test}
 
-pub head_passed : (f : List ℕ) (address o l : ℕ) → Passed ≡ head_test f address o l
+pub head_passed : (f : List ℕ) (address o l : ℕ) → Ok tt ≡ head_test f address o l
     → (address + header_bytes o l ≤ length f) × (is_width o ≡ true) × Served (header_at f address o l).parameters
 unfolding head_test
 head_passed f address o l e =

@@ -4,9 +4,9 @@ use mathlib.Core.Path.{◌≡◌, refl, ap}
 use mathlib.Core.List.{List, [], ◌∷◌, ◌++◌}
 use native.Mathlib.Omega.{arith}
 use lib.ListN.{length-append}
+use Rattle.std.specs.Prelude.{Err, Ok}
 use Rattle.refusal.specs.declared.Refusal.{Refusal}
-use Rattle.refusal.specs.declared.Counted.TheVariants.{Count, Refused as CountedRefused}
-use Rattle.refusal.specs.Outcome.{refused, accepted, also}
+use Rattle.refusal.specs.Outcome.{also}
 use Rattle.refusal.specs.Values.{plus, counted_of}
 use Rattle.refusal.proofs.Outcomes.{never}
 use Rattle.refusal.proofs.Counts.{counted_inv, refused_inv}
@@ -17,31 +17,31 @@ use Rattle.span_walk.specs.Walk.{Spanning, joined}
 pub record Parts (a b : Spanning) (l : List Span) : Type 0 where
   pub first : List Span
   pub second : List Span
-  pub first_is : a ≡ accepted first
-  pub second_is : b ≡ accepted second
+  pub first_is : a ≡ Ok first
+  pub second_is : b ≡ Ok second
   pub is : l ≡ first ++ second
 
-pub joined_inv : (a b : Spanning) (l : List Span) → joined a b ≡ accepted l → Parts a b l
+pub joined_inv : (a b : Spanning) (l : List Span) → joined a b ≡ Ok l → Parts a b l
 unfolding joined
-joined_inv (refused r) b l h = absurd (never r l h)
-joined_inv (accepted m) (refused r) l h = absurd (never r l h)
-joined_inv (accepted m) (accepted n) l h = record { first = m; second = n; first_is = refl; second_is = refl; is = cc }
+joined_inv (Err r) b l h = absurd (never r l h)
+joined_inv (Ok m) (Err r) l h = absurd (never r l h)
+joined_inv (Ok m) (Ok n) l h = record { first = m; second = n; first_is = refl; second_is = refl; is = cc }
 
 -- one span before the others
-pub also-joined : (s : Span) (b : Spanning) → also s b ≡ joined (accepted (s ∷ [])) b
+pub also-joined : (s : Span) (b : Spanning) → also s b ≡ joined (Ok (s ∷ [])) b
 unfolding also joined
-also-joined s (refused r) = refl
-also-joined s (accepted m) = refl
+also-joined s (Err r) = refl
+also-joined s (Ok m) = refl
 
 -- how many there are, by what was counted in front
-pub plus-joined : (t n : ℕ) (a b : Spanning) → Count n ≡ counted_of a → plus t (joined a b) ≡ plus (t + n) b
+pub plus-joined : (t n : ℕ) (a b : Spanning) → Ok n ≡ counted_of a → plus t (joined a b) ≡ plus (t + n) b
 unfolding joined plus
 plus-joined t n a b h = let i = counted_inv a n h in rw i.1 (go b)
   where
-    go : (b : Spanning) → plus t (joined (accepted (counted_inv a n h).0) b) ≡ plus (t + n) b
-    go (refused r) = refl
-    go (accepted m) = ap Count (omega (arith, length-append (counted_inv a n h).0 m, (counted_inv a n h).2))
+    go : (b : Spanning) → plus t (joined (Ok (counted_inv a n h).0) b) ≡ plus (t + n) b
+    go (Err r) = refl
+    go (Ok m) = ap Ok (omega (arith, length-append (counted_inv a n h).0 m, (counted_inv a n h).2))
 
-pub plus_refused : (t : ℕ) (r : Refusal) (a b : Spanning) → CountedRefused r ≡ counted_of a → plus t (joined a b) ≡ CountedRefused r
+pub plus_refused : (t : ℕ) (r : Refusal) (a b : Spanning) → Err r ≡ counted_of a → plus t (joined a b) ≡ Err r
 unfolding joined plus
 plus_refused t r a b h = rw (refused_inv a r h) refl

@@ -8,7 +8,7 @@ use mathlib.Core.Logic.{⊎_elim}
 use native.Mathlib.Omega.{arith}
 use native.Mathlib.Nat.{eq-or-lt_of_le}
 use borrow.Author.Tests.{not-true}
-use Rattle.refusal.specs.Outcome.{accepted}
+use Rattle.std.specs.Prelude.{Ok}
 use Rattle.refusal.proofs.Tests.{by_cond, false_true, both}
 use Rattle.refusal.proofs.Outcomes.{yields_inv, also_inv}
 use Rattle.ea_geometry.specs.Sizes.{blocks}
@@ -57,7 +57,7 @@ module _ (a : Array) (u : ℕ) (l : List Span) where
       m _ (blocks_in a u (blocks u) 0 k (omega arith) (omega arith)
       (not-true _ (both (is_direct a u || not (super_undefined a u)) (not (block_undefined a u k)) r).1))
 
-  super_holds : super_spans a u ≡ accepted l → Holds a u l
+  super_holds : super_spans a u ≡ Ok l → Holds a u l
   unfolding super_spans block_reached
   super_holds h =
       by_cond P (is_direct a u)
@@ -72,10 +72,10 @@ module _ (a : Array) (u : ℕ) (l : List Span) where
       record { super = λ x y. head_cons o.2; block = blocks_held (λ s m. among_cons o.2 s (subst (Memᴰ s) z m)) })) h
     where
       P : Spanning → Type 0
-      P b = b ≡ accepted l → Holds a u l
+      P b = b ≡ Ok l → Holds a u l
 
 -- those of the super blocks from u on
-pub supers_in : (a : Array) (j u : ℕ) (l m : List Span) → supers_from a j u ≡ accepted m → Among m l
+pub supers_in : (a : Array) (j u : ℕ) (l m : List Span) → supers_from a j u ≡ Ok m → Among m l
     → (v : ℕ) → u ≤ v → v < u + j → Holds a v l
 unfolding supers_from
 supers_in a zero u l m h i v le lt = absurd (omega arith)

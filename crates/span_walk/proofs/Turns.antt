@@ -5,7 +5,8 @@ use mathlib.Core.Path.{◌≡◌, refl}
 use mathlib.Core.Bool.{true, false}
 use mathlib.Core.List.{[], ◌∷◌}
 use native.Mathlib.Omega.{arith}
-use Rattle.refusal.specs.Outcome.{accepted, ◌yields◌, also}
+use Rattle.std.specs.Prelude.{Ok}
+use Rattle.refusal.specs.Outcome.{◌yields◌, also}
 use Rattle.fields.specs.Fields.{undefined}
 use Rattle.ea_geometry.specs.Sizes.{super_blocks, blocks}
 use Rattle.ea_blocks.specs.Array.{Array}
@@ -19,7 +20,7 @@ less n i h = omega arith
 
 module _ (a : Array) where
   -- the index block
-  pub index_none : undefined a.offset_size a.index_at ≡ true → index_spans a ≡ accepted []
+  pub index_none : undefined a.offset_size a.index_at ≡ true → index_spans a ≡ Ok []
   unfolding index_spans
   index_none e = rw e refl
 
@@ -30,22 +31,22 @@ module _ (a : Array) where
 
   module _ (u : ℕ) where
     -- a super block and its data blocks
-    pub super_direct : is_direct a u ≡ true → super_spans a u ≡ accepted (block_spans a u (blocks u) 0)
+    pub super_direct : is_direct a u ≡ true → super_spans a u ≡ Ok (block_spans a u (blocks u) 0)
     unfolding super_spans
     super_direct d = rw d refl
 
     module _ (d : is_direct a u ≡ false) where
-      pub super_none : super_undefined a u ≡ true → super_spans a u ≡ accepted []
+      pub super_none : super_undefined a u ≡ true → super_spans a u ≡ Ok []
       unfolding super_spans
       super_none w = rw (d, w) refl
 
       pub super_defined : super_undefined a u ≡ false
-          → super_spans a u ≡ (spanned_test a (super_block u) yields also (span_of a (super_block u)) (accepted (block_spans a u (blocks u) 0)))
+          → super_spans a u ≡ (spanned_test a (super_block u) yields also (span_of a (super_block u)) (Ok (block_spans a u (blocks u) 0)))
       unfolding super_spans
       super_defined w = rw (d, w) refl
 
     -- the super blocks from u on
-    pub supers_none : (n : ℕ) → n ≤ u → supers_from a (n - u) u ≡ accepted []
+    pub supers_none : (n : ℕ) → n ≤ u → supers_from a (n - u) u ≡ Ok []
     unfolding supers_from
     supers_none n h = let z : n - u ≡ 0 = omega arith in rw z refl
 

@@ -1,7 +1,7 @@
 -- The span of each structure: where it begins, and its bytes.
 use Rattle.std.specs.Prelude.{ℕ, ◌+◌, cond, ltb}
-use Rattle.refusal.specs.declared.Checked.{Checked}
-use Rattle.refusal.specs.Refusals.{refuse, figure, largest64, ◌then◌}
+use Rattle.refusal.specs.declared.Refusal.TheVariants.{SpanOverflow}
+use Rattle.refusal.specs.Refusals.{refuse, figure, largest64, ◌then◌, Checked}
 use Rattle.ea_header.specs.Header.{header_bytes}
 use Rattle.ea_header.specs.declared.Parameters.{Parameters}
 use Rattle.ea_geometry.specs.Sizes.{over_page}
@@ -31,7 +31,7 @@ span_of a x = record { address = start_of a x; length = bytes_of a x }
 
 -- 31: address plus length past 2^64 − 1 (both). The sum is exact.
 unfoldable pub span_test : Span → Checked
-span_test s = refuse 31 s.address (figure s.length) (ltb largest64 (s.address + s.length))
+span_test s = refuse (SpanOverflow s.address (figure s.length)) (ltb largest64 (s.address + s.length))
 
 -- 31 before 20, signature and checksum
 unfoldable pub spanned_test : Array → Structure → Checked

@@ -1,9 +1,8 @@
 -- The walk of the spans: which test comes when, and which spans it gives. The published count plays no part: spans
 -- cover every pointed-to block.
-use Rattle.std.specs.Prelude.{ℕ, zero, suc, ◌+◌, cond, List, [], ◌∷◌, ◌++◌}
-use Rattle.refusal.specs.declared.Checked.{Checked}
-use Rattle.refusal.specs.Refusals.{◌then◌}
-use Rattle.refusal.specs.Outcome.{Outcome, refused, accepted, ◌yields◌, also}
+use Rattle.std.specs.Prelude.{ℕ, zero, suc, ◌+◌, cond, List, [], ◌∷◌, ◌++◌, Err, Ok}
+use Rattle.refusal.specs.Refusals.{◌then◌, Checked, Outcome}
+use Rattle.refusal.specs.Outcome.{◌yields◌, also}
 use Rattle.fields.specs.Fields.{undefined}
 use Rattle.checksum.specs.Lookup3.{lookup3}
 use Rattle.ea_header.specs.Header.{header_at, header_test}
@@ -21,9 +20,9 @@ Spanning = Outcome (List Span)
 
 -- one after the other: both lists, or the first refusal
 unfoldable pub joined : Spanning → Spanning → Spanning
-joined (refused r) b = refused r
-joined (accepted l) (refused r) = refused r
-joined (accepted l) (accepted m) = accepted (l ++ m)
+joined (Err r) b = Err r
+joined (Ok l) (Err r) = Err r
+joined (Ok l) (Ok m) = Ok (l ++ m)
 
 -- The data blocks of super block u that are pointed to, among j of them from k on. A data block's span isn't tested.
 unfoldable pub block_spans : Array → ℕ → ℕ → ℕ → List Span
@@ -35,20 +34,20 @@ block_spans a u (suc j) k =
 -- Super block u and its data blocks. Where the index block names these, the super block has no span of its own.
 unfoldable pub super_spans : Array → ℕ → Spanning
 super_spans a u =
-    let inner = accepted (block_spans a u (blocks u) 0) in
+    let inner = Ok (block_spans a u (blocks u) 0) in
     cond (is_direct a u) inner
-    (cond (super_undefined a u) (accepted [])
+    (cond (super_undefined a u) (Ok [])
     (spanned_test a (super_block u) yields also (span_of a (super_block u)) inner))
 
 -- j super blocks from u on
 unfoldable pub supers_from : Array → ℕ → ℕ → Spanning
-supers_from a zero u = accepted []
+supers_from a zero u = Ok []
 supers_from a (suc j) u = joined (super_spans a u) (supers_from a j (u + 1))
 
 -- An undefined index block has no span, and leads nowhere.
 unfoldable pub index_spans : Array → Spanning
 index_spans a =
-    cond (undefined a.offset_size a.index_at) (accepted [])
+    cond (undefined a.offset_size a.index_at) (Ok [])
     (spanned_test a index_block yields also (span_of a index_block) (supers_from a (super_blocks a.parameters) 0))
 
 -- Spans: header at its address (31, 20, ..), 27, ..

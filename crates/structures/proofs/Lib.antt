@@ -1,4 +1,3 @@
 pub mod StructureTests
 pub mod HeaderTests
 pub mod Masks
-pub mod Numbered

@@ -5,10 +5,9 @@ use mathlib.Core.List.{List}
 use mathlib.Core.Logic.{⊎_elim}
 use native.Mathlib.Omega.{arith}
 use lib.ListN.{length, take, drop}
+use Rattle.std.specs.Prelude.{Err, Ok}
 use Rattle.refusal.specs.declared.Refusal.{Refusal}
-use Rattle.refusal.specs.declared.Checked.{Checked}
-use Rattle.refusal.specs.declared.Checked.TheVariants.{Passed, Refused}
-use Rattle.refusal.specs.Refusals.{figure, largest64, ◌then◌}
+use Rattle.refusal.specs.Refusals.{figure, largest64, ◌then◌, Checked}
 use Rattle.refusal.proofs.Tests.{lt_or_ge, then_first, then_second, then_assoc, then_inv, then_passed}
 use Rattle.fields.specs.Fields.{in_file}
 use Rattle.fields.proofs.Fields.{inside, past_end, figure_in_file, figures_in_file}
@@ -22,16 +21,16 @@ module _ (kind : Kind) (f : List ℕ) (pos len : ℕ) where
   abbrev before : Checked
   before = in_file f pos len then signature_test kind f pos
 
-  pub before_inside : Passed ≡ before → pos + len ≤ length f
+  pub before_inside : Ok tt ≡ before → pos + len ≤ length f
   before_inside e = inside f pos len (then_passed _ _ e).0
 
   module _ (sum : List ℕ → ℕ) where
-    pub before_refused : {r : Refusal} → Refused r ≡ before → Refused r ≡ structure_test sum kind f pos len
+    pub before_refused : {r : Refusal} → Err r ≡ before → Err r ≡ structure_test sum kind f pos len
     unfolding structure_test
     before_refused e = then_first _ _ e ∙ then_assoc _ _ _
 
     -- its checksum decides; the code cuts the structure out from pos to pos + len
-    pub before_passed : Passed ≡ before → trailing_test sum (take (pos + len - pos) (drop pos f)) ≡ structure_test sum kind f pos len
+    pub before_passed : Ok tt ≡ before → trailing_test sum (take (pos + len - pos) (drop pos f)) ≡ structure_test sum kind f pos len
     unfolding structure_test
     before_passed e =
         let n : pos + len - pos ≡ len = omega arith in
@@ -62,7 +61,7 @@ figures_first f pos len next short =
 
 module _ (sum : List ℕ → ℕ) (f : List ℕ) (pos len : ℕ) where
   module _ (kind : Kind) where
-    pub structure_inside : structure_test sum kind f pos len ≡ Passed → pos + len ≤ length f
+    pub structure_inside : structure_test sum kind f pos len ≡ Ok tt → pos + len ≤ length f
     unfolding structure_test
     structure_inside t = inside f pos len (sym (then_inv _ _ t).0)
 
@@ -74,7 +73,7 @@ module _ (sum : List ℕ → ℕ) (f : List ℕ) (pos len : ℕ) where
     unfolding structure_test
     figures_structure short = figures_first f pos len (λ (i n : ℕ). signature_test kind f i then trailing_test sum (take n (drop i f))) short
 
-  pub figure-header : (number signature o l : ℕ) → length f < 2 ^ 63
-      → signed_header_test number signature sum f pos (figure len) o l ≡ signed_header_test number signature sum f pos len o l
+  pub figure-header : (wrong : Refusal) (signature o l : ℕ) → length f < 2 ^ 63
+      → signed_header_test wrong signature sum f pos (figure len) o l ≡ signed_header_test wrong signature sum f pos len o l
   unfolding signed_header_test
-  figure-header number signature o l short = figure-first f pos len (λ (n : ℕ). _ then _ then trailing_test sum (take n (drop pos f))) short
+  figure-header wrong signature o l short = figure-first f pos len (λ (n : ℕ). _ then _ then trailing_test sum (take n (drop pos f))) short

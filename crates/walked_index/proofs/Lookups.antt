@@ -5,28 +5,21 @@ use mathlib.Core.Path.{◌≡◌, refl, sym, ap, subst, ◌∙◌}
 use mathlib.Core.List.{List}
 use borrow.Author.Tests.{lt-ltb, le-ltb}
 use lib.ListN.{length}
+use Rattle.std.specs.Prelude.{Err, None, Ok, Option, Some}
+use Rattle.index.specs.declared.Entry.{Entry}
 use Rattle.refusal.specs.declared.Refusal.{Refusal}
-use Rattle.refusal.specs.declared.Checked.{Checked}
-use Rattle.refusal.specs.declared.Checked.TheVariants.{Passed, Refused}
-use Rattle.refusal.specs.Refusals.{largest64, ◌then◌}
-use Rattle.refusal.specs.Outcome.{accepted, ◌yields◌}
-use Rattle.refusal.proofs.Numbered.{Numbered, Told, numbered_then, told_yields}
+use Rattle.refusal.specs.Refusals.{largest64, ◌then◌, Checked, Outcome}
+use Rattle.refusal.specs.Outcome.{◌yields◌}
 use Rattle.refusal.proofs.Tests.{then_inv}
 use Rattle.refusal.proofs.Outcomes.{yields_inv, yields_passed, yields_refused}
 use Rattle.chunk_grid.specs.Grid.{Grid, grid_test, corner_test, slot_of}
-use Rattle.chunk_grid.specs.declared.Slot.{Slot}
-use Rattle.chunk_grid.specs.declared.Slot.TheVariants.{At, NoSlot}
 use Rattle.chunk_grid.proofs.Grids.{chunk_inv}
 use Rattle.chunk_grid.proofs.Chunks.{corner_chunk}
-use Rattle.chunk_grid.proofs.RefusalNumbers.{grid_numbered, corner_numbered}
 use Rattle.element_form.specs.declared.Form.{Form}
 use Rattle.index.specs.Index.{Rec, Listing}
 use Rattle.elements.specs.Elements.{Elements}
-use Rattle.elements.specs.declared.Found.{Found}
-use Rattle.elements.specs.declared.Found.TheVariants.{Absent as FoundAbsent, Refused as FoundRefused}
 use Rattle.elements.specs.Values.{found_of}
 use Rattle.located.specs.Located.{Located, index_of, path, slot_path}
-use Rattle.located.proofs.Numbered.{slot_told}
 use Rattle.located.proofs.Walks.{Right}
 use Rattle.located.proofs.Lookups.{lookup_answers, lookup_accepts, lookup_agrees}
 use Rattle.walked_index.specs.Answered.{Answered, Agreed}
@@ -34,12 +27,12 @@ use Rattle.walked_index.proofs.Walked.{Laws}
 
 -- a slot's path, by the count
 module _ (x : Located) where
-  pub no_slot : (q : Slot) → q ≡ NoSlot → FoundAbsent ≡ found_of (slot_path x q)
+  pub no_slot : (q : Option ℕ) → q ≡ None → Ok None ≡ found_of (slot_path x q)
   unfolding slot_path found_of
   no_slot q e = rw e refl
 
-  module _ (q : Slot) (s : ℕ) (e : q ≡ At s) where
-    pub past_count : x.elements.count ≤ s → FoundAbsent ≡ found_of (slot_path x q)
+  module _ (q : Option ℕ) (s : ℕ) (e : q ≡ Some s) where
+    pub past_count : x.elements.count ≤ s → Ok None ≡ found_of (slot_path x q)
     unfolding slot_path found_of
     past_count le = rw (e, le-ltb s x.elements.count le) refl
 
@@ -53,30 +46,25 @@ module _ (g : Grid) (corner : List ℕ) (t : Checked) where
   tests = grid_test g then corner_test g corner then t
 
   -- what they leave
-  pub tests_passed : tests ≡ Passed → (grid_test g ≡ Passed) × (length corner ≡ g.rank) × (t ≡ Passed)
+  pub tests_passed : tests ≡ Ok tt → (grid_test g ≡ Ok tt) × (length corner ≡ g.rank) × (t ≡ Ok tt)
   tests_passed h =
       let b = then_inv _ _ h in
       let d = then_inv _ _ b.1 in
       (b.0, (chunk_inv _ _ (corner_chunk _ _ d.0)).ranked, d.1)
 
   module _ (x : Located) where
-    pub lookup_refused : (r : Refusal) → tests ≡ Refused r → FoundRefused r ≡ found_of (tests yields slot_path x (slot_of g corner))
+    pub lookup_refused : (r : Refusal) → tests ≡ Err r → Err r ≡ found_of (tests yields slot_path x (slot_of g corner))
     unfolding found_of
     lookup_refused r h = sym (ap found_of (yields_refused _ _ r h))
 
-    pub lookup_passed : (q : Slot) → q ≡ slot_of g corner → tests ≡ Passed
+    pub lookup_passed : (q : Option ℕ) → q ≡ slot_of g corner → tests ≡ Ok tt
         → found_of (slot_path x q) ≡ found_of (tests yields slot_path x (slot_of g corner))
-    lookup_passed q z h = ap (λ (p : Slot). found_of (slot_path x p)) z ∙ sym (ap found_of (yields_passed _ _ h))
-
-    -- every refusal of a lookup has a number above 0, where those of its index's tests have
-    pub lookup_told : Numbered t → ((s : ℕ) → Numbered (x.tests s)) → Told (tests yields slot_path x (slot_of g corner))
-    lookup_told n m =
-        told_yields _ _ (numbered_then _ _ (grid_numbered g) (numbered_then _ _ (corner_numbered g corner) n)) (slot_told x m (slot_of g corner))
+    lookup_passed q z h = ap (λ (p : Option ℕ). found_of (slot_path x p)) z ∙ sym (ap found_of (yields_passed _ _ h))
 
 -- what a lookup finds: the equation, and the theorems of it
 module _ {walk : Elements → Listing} {located : Elements → Located} {form : Form} {count : ℕ} (x : Laws walk located form count) (t : Checked)
-    (enters : (e : Elements) (l : List Rec) → walk e ≡ accepted l → t ≡ Passed) where
-  pub found_by : (e : Elements) (corner : List ℕ) (found : Found) → form ≡ e.form → count ≡ e.count → e.count ≤ largest64
+    (enters : (e : Elements) (l : List Rec) → walk e ≡ Ok l → t ≡ Ok tt) where
+  pub found_by : (e : Elements) (corner : List ℕ) (found : Outcome (Option Entry)) → form ≡ e.form → count ≡ e.count → e.count ≤ largest64
       → found ≡ found_of (tests e.grid corner t yields slot_path (located e) (slot_of e.grid corner))
       → (found ≡ found_of (tests e.grid corner t yields slot_path (located e) (slot_of e.grid corner)))
       × Answered (tests e.grid corner t yields slot_path (located e) (slot_of e.grid corner)) (index_of (located e)) corner found
@@ -86,7 +74,7 @@ module _ {walk : Elements → Listing} {located : Elements → Located} {form : 
     where
       P : Elements → Type 0
       P y =
-          ((l : List Rec) → (grid_test e.grid yields walk e) ≡ accepted l → (grid_test y.grid ≡ Passed) × (t ≡ Passed) × Right (located e) 0 l)
+          ((l : List Rec) → (grid_test e.grid yields walk e) ≡ Ok l → (grid_test y.grid ≡ Ok tt) × (t ≡ Ok tt) × Right (located e) 0 l)
           → y.count ≤ largest64
           → found ≡ found_of (tests y.grid corner t yields slot_path (located e) (slot_of y.grid corner))
           → (found ≡ found_of (tests y.grid corner t yields slot_path (located e) (slot_of y.grid corner)))

@@ -4,13 +4,13 @@ use mathlib.Core.Path.{◌≡◌, refl, subst}
 use mathlib.Core.List.{List}
 use native.Mathlib.Omega.{arith}
 use lib.ListN.{length}
+use Rattle.std.specs.Prelude.{Ok}
 use Rattle.element_form.specs.declared.Form.{Form}
 use Rattle.index.specs.Index.{Rec, Listing}
 use Rattle.elements.specs.declared.ElementReader.{ElementReader}
 use Rattle.elements.specs.Elements.{Elements}
 use Rattle.elements.specs.Values.{elements_of}
 use Rattle.records.specs.Records.{record_length, list_bytes}
-use Rattle.refusal.specs.Outcome.{accepted}
 use Rattle.located.specs.Located.{Located}
 use Rattle.located.specs.declared.Run.{Run}
 use Rattle.located.specs.Values.{RunOf}
@@ -21,7 +21,7 @@ use Rattle.walked_index.specs.Walked.{Walked, WalkedTo}
 -- an index's own laws, in a file
 pub record Laws (walk : Elements → Listing) (located : Elements → Located) (form : Form) (count : ℕ) : Type 0 where
   pub elements : (e : Elements) → (located e).elements ≡ e
-  pub right : (e : Elements) → form ≡ e.form → count ≡ e.count → (l : List Rec) → walk e ≡ accepted l → Right (located e) 0 l
+  pub right : (e : Elements) → form ≡ e.form → count ≡ e.count → (l : List Rec) → walk e ≡ Ok l → Right (located e) 0 l
 
 -- where elements lie, with others in their place
 abbrev with : Located → Elements → Located

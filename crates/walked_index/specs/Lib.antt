@@ -1,4 +1,3 @@
 pub mod Walked
 pub mod PathEnds
 pub mod Answered
-pub mod Read

@@ -1,6 +1,5 @@
 -- What the code's values stand for: what an index is read by, and a walk of it that was accepted.
-use Rattle.std.specs.Prelude.{ℕ, ◌<◌, ◌≡◌, List}
-use Rattle.refusal.specs.Outcome.{accepted}
+use Rattle.std.specs.Prelude.{ℕ, ◌<◌, ◌≡◌, List, Ok}
 use Rattle.chunk_grid.specs.Grid.{Grid}
 use Rattle.element_form.specs.declared.Form.{Form}
 use Rattle.index.specs.Index.{Rec, Listing}
@@ -26,7 +25,7 @@ pub record Walked (walk : Elements → Listing) (form : Form) (count : ℕ) (fil
     (chunk bound down : List ℕ) (l : List Rec) : Type 0 where
   pub by : ReadBy form r chunk bound down
   pub counted : count ≡ r.count
-  pub accepts : walk (elements_of file r by.grid by.element_bytes) ≡ accepted l
+  pub accepts : walk (elements_of file r by.grid by.element_bytes) ≡ Ok l
 
 -- Some walk of an index is accepted that comes to slot s.
 pub record WalkedTo (walk : Elements → Listing) (form : Form) (count : ℕ) (file : List ℕ) (s : ℕ) : Type 0 where
@@ -36,4 +35,4 @@ pub record WalkedTo (walk : Elements → Listing) (form : Form) (count : ℕ) (f
   pub formed : form ≡ elements.form
   pub counted : count ≡ elements.count
   pub below : s < count
-  pub accepts : walk elements ≡ accepted list
+  pub accepts : walk elements ≡ Ok list

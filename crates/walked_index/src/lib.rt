@@ -1,9 +1,7 @@
 #![tactic(auto)]
 // Any kind of index whose elements lie in a file: what list and lookup ask of it.
-ghost use Rattle.std.specs.Prelude.{◌≡◌, ◌<◌, List, ℕ};
-ghost use Rattle.refusal.specs.declared.Checked.{Checked as CheckedValue};
-ghost use Rattle.refusal.specs.declared.Checked.TheVariants.{Passed};
-ghost use Rattle.refusal.specs.Outcome.{accepted};
+ghost use Rattle.std.specs.Prelude.{◌≡◌, ◌<◌, List, ℕ, Ok};
+ghost use Rattle.refusal.specs.Refusals.{Checked};
 ghost use Rattle.refusal.specs.Values.{counted_of};
 ghost use Rattle.chunk_grid.specs.Grid.{Grid};
 ghost use Rattle.element_form.specs.declared.Form.{Form as FormValue};
@@ -19,8 +17,7 @@ ghost use Rattle.walked_index.specs.PathEnds.{PathEnds};
 use element_form::Form;
 use elements::ElementReader;
 use located::Run;
-use refusal::{Checked, Counted};
-use structures::enter::Entered;
+use refusal::Refusal;
 
 pub mod call;
 pub mod list;
@@ -34,7 +31,7 @@ pub trait WalkedIndex: Copy {
 
     ghost count: { Self → ℕ };
 
-    ghost entry: { Self → List ℕ → CheckedValue };
+    ghost entry: { Self → List ℕ → Checked };
 
     ghost walk: { Self → List ℕ → Elements → Listing };
 
@@ -46,7 +43,7 @@ pub trait WalkedIndex: Copy {
     fn slot_count(self) -> u64
         ensures { result ≡ count self };
 
-    fn test_entry(self, file: &[u8]) -> Checked
+    fn test_entry(self, file: &[u8]) -> Result<(), Refusal>
         ensures { result ≡ entry self file.now };
 
     // Tests its structures in slot order, and counts the records of its elements.
@@ -57,7 +54,7 @@ pub trait WalkedIndex: Copy {
         chunk: &[u64; 32],
         bound: &[u64; 32],
         down: &[u64; 32],
-    ) -> Counted
+    ) -> Result<u64, Refusal>
         requires { ReadBy (form self) reader chunk.now bound.now down.now × (count self ≡ reader.count) }
         ensures { (grid : Grid) (n : ℕ)
             → Reads reader chunk.now bound.now down.now grid n
@@ -70,8 +67,8 @@ pub trait WalkedIndex: Copy {
             → RunOf (located self file.now e) slot result };
 
     // The path to a slot in use.
-    fn path_of(self, file: &[u8], slot: u64) -> Entered
-        requires { (entry self file.now ≡ Passed) × (slot < count self) }
+    fn path_of(self, file: &[u8], slot: u64) -> Result<Option<u64>, Refusal>
+        requires { (entry self file.now ≡ Ok tt) × (slot < count self) }
         ensures { PathEnds (located self file.now) file.now (form self) slot result };
 
     // Laws: where its elements lie it has the elements that are read; an accepted walk is right, and its entry is
@@ -79,8 +76,8 @@ pub trait WalkedIndex: Copy {
     ghost elements_are: { (i : Self) (f : List ℕ) (e : Elements) → (located i f e).elements ≡ e };
 
     ghost walk_right: { (i : Self) (f : List ℕ) (e : Elements) → form i ≡ e.form → count i ≡ e.count
-        → (l : List Rec) → walk i f e ≡ accepted l → Right (located i f e) 0 l };
+        → (l : List Rec) → walk i f e ≡ Ok l → Right (located i f e) 0 l };
 
-    ghost walk_enters: { (i : Self) (f : List ℕ) (e : Elements) (l : List Rec) → walk i f e ≡ accepted l
-        → entry i f ≡ Passed };
+    ghost walk_enters: { (i : Self) (f : List ℕ) (e : Elements) (l : List Rec) → walk i f e ≡ Ok l
+        → entry i f ≡ Ok tt };
 }

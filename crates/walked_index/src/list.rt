@@ -1,7 +1,6 @@
 // The list of any kind of index.
-ghost use Rattle.std.specs.Prelude.{◌≡◌, List, ℕ, ◌/◌, ◌<◌, ◌≤◌, length};
+ghost use Rattle.std.specs.Prelude.{◌≡◌, List, ℕ, ◌/◌, ◌<◌, ◌≤◌, length, Ok};
 ghost use Rattle.std.proofs.lemmas.List.Edits.{sets};
-ghost use Rattle.refusal.specs.declared.Counted.TheVariants.{Count};
 ghost use Rattle.refusal.specs.Outcome.{in_room, ◌yields◌};
 ghost use Rattle.refusal.specs.Values.{counted_of};
 ghost use Rattle.chunk_grid.specs.Grid.{Grid, grid_test};
@@ -19,28 +18,28 @@ use element_runs::count::below_count;
 use elements::ElementReader;
 use located::Run;
 use records::write_elements;
-use refusal::{Checked, Counted, Refusal};
+use refusal::Refusal;
 
 // Lists the chunks of a dataset: one record for each, in slot order, from the start of the lent list on. element_bytes
 // is the bytes of one of its elements. A list that is too small, like every other refusal, is left as it was.
+// (Not inlined, so that reading the grid and this don't need their stack at once.)
+#[inline(never)]
 pub fn list_chunks<I: WalkedIndex>(
     file: &[u8],
     index: I,
     grid: ChunkGrid,
     element_bytes: u64,
     list: &mut [u8],
-) -> Counted
+) -> Result<u64, Refusal>
     ensures { let e = elements_read file.now (I.form index) (grid_of grid) element_bytes (I.count index) in
         let answer = in_room (grid_test (grid_of grid) yields I.walk index file.now e)
         (length list.old / record_length grid.rank) in
         (result ≡ counted_of answer)
         × (list.new ≡ list_content answer list.old)
-        × ((n : ℕ) → result ≡ Count n → 0 < grid.rank
+        × ((n : ℕ) → result ≡ Ok n → 0 < grid.rank
         → ExactList (index_of (I.located index file.now e)) (records_in grid.rank n list.new) n) }
 {
-    if let Checked::Refused(r) = grid.test() {
-        return Counted::Refused(r);
-    }
+    grid.test()?;
     let mut counts = [0u64; 32];
     let mut bound = [0u64; 32];
     let mut down = [0u64; 32];
@@ -61,7 +60,7 @@ fn list_walk<I: WalkedIndex>(
     chunk: &[u64; 32],
     bound: &[u64; 32],
     down: &[u64; 32],
-) -> Counted
+) -> Result<u64, Refusal>
     requires { ReadBy (I.form index) reader chunk.now bound.now down.now × (I.count index ≡ reader.count) }
     ensures { (grid : Grid) (n : ℕ)
         → Reads reader chunk.now bound.now down.now grid n
@@ -69,20 +68,13 @@ fn list_walk<I: WalkedIndex>(
         (length list.old / record_length reader.rank) in
         (result ≡ counted_of answer) × (list.new ≡ list_content answer list.old) }
 {
-    let counted = index.count_walk(file, reader, chunk, bound, down);
-    let Counted::Count(n) = counted else {
-        return counted;
-    };
+    let n = index.count_walk(file, reader, chunk, bound, down)?;
     let room = list.len() as u64 / (16 + 8 * reader.rank);
     if room < n {
-        return Counted::Refused(Refusal {
-            number: Refusal::LIST_TOO_SMALL,
-            first: n,
-            second: 0,
-        });
+        return Err(Refusal::ListTooSmall(n));
     }
     write_walk(list, file, index, reader, chunk, bound, down);
-    Counted::Count(n)
+    Ok(n)
 }
 
 // Writes the records of an index into the list, from its start on. The index is walked before: nothing is tested again.

@@ -1,6 +1,5 @@
 // The lookup in any kind of index.
-ghost use Rattle.std.specs.Prelude.{◌≡◌, ℕ};
-ghost use Rattle.refusal.specs.declared.Checked.TheVariants.{Passed};
+ghost use Rattle.std.specs.Prelude.{◌≡◌, ℕ, Ok};
 ghost use Rattle.refusal.specs.Refusals.{◌then◌};
 ghost use Rattle.refusal.specs.Outcome.{◌yields◌};
 ghost use Rattle.chunk_grid.specs.Grid.{Grid, grid_test, corner_test, slot_of};
@@ -11,22 +10,24 @@ ghost use Rattle.walked_index.specs.Walked.{elements_read, ReadBy};
 ghost use Rattle.walked_index.specs.Answered.{Answered, Agreed};
 
 use crate::WalkedIndex;
-use chunk_grid::{ChunkGrid, Slot};
+use chunk_grid::ChunkGrid;
 use chunk_slots::{corner_test, slot_of};
+use elements::ElementReader;
 use elements::read::read_element;
-use elements::{ElementReader, Found};
-use refusal::Checked;
-use structures::enter::Entered;
+use index::Entry;
+use refusal::Refusal;
 
 // Looks up the chunk at a corner. Its refusals come in this order: 3 to 8 of the grid, 10 of the corner, those of the
 // index's entry and, for a slot below the count, of the structures that lead to its place, then of its element.
+// (Not inlined: see list_chunks.)
+#[inline(never)]
 pub fn lookup_chunk<I: WalkedIndex>(
     file: &[u8],
     index: I,
     grid: ChunkGrid,
     element_bytes: u64,
     corner: &[u64],
-) -> Found
+) -> Result<Option<Entry>, Refusal>
     ensures { let e = elements_read file.now (I.form index) (grid_of grid) element_bytes (I.count index) in
         let answer = grid_test (grid_of grid) then corner_test (grid_of grid) corner.now then I.entry index file.now
         yields slot_path (I.located index file.now e) (slot_of (grid_of grid) corner.now) in
@@ -35,9 +36,7 @@ pub fn lookup_chunk<I: WalkedIndex>(
         × Agreed (grid_test (grid_of grid) yields I.walk index file.now e) (grid_of grid) corner.now result }
 {
     let count = index.slot_count();
-    if let Checked::Refused(r) = lookup_test(file, index, grid, corner) {
-        return Found::Refused(r);
-    }
+    lookup_test(file, index, grid, corner)?;
     let mut counts = [0u64; 32];
     let mut bound = [0u64; 32];
     let mut down = [0u64; 32];
@@ -50,18 +49,17 @@ pub fn lookup_chunk<I: WalkedIndex>(
 }
 
 // The tests before a path.
-fn lookup_test<I: WalkedIndex>(file: &[u8], index: I, grid: ChunkGrid, corner: &[u64]) -> Checked
+fn lookup_test<I: WalkedIndex>(
+    file: &[u8],
+    index: I,
+    grid: ChunkGrid,
+    corner: &[u64],
+) -> Result<(), Refusal>
     ensures { result ≡ grid_test (grid_of grid) then corner_test (grid_of grid) corner.now
         then I.entry index file.now }
 {
-    let built = grid.test();
-    let Checked::Passed = built else {
-        return built;
-    };
-    let cornered = corner_test(grid, corner);
-    let Checked::Passed = cornered else {
-        return cornered;
-    };
+    grid.test()?;
+    corner_test(grid, corner)?;
     index.test_entry(file)
 }
 
@@ -70,26 +68,25 @@ fn slot_path<I: WalkedIndex>(
     file: &[u8],
     index: I,
     reader: ElementReader,
-    slot: Slot,
+    slot: Option<u64>,
     chunk: &[u64; 32],
     bound: &[u64; 32],
     down: &[u64; 32],
-) -> Found
-    requires { (I.entry index file.now ≡ Passed)
+) -> Result<Option<Entry>, Refusal>
+    requires { (I.entry index file.now ≡ Ok tt)
         × ReadBy (I.form index) reader chunk.now bound.now down.now × (I.count index ≡ reader.count) }
     ensures { (grid : Grid) (n : ℕ)
         → Reads reader chunk.now bound.now down.now grid n
         → result ≡ found_of (slot_path (I.located index file.now (elements_of file.now reader grid n)) slot) }
 {
-    let Slot::At(s) = slot else {
-        return Found::Absent;
+    let Some(s) = slot else {
+        return Ok(None);
     };
     if reader.count <= s {
-        return Found::Absent;
+        return Ok(None);
     }
-    match index.path_of(file, s) {
-        Entered::Absent => Found::Absent,
-        Entered::At(pos) => read_element(file, pos as usize, s, reader, chunk, bound, down),
-        Entered::Refused(r) => Found::Refused(r),
+    match index.path_of(file, s)? {
+        None => Ok(None),
+        Some(pos) => read_element(file, pos as usize, s, reader, chunk, bound, down),
     }
 }

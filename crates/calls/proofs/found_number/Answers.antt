@@ -1,16 +1,19 @@
 -- `calls::found_number` meets its contract. Assumes nothing.
+use Rattle.calls.specs.Answer.{answered}
+use Rattle.calls.specs.Values.{entry_numbers}
 use Rattle.calls.proofs.Answers.{picked_zeros}
-use Rattle.calls.specs.Values.{found_answer}
 use Rattle.calls.proofs.found_number.Goals as goal
 
-pub returns-in-Chunk : goal.returns-in-Chunk
-unfolding found_answer
-returns-in-Chunk c = rw c.in-Chunk.is c.pick.ensures
+pub returns-in-Ok-Some : goal.returns-in-Ok-Some
+unfolding answered entry_numbers
+returns-in-Ok-Some c =
+    let h = rw c.in-Ok-Some.is at c.in-Ok-Some.field-0-is in rw (c.in-Ok-Some.is, h) c.pick.ensures
 
-pub returns-in-Absent : goal.returns-in-Absent
-unfolding found_answer
-returns-in-Absent c = rw c.in-Absent.is (picked_zeros _)
+pub returns-in-Ok-None : goal.returns-in-Ok-None
+unfolding answered entry_numbers
+returns-in-Ok-None c =
+    let h = rw c.in-Ok-None.is at c.in-Ok-None.field-0-is in rw (c.in-Ok-None.is, h) (picked_zeros _)
 
-pub returns-in-Refused : goal.returns-in-Refused
-unfolding found_answer
-returns-in-Refused c = rw c.in-Refused.is c.refused_number.ensures
+pub returns-in-Err : goal.returns-in-Err
+unfolding answered
+returns-in-Err c = rw c.in-Err.is c.refused_number.ensures

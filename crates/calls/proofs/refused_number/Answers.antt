@@ -1,4 +1,5 @@
 -- `calls::refused_number` meets its contract. Assumes nothing.
+use mathlib.Core.Path.{◌∙◌}
 use native.Mathlib.Omega.{arith}
 use Rattle.calls.specs.Answer.{picked}
 use Rattle.calls.proofs.Answers.{refused_named, refused_beyond}
@@ -21,4 +22,4 @@ unfolding picked
 returns-in-2 c = search rules
 
 pub returns-else-which-names : goal.returns-else-which-names
-returns-else-which-names c = refused_beyond _ _ _ (omega arith) c.if-which-names.false
+returns-else-which-names c = c.number-in_default.ensures ∙ refused_beyond _ _ _ (omega arith) c.if-which-names.false

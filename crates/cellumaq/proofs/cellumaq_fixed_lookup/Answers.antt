@@ -1,10 +1,9 @@
 -- `cellumaq::cellumaq_fixed_lookup` meets its contract. Assumes nothing.
 use Rattle.chunk_grid.specs.Grid.{given}
 use Rattle.calls.specs.Call.{grid_given}
-use Rattle.calls.proofs.Answers.{found_picked}
+use Rattle.calls.proofs.Answers.{found_picked, zero_accepts}
 use Rattle.fa_walk.specs.Walk.{fixed_list, fixed_lookup}
 use Rattle.fa_calls.specs.Call.{fixed_call_array, fixed_call_elements, fixed_call_answer}
-use Rattle.fa_calls.proofs.Calls.{lookup_zero}
 use Rattle.cellumaq.proofs.cellumaq_fixed_lookup.Goals as goal
 
 pub returns : goal.returns
@@ -13,7 +12,7 @@ returns c =
     let e = c.lookup_at-chunk_found.ensures in
     let number = found_picked _ _ _ _ c.found_number.ensures e.0 in (
       number,
-      lookup_zero _ _ _ _ number,
+      zero_accepts _ _ _ _ _ number,
       λ x h. (e.1 x h).1,
       λ room l ranked h k. let d = e.2 room l ranked h k in (d.0, found_picked _ _ _ _ c.found_number.ensures d.1, d.2),
     )

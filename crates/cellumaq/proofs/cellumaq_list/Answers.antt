@@ -2,8 +2,7 @@
 use mathlib.Core.Path.{◌≡◌, subst}
 use Rattle.refusal.specs.Values.{counted_of}
 use Rattle.index.specs.Index.{Listing}
-use Rattle.calls.proofs.Answers.{counted_picked}
-use Rattle.ea_calls.proofs.Calls.{list_zero}
+use Rattle.calls.proofs.Answers.{counted_picked, zero_accepts}
 use Rattle.cellumaq.proofs.cellumaq_list.Goals as goal
 
 pub returns : goal.returns
@@ -11,4 +10,4 @@ unfolding counted_of
 returns c =
     let e = c.list_at-counted.ensures in
     let number = counted_picked _ _ _ _ _ c.counted_number.ensures e.0 in
-    (number, list_zero _ _ _ _ _ number, e.1, λ l h. e.2 _ (subst (λ (a : Listing). c.list_at-counted.result ≡ counted_of a) h e.0))
+    (number, zero_accepts _ _ _ _ _ number, e.1, λ l h. e.2 _ (subst (λ (a : Listing). c.list_at-counted.result ≡ counted_of a) h e.0))

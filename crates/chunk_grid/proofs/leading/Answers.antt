@@ -1,22 +1,20 @@
--- `chunk_grid::leading` meets its contract. Assumes nothing.
-use mathlib.Core.Path.{◌≡◌, ◌∙◌}
-use Rattle.chunk_grid.proofs.Building.{place-unlimited, leads_first, leads_none}
-use Rattle.chunk_grid.specs.Grid.{first_unlimited, leading_in, is_unlimited_first}
-use Rattle.chunk_grid.proofs.leading.Goals.{After-place_of-u}
+-- `chunk_grid::leading` meets its contract: what `position` finds is where the first unlimited count stands. Assumes
+-- nothing.
+use Rattle.std.proofs.Common.{◌≡◌, ◌≢◌, rules, tests}
+use Rattle.std.proofs.lemmas.Iterator.{IsFirst-from_position, YieldsList-from_slice}
+use Rattle.chunk_grid.proofs.Building.{leads_found}
+use Rattle.chunk_grid.specs.Grid.{leading_in, is_unlimited_first}
 use Rattle.chunk_grid.proofs.leading.Goals as goal
+use Rattle.refusal.specs.Refusals.{largest64}
 
 pub returns-in-RowMajor : goal.returns-in-RowMajor
 unfolding leading_in is_unlimited_first
 returns-in-RowMajor c = rw c.in-RowMajor.is
 
--- the place that is found is the first unlimited dimension's
-first : (c : After-place_of-u) → c.place_of-u.result ≡ first_unlimited c.args.counts.now
-first c = c.place_of-u.ensures ∙ place-unlimited _
-
-pub returns-then-u-counts : goal.returns-then-u-counts
+pub returns-in-UnlimitedFirst : goal.returns-in-UnlimitedFirst
 unfolding is_unlimited_first
-returns-then-u-counts c = rw (c.in-UnlimitedFirst.is, first (goal.at.returns-then-u-counts c).After-place_of-u) (leads_first _ (rw (← first (goal.at.returns-then-u-counts c).After-place_of-u) c.if-u-counts.true))
-
-pub returns-else-u-counts : goal.returns-else-u-counts
-unfolding is_unlimited_first
-returns-else-u-counts c = rw c.in-UnlimitedFirst.is (leads_none _ (rw (← first (goal.at.returns-else-u-counts c).After-place_of-u) c.if-u-counts.false))
+returns-in-UnlimitedFirst c =
+    let found =
+    IsFirst-from_position _ _ c.position.result (λ x. x ≡ largest64) (λ x. x ≢ largest64) c.position.ensures.ran
+    (YieldsList-from_slice _ c.iter.ensures.rest) (λ x q k. search (rules, tests)) (λ x q k. search (rules, tests)) in
+    rw (c.in-UnlimitedFirst.is, c.unwrap_or.ensures) (leads_found _ _ found)

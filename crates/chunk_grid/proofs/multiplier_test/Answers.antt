@@ -3,12 +3,11 @@ use mathlib.Core.Path.{◌≡◌, sym, ap, ◌∙◌}
 use native.Mathlib.Omega.{arith}
 use Prim.Native.Nat.{ℕ, ◌-◌, ◌<◌, max}
 use lib.ListN.{length, get_or}
-use Rattle.fields.proofs.Numbers.{fits_is, overflows_is}
 use Rattle.chunk_grid.specs.Grid.{to_front}
 use Rattle.chunk_grid.proofs.Order.{length_front}
 use Rattle.chunk_grid.proofs.Places.{read_at}
 use Rattle.chunk_grid.proofs.Building.{tested_none, tested-unlimited, tested_over, tested_more, tested_all}
-use Rattle.chunk_grid.proofs.multiplier_test.Goals.{After-at_least_one, After-dim_at}
+use Rattle.chunk_grid.proofs.multiplier_test.Goals.{After-max, After-dim_at}
 use Rattle.chunk_grid.proofs.multiplier_test.Goals as goal
 
 -- the count that is read is the one of place i - 1 in the grid's order
@@ -18,30 +17,28 @@ counted : (c : After-dim_at)
 counted c = read_at _ _ _ _ (omega arith) (omega arith) c.dim_at.ensures
 
 pub loop-i-init : goal.loop-i-init
-loop-i-init c =
-    (omega arith, rw (← length_front c.args.rotated c.args.counts.now c.requires) (tested_none (to_front c.args.rotated c.args.counts.now)))
+loop-i-init c = rw (← length_front c.args.rotated c.args.counts.now c.requires) (tested_none (to_front c.args.rotated c.args.counts.now))
 
 pub returns-then-count : goal.returns-then-count
 returns-then-count c =
-    c.refused.ensures ∙ sym (tested-unlimited _ _ _ c.loop-i.invariant.1 c.loop-i-test.true (sym (counted (goal.at.returns-then-count c).After-dim_at).1 ∙ c.if-count.true))
+    sym (tested-unlimited _ _ _ c.loop-i.invariant c.loop-i-test.true (sym (counted (goal.at.returns-then-count c).After-dim_at).1 ∙ c.if-count.true))
 
 -- and is taken as 1 where it is 0
-limited : (c : After-at_least_one)
-    → c.at_least_one.result ≡ max (get_or (to_front c.args.rotated c.args.counts.now) (c.loop-i.i - 1) 0) 1
-limited c = c.at_least_one.ensures ∙ ap (λ (n : ℕ). max n 1) (counted (goal.at.After-at_least_one c).After-dim_at).1
+limited : (c : After-max) → c.max.result ≡ max (get_or (to_front c.args.rotated c.args.counts.now) (c.loop-i.i - 1) 0) 1
+limited c = c.max.ensures ∙ ap (λ (n : ℕ). max n 1) (counted (goal.at.After-max c).After-dim_at).1
 
 pub returns-in_default : goal.returns-in_default
 returns-in_default c =
-    let o = overflows_is _ (sym c.in_default.is ∙ c.checked_mul.ensures) in
-    c.refused-in_default.ensures ∙ sym (tested_over _ _ _ c.loop-i.invariant.1 c.loop-i-test.true (λ p. c.if-count.false ((counted (goal.at.returns-in_default c).After-dim_at).1 ∙ p)) (rw (← limited (goal.at.returns-in_default c).After-at_least_one) o))
+    let e = limited (goal.at.returns-in_default c).After-max in
+    sym (tested_over _ _ _ c.loop-i.invariant c.loop-i-test.true (λ p. c.if-count.false ((counted (goal.at.returns-in_default c).After-dim_at).1 ∙ p)) (rw (← e) (omega (arith, c.in_default.ensures))))
 
 pub loop-i-preserved : goal.loop-i-preserved
 loop-i-preserved c =
-    let f = rw (limited (goal.at.loop-i-preserved c).After-at_least_one) at (fits_is _ _ (sym c.in-Fits.is ∙ c.checked_mul.ensures)) in
-    (omega arith, rw f.0 (tested_more _ _ _ c.loop-i.invariant.1 c.loop-i-test.true (λ p. c.if-count.false ((counted (goal.at.loop-i-preserved c).After-dim_at).1 ∙ p)) f.1))
+    let f = rw (limited (goal.at.loop-i-preserved c).After-max) at c.in-Some.ensures in
+    rw f.1 (tested_more _ _ _ c.loop-i.invariant c.loop-i-test.true (λ p. c.if-count.false ((counted (goal.at.loop-i-preserved c).After-dim_at).1 ∙ p)) (omega (arith, f.0)))
 
 pub returns : goal.returns
-returns c = sym (tested_all _ _ _ c.loop-i.invariant.1 c.loop-i-test.false)
+returns c = sym (tested_all _ _ _ c.loop-i.invariant c.loop-i-test.false)
 
 pub offset_bounds-counts-dim_at : goal.offset_bounds-counts-dim_at
 offset_bounds-counts-dim_at c = omega (arith, (counted (goal.at.offset_bounds-counts-dim_at c).After-dim_at).0)

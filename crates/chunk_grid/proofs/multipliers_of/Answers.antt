@@ -7,7 +7,7 @@ use Rattle.chunk_grid.specs.Grid.{to_front}
 use Rattle.chunk_grid.proofs.Order.{length_front}
 use Rattle.chunk_grid.proofs.Places.{read_at}
 use Rattle.chunk_grid.proofs.Building.{made_none, made_fits, made_more, made_all, made_empty}
-use Rattle.chunk_grid.proofs.multipliers_of.Goals.{After-at_least_one, After-dim_at}
+use Rattle.chunk_grid.proofs.multipliers_of.Goals.{After-max, After-dim_at}
 use Rattle.chunk_grid.proofs.multipliers_of.Goals as goal
 
 -- the count that is read is the one of place i - 1 in the grid's order
@@ -17,35 +17,35 @@ counted : (c : After-dim_at)
 counted c = read_at _ _ _ _ (omega arith) (omega arith) c.dim_at.ensures
 
 -- and the next multiplier
-next : (c : After-at_least_one)
+next : (c : After-max)
     → let l = c.loop-i in
     let s = c.args in
-    get_or l.down (l.i - 1) 0 * c.at_least_one.result ≡ get_or l.down (l.i - 1) 0 * max (get_or (to_front s.rotated s.counts.now) (l.i - 1) 0) 1
+    get_or l.down (l.i - 1) 0 * c.max.result ≡ get_or l.down (l.i - 1) 0 * max (get_or (to_front s.rotated s.counts.now) (l.i - 1) 0) 1
 next c =
     let l = c.loop-i in
-    ap (λ (n : ℕ). get_or l.down (l.i - 1) 0 * n) (c.at_least_one.ensures ∙ ap (λ (n : ℕ). max n 1) (counted (goal.at.After-at_least_one c).After-dim_at).1)
+    ap (λ (n : ℕ). get_or l.down (l.i - 1) 0 * n) (c.max.ensures ∙ ap (λ (n : ℕ). max n 1) (counted (goal.at.After-max c).After-dim_at).1)
 
-pub returns-then-i-eq0 : goal.returns-then-i-eq0
-returns-then-i-eq0 c = made_empty c.args.rotated c.args.counts.now c.args.down.now c.if-i-eq0.true c.requires.0
+pub returns-then-rank-eq0 : goal.returns-then-rank-eq0
+returns-then-rank-eq0 c = made_empty c.args.rotated c.args.counts.now c.args.down.now c.if-rank-eq0.true c.requires.0
 
 pub loop-i-init : goal.loop-i-init
 loop-i-init c =
     let e = length_front c.args.rotated c.args.counts.now c.requires.1 in
-    (omega arith, simp length-set c.requires.0, rw (← e) (made_none (to_front c.args.rotated c.args.counts.now) c.args.down.now (omega arith) (omega arith)))
+    (simp length-set c.requires.0, rw (← e) (made_none (to_front c.args.rotated c.args.counts.now) c.args.down.now (omega arith) (omega arith)))
 
 pub overflow_mul-down : goal.overflow_mul-down
 overflow_mul-down c =
     let l = c.loop-i in
-    let m = made_fits _ _ _ _ l.invariant.2 c.loop-i-test.true c.requires.2 in
-    omega (arith, next (goal.at.overflow_mul-down c).After-at_least_one, m)
+    let m = made_fits _ _ _ _ l.invariant.1 c.loop-i-test.true c.requires.2 in
+    omega (arith, next (goal.at.overflow_mul-down c).After-max, m)
 
 pub loop-i-preserved : goal.loop-i-preserved
 loop-i-preserved c =
     let l = c.loop-i in
-    (omega arith, simp length-set l.invariant.1, rw (next (goal.at.loop-i-preserved c).After-at_least_one, (counted (goal.at.loop-i-preserved c).After-dim_at).1) (made_more _ _ _ _ l.invariant.2 c.loop-i-test.true))
+    (simp length-set l.invariant.0, rw (next (goal.at.loop-i-preserved c).After-max, (counted (goal.at.loop-i-preserved c).After-dim_at).1) (made_more _ _ _ _ l.invariant.1 c.loop-i-test.true))
 
 pub returns : goal.returns
-returns c = made_all _ _ _ _ c.loop-i.invariant.2 c.loop-i-test.false
+returns c = made_all _ _ _ _ c.loop-i.invariant.1 c.loop-i-test.false
 
 pub offset_bounds-counts-dim_at : goal.offset_bounds-counts-dim_at
 offset_bounds-counts-dim_at c = omega (arith, (counted (goal.at.offset_bounds-counts-dim_at c).After-dim_at).0)

@@ -6,18 +6,24 @@ use lib.ListN.{length, length-append}
 use lib.Seq.{length-take-le, take_at}
 use Rattle.chunk_grid.specs.Grid.{has_zero}
 use Rattle.chunk_grid.proofs.Order.{length-pairwise}
+use Rattle.chunk_grid.proofs.Members.{any_list}
 use Rattle.chunk_grid.proofs.Numbered.{zero_length, no_zero_length}
-use Rattle.chunk_grid.proofs.numbering_test.Goals.{After-counts_of, Else-has_zero}
+use Rattle.chunk_grid.proofs.numbering_test.Goals.{After-counts_of, After-contains, Else-contains}
 use Rattle.chunk_grid.proofs.numbering_test.Goals as goal
 
-pub returns-then-has_zero : goal.returns-then-has_zero
-returns-then-has_zero c = c.refused.ensures ∙ zero_length _ _ _ (sym c.has_zero.ensures ∙ c.if-has_zero.true)
+zero : (c : After-contains) → c.contains.result ≡ has_zero c.args.chunk.now
+unfolding has_zero
+zero c = c.contains.ensures.value ∙ any_list _ _
 
-no_zero : (c : Else-has_zero) → has_zero c.args.chunk.now ≡ false
-no_zero c = sym c.has_zero.ensures ∙ c.if-has_zero.false
+pub returns-then-contains : goal.returns-then-contains
+returns-then-contains c =
+    zero_length _ _ _ (sym (zero (goal.at.returns-then-contains c).After-contains) ∙ c.if-contains.true)
+
+no_zero : (c : Else-contains) → has_zero c.args.chunk.now ≡ false
+no_zero c = sym (zero (goal.at.Else-contains c).After-contains) ∙ c.if-contains.false
 
 pub counts_of-requires : goal.counts_of-requires
-counts_of-requires c = (length-take-le _ _ (omega arith), c.requires.0, no_zero (goal.at.counts_of-requires c).Else-has_zero)
+counts_of-requires c = (length-take-le _ _ (omega arith), c.requires.0, no_zero (goal.at.counts_of-requires c).Else-contains)
 
 -- the counts stand in front
 stored : (c : After-counts_of) → length c.counts_of.new.counts ≡ length c.args.chunk.now
@@ -26,7 +32,7 @@ stored c = let p = c.requires.0 in ap length c.counts_of.ensures ∙ length-pair
 pub returns : goal.returns
 returns c =
     let e = take_at c.counts_of.new.counts _ _ (stored (goal.at.returns c).After-counts_of) ∙ c.counts_of.ensures in
-    c.counts_test.ensures ∙ no_zero_length _ _ _ (no_zero (goal.at.returns c).Else-has_zero) _ e
+    c.counts_test.ensures ∙ no_zero_length _ _ _ (no_zero (goal.at.returns c).Else-contains) _ e
 
 pub slice_bounds-counts_of-end : goal.slice_bounds-counts_of-end
 slice_bounds-counts_of-end c = sym (length-take-le _ _ (omega arith))

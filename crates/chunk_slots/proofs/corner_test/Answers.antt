@@ -3,26 +3,25 @@ use borrow.Author.Tests.{lt-ltb, eq-eqb}
 use Rattle.chunk_grid.specs.Values.{grid_of}
 use Rattle.chunk_slots.proofs.Corners.{other_rank_lem, corner_small, corner_pos, aligned_step, below_step, unaligned_here, outside_here, passes}
 use mathlib.Core.Path.{refl, sym, ◌∙◌}
-use native.Mathlib.Omega.{arith}
 use Rattle.chunk_grid.specs.Grid.{given}
 use Rattle.chunk_slots.proofs.corner_test.Goals as goal
 
 pub returns-then-corner-grid : goal.returns-then-corner-grid
 unfolding grid_of given
-returns-then-corner-grid c = c.refused.ensures ∙ other_rank_lem _ _ c.if-corner-grid.true
+returns-then-corner-grid c = other_rank_lem _ _ c.if-corner-grid.true
 
 pub loop-i-init : goal.loop-i-init
 loop-i-init c =
-    (omega arith, corner_small _ c.args.corner.now c.requires c.if-corner-grid.false, refl, refl)
+    (corner_small _ c.args.corner.now c.requires c.if-corner-grid.false, refl, refl)
 
 pub nonzero_rem-corner : goal.nonzero_rem-corner
 nonzero_rem-corner c = corner_pos _ c.args.corner.now c.requires c.if-corner-grid.false _ c.loop-i-test.true
 
 pub returns-then-corner-i-ne0 : goal.returns-then-corner-i-ne0
-returns-then-corner-i-ne0 c = c.refused-then-corner-i-ne0.ensures ∙ unaligned_here _ _ c.requires c.if-corner-grid.false _ c.loop-i-test.true c.loop-i.invariant.2 c.if-corner-i-ne0.true
+returns-then-corner-i-ne0 c = unaligned_here _ _ c.requires c.if-corner-grid.false _ c.loop-i-test.true c.loop-i.invariant.1 c.if-corner-i-ne0.true
 
 pub returns-then-present-i : goal.returns-then-present-i
-returns-then-present-i c = c.refused-then-present-i.ensures ∙ outside_here _ _ c.requires c.if-corner-grid.false _ c.loop-i-test.true c.loop-i.invariant.3 c.if-present-i.true
+returns-then-present-i c = outside_here _ _ c.requires c.if-corner-grid.false _ c.loop-i-test.true c.loop-i.invariant.2 c.if-present-i.true
 
 pub loop-i-preserved : goal.loop-i-preserved
 loop-i-preserved c =
@@ -31,7 +30,7 @@ loop-i-preserved c =
     let h = c.loop-i-test.true in
     let a = aligned_step _ c.args.corner.now c.requires e l.i h in
     let b = below_step _ c.args.corner.now c.requires e l.i h in
-    (omega arith, l.invariant.1, sym (rw (eq-eqb _ 0 c.if-corner-i-ne0.false) at a) ∙ l.invariant.2, sym (rw (lt-ltb _ _ c.if-present-i.false) at b) ∙ l.invariant.3)
+    (l.invariant.0, sym (rw (eq-eqb _ 0 c.if-corner-i-ne0.false) at a) ∙ l.invariant.1, sym (rw (lt-ltb _ _ c.if-present-i.false) at b) ∙ l.invariant.2)
 
 pub returns : goal.returns
-returns c = passes _ _ c.requires c.if-corner-grid.false _ c.loop-i-test.false c.loop-i.invariant.2 c.loop-i.invariant.3
+returns c = passes _ _ c.requires c.if-corner-grid.false _ c.loop-i-test.false c.loop-i.invariant.1 c.loop-i.invariant.2

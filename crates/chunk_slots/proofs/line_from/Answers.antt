@@ -23,7 +23,7 @@ overflow_sub-left c =
 
 pub returns-then-multiplier-eq1 : goal.returns-then-multiplier-eq1
 returns-then-multiplier-eq1 c = λ g chunk numbers n x h.
-    rw (c.lesser.ensures, c.dim_at-d.ensures)
+    rw (c.min.ensures, c.dim_at-d.ensures)
     (line_at g _ _ chunk _ n numbers _ x _ h c.loop-i.invariant.1 c.loop-i-test.true c.if-multiplier-eq1.true)
 
 pub nonzero_rem-rest : goal.nonzero_rem-rest
@@ -34,7 +34,7 @@ overflow_sub-multiplier c = omega (arith, mod-lt c.loop-i.rest (nonzero_rem-rest
 
 pub loop-i-preserved : goal.loop-i-preserved
 loop-i-preserved c =
-    rw c.lesser-slots.ensures
+    rw c.min-slots.ensures
     (c.loop-i.invariant.0, lining_more _ _ _ (rooms _ _ _ _ _ c.requires.3).1 c.loop-i.invariant.1 c.loop-i-test.true (nonzero_rem-rest (goal.at.loop-i-preserved c).Else-multiplier-eq1) c.if-multiplier-eq1.false)
 
 pub returns : goal.returns

@@ -35,7 +35,7 @@ ended c g n x =
     turned g _ _ _ _ n _ _ x _ (c.if-not-numbers.false) _ _ _ _ _ _ c.loop-i.invariant.1 c.loop-i-test.false
 
 pub returns-then-not-numbers : goal.returns-then-not-numbers
-returns-then-not-numbers c = λ g n x. rw c.plain.ensures (unnumbered g _ _ _ _ n _ _ x _ (c.if-not-numbers.true) _)
+returns-then-not-numbers c = λ g n x. unnumbered g _ _ _ _ n _ _ x _ (c.if-not-numbers.true) _
 
 pub loop-i-init : goal.loop-i-init
 loop-i-init c = (small _ _ _ _ _ c.requires.1, turn_first _ _ _ _ _ _ _)
@@ -59,13 +59,10 @@ loop-i-preserved c =
     (l.invariant.0, turn_more _ _ _ _ _ _ (leads _ _ _ _ _ p.1) (room.0, bound_room _ _ _ _ _ p.1 _ _ p.2, room.1) _ _ _ _ _ _ l.invariant.1 c.loop-i-test.true)
 
 pub returns-then-over : goal.returns-then-over
-returns-then-over c = λ g n x. rw c.plain-then-over.ensures (rw c.if-over.true at (ended (goal.at.returns-then-over c).After-loop-i g n x))
+returns-then-over c = λ g n x. rw c.if-over.true at (ended (goal.at.returns-then-over c).After-loop-i g n x)
 
-pub returns-then-inside : goal.returns-then-inside
-returns-then-inside c = λ g n x. rw (c.if-over.false, c.if-inside.true) at (ended (goal.at.returns-then-inside c).After-loop-i g n x)
-
-pub returns-else-inside : goal.returns-else-inside
-returns-else-inside c = λ g n x. rw (c.if-over.false, c.if-inside.false) at (ended (goal.at.returns-else-inside c).After-loop-i g n x)
+pub returns : goal.returns
+returns c = λ g n x. rw c.if-over.false at (ended (goal.at.returns c).After-loop-i g n x)
 
 pub offset_bounds-chunk-d : goal.offset_bounds-chunk-d
 offset_bounds-chunk-d c = omega (arith, dim (goal.at.offset_bounds-chunk-d c).After-dim_at-d)

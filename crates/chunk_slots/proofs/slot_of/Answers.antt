@@ -4,10 +4,9 @@ use lib.Dec.{ltb}
 use borrow.Author.Tests.{lt-ltb, ltb-true, leb-true, leb-false}
 use Rattle.refusal.proofs.Tests.{both, not_both}
 use Prim.Native.Nat.{◌/◌, ◌<◌}
-use mathlib.Core.Path.{refl, sym, ◌∙◌}
+use mathlib.Core.Path.{refl, ◌∙◌}
 use native.Mathlib.Omega.{arith}
 use lib.ListN.{length, get_or}
-use Rattle.fields.proofs.Numbers.{fits_is, overflows_is}
 use Rattle.chunk_grid.proofs.Places.{dim_lt}
 use Rattle.chunk_slots.proofs.Extents.{small, leads, chunk_pos}
 use Rattle.chunk_slots.proofs.Corners.{past_count, past_places, past_64, one_more, slot_is}
@@ -19,7 +18,7 @@ dim : (c : After-dim_at-d) → c.dim_at-d.result < length c.args.corner.now
 dim c = rw c.dim_at-d.ensures (dim_lt _ _ _ (omega (arith, leads _ _ _ _ _ c.requires.1)) c.loop-i-test.true)
 
 pub loop-i-init : goal.loop-i-init
-loop-i-init c = (omega arith, small _ _ _ _ _ c.requires.1, omega arith, refl)
+loop-i-init c = (small _ _ _ _ _ c.requires.1, omega arith, refl)
 
 pub nonzero_div-q : goal.nonzero_div-q
 nonzero_div-q c = chunk_pos _ _ _ _ _ c.requires.1 _ (dim (goal.at.nonzero_div-q c).After-dim_at-d)
@@ -29,36 +28,36 @@ returns-then-i-counts c =
     let l = c.loop-i in
     let t = both (ltb _ l.i) _ c.if-i-counts.true in
     λ g n k.
-    past_count g _ _ _ _ _ n k l.i l.slot c.loop-i-test.true (omega (arith, ltb-true _ _ t.0)) (rw (← c.dim_at-d.ensures) (leb-true _ _ t.1)) ∙ l.invariant.3 ∙ slot_is g _ _ _ _ _ n k
+    past_count g _ _ _ _ _ n k l.i l.slot c.loop-i-test.true (omega (arith, ltb-true _ _ t.0)) (rw (← c.dim_at-d.ensures) (leb-true _ _ t.1)) ∙ l.invariant.2 ∙ slot_is g _ _ _ _ _ n k
 
-pub returns-in_default : goal.returns-in_default
-returns-in_default c =
+pub returns-in_err-checked_mul : goal.returns-in_err-checked_mul
+returns-in_err-checked_mul c =
     let l = c.loop-i in
-    let o = overflows_is _ (sym c.in_default.is ∙ c.checked_mul.ensures) in
-    λ g n k. past_64 g _ _ _ _ _ n k l.i l.slot c.loop-i-test.true (rw (← c.dim_at-d.ensures) (omega arith)) ∙ l.invariant.3 ∙ slot_is g _ _ _ _ _ n k
+    let o = c.in_err-checked_mul.ensures in
+    λ g n k. c.from_residual.ensures ∙ past_64 g _ _ _ _ _ n k l.i l.slot c.loop-i-test.true (rw (← c.dim_at-d.ensures) (omega arith)) ∙ l.invariant.2 ∙ slot_is g _ _ _ _ _ n k
 
-pub returns-in_default-checked_add : goal.returns-in_default-checked_add
-returns-in_default-checked_add c =
+pub returns-in_err-slot : goal.returns-in_err-slot
+returns-in_err-slot c =
     let l = c.loop-i in
-    let f = fits_is _ _ (sym c.in-Fits.is ∙ c.checked_mul.ensures) in
-    let o = overflows_is _ (sym c.in_default-checked_add.is ∙ c.checked_add.ensures) in
-    λ g n k. past_64 g _ _ _ _ _ n k l.i l.slot c.loop-i-test.true (rw (← c.dim_at-d.ensures, ← f.0) o) ∙ l.invariant.3 ∙ slot_is g _ _ _ _ _ n k
+    let f = c.in_ok-checked_mul.ensures in
+    let o = c.in_err-slot.ensures in
+    λ g n k. c.from_residual-in_err-slot.ensures ∙ past_64 g _ _ _ _ _ n k l.i l.slot c.loop-i-test.true (rw (← c.dim_at-d.ensures, ← f.1) (omega arith)) ∙ l.invariant.2 ∙ slot_is g _ _ _ _ _ n k
 
 pub loop-i-preserved : goal.loop-i-preserved
 loop-i-preserved c =
     let l = c.loop-i in
     let a = c.args in
     let p = c.requires in
-    let f = fits_is _ _ (sym c.in-Fits.is ∙ c.checked_mul.ensures) in
-    let s = fits_is _ _ (sym c.in-Fits-checked_add.is ∙ c.checked_add.ensures) in
+    let f = c.in_ok-checked_mul.ensures in
+    let s = c.in_ok-slot.ensures in
     let lt : 0 < l.i → get_or a.corner.now c.dim_at-d.result 0 / get_or a.chunk.now c.dim_at-d.result 0 < get_or a.counts.now c.dim_at-d.result 0 =
     λ pos. leb-false _ _ (not_both (ltb 0 l.i) _ c.if-i-counts.false (lt-ltb 0 l.i pos)) in
-    (omega arith, omega arith, omega (arith, s.0), rw (s.0, f.0, c.dim_at-d.ensures) (one_more p.0 _ _ _ _ _ p.1 p.2 l.i l.slot c.loop-i-test.true (rw c.dim_at-d.ensures at lt) ∙ l.invariant.3))
+    (l.invariant.0, omega (arith, s), rw (s.1, f.1, c.dim_at-d.ensures) (one_more p.0 _ _ _ _ _ p.1 p.2 l.i l.slot c.loop-i-test.true (rw c.dim_at-d.ensures at lt) ∙ l.invariant.2))
 
 pub returns : goal.returns
 returns c =
     let l = c.loop-i in
-    λ g n k. past_places g _ _ _ _ _ n k l.i l.slot c.loop-i-test.false l.invariant.2 ∙ l.invariant.3 ∙ slot_is g _ _ _ _ _ n k
+    λ g n k. past_places g _ _ _ _ _ n k l.i l.slot c.loop-i-test.false l.invariant.1 ∙ l.invariant.2 ∙ slot_is g _ _ _ _ _ n k
 
 pub offset_bounds-corner-d : goal.offset_bounds-corner-d
 offset_bounds-corner-d c = omega (arith, dim (goal.at.offset_bounds-corner-d c).After-dim_at-d)

@@ -1,6 +1,6 @@
 -- `chunk_slots::slot_of` meets its contract: what is left from place i on, from the sum so far, gives the slot.
 -- Assumes nothing.
-use Prim.Native.Nat.{◌-◌, ◌≤◌}
+use Prim.Native.Nat.{◌≤◌}
 use mathlib.Core.Path.{◌≡◌}
 use lib.ListN.{length, take}
 use Rattle.refusal.specs.Refusals.{largest64}
@@ -9,7 +9,4 @@ use Rattle.chunk_slots.proofs.Corners.{onward, corner_quotients}
 use Rattle.chunk_slots.proofs.slot_of.Given as goal
 
 abbrev pub invariant-loop-i : goal.invariant-loop-i
-invariant-loop-i l = (l.i ≤ length l.corner) × (length l.corner ≤ 32) × (l.slot ≤ largest64) × (onward (corner_quotients l.rotated l.corner l.chunk) (in_order (length l.corner) l.rotated l.counts) (take (length l.corner) l.down) l.i l.slot ≡ onward (corner_quotients l.rotated l.corner l.chunk) (in_order (length l.corner) l.rotated l.counts) (take (length l.corner) l.down) 0 0)
-
-abbrev pub decreases-loop-i : goal.decreases-loop-i
-decreases-loop-i l = length l.corner - l.i
+invariant-loop-i l = (length l.corner ≤ 32) × (l.slot ≤ largest64) × (onward (corner_quotients l.rotated l.corner l.chunk) (in_order (length l.corner) l.rotated l.counts) (take (length l.corner) l.down) l.i l.slot ≡ onward (corner_quotients l.rotated l.corner l.chunk) (in_order (length l.corner) l.rotated l.counts) (take (length l.corner) l.down) 0 0)

@@ -1,25 +1,14 @@
 -- `ea_count::count_blocks` meets its contract. The invariant of each of its three loops: at super block u, at its
 -- data block k, and at page p of that, the records that are counted and what the walk gives from there on are the
--- whole (`Invariants`). A refusal, or the count's end, leaves all three loops with the whole's answer. The measures
--- are the super blocks, data blocks and pages that are left. Assumes nothing.
-use Prim.Native.Nat.{◌-◌}
+-- whole (`Invariants`). A refusal, or the count's end, leaves all three loops with the whole's answer. Assumes nothing.
 use Rattle.ea_count.proofs.Invariants.{InSupers, InBlocks, InPages}
 use Rattle.ea_count.proofs.count_blocks.Given as goal
 
 abbrev pub invariant-pages : goal.invariant-pages
-invariant-pages l = InPages (record { file = l.file; array = l.array; reader = l.reader; first = l.first; begin = l.begin; end = l.end; chunk = l.chunk; bound = l.bound; down = l.down; count = l.count; directs = l.directs; page = l.page }) l.u l.blocks l.elements l.super_at l.k l.at l.pages l.slot l.refused l.total l.from l.page_ahead l.p
-
-abbrev pub decreases-pages : goal.decreases-pages
-decreases-pages l = l.pages - l.p
+invariant-pages l = InPages (record { file = l.file; array = l.array; reader = l.reader; first = l.first; begin = l.begin; end = l.end; chunk = l.chunk; bound = l.bound; down = l.down; count = l.count; directs = l.directs; page = l.page }) l.u l.blocks l.elements l.super_at l.k l.at l.pages l.slot l.total l.from l.page_ahead l.p
 
 abbrev pub invariant-blocks-2 : goal.invariant-blocks-2
-invariant-blocks-2 l = InBlocks (record { file = l.file; array = l.array; reader = l.reader; first = l.first; begin = l.begin; end = l.end; chunk = l.chunk; bound = l.bound; down = l.down; count = l.count; directs = l.directs; page = l.page }) l.u l.blocks l.elements l.super_at l.refused l.total l.slot l.block_ahead l.k
-
-abbrev pub decreases-blocks-2 : goal.decreases-blocks-2
-decreases-blocks-2 l = l.blocks - l.k
+invariant-blocks-2 l = InBlocks (record { file = l.file; array = l.array; reader = l.reader; first = l.first; begin = l.begin; end = l.end; chunk = l.chunk; bound = l.bound; down = l.down; count = l.count; directs = l.directs; page = l.page }) l.u l.blocks l.elements l.super_at l.total l.slot l.block_ahead l.k
 
 abbrev pub invariant-supers : goal.invariant-supers
-invariant-supers l = InSupers (record { file = l.file; array = l.array; reader = l.reader; first = l.first; begin = l.begin; end = l.end; chunk = l.chunk; bound = l.bound; down = l.down; count = l.count; directs = l.directs; page = l.page }) l.refused l.total l.slot l.u
-
-abbrev pub decreases-supers : goal.decreases-supers
-decreases-supers l = l.end - l.u
+invariant-supers l = InSupers (record { file = l.file; array = l.array; reader = l.reader; first = l.first; begin = l.begin; end = l.end; chunk = l.chunk; bound = l.bound; down = l.down; count = l.count; directs = l.directs; page = l.page }) l.total l.slot l.u

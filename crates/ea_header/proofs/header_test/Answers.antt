@@ -3,6 +3,7 @@ use Prim.Native.Nat.{ℕ}
 use mathlib.Core.Path.{ap, ◌∙◌}
 use native.Mathlib.Omega.{arith}
 use Rattle.refusal.specs.Refusals.{figure}
+use Rattle.refusal.specs.declared.Refusal.TheVariants.{HeaderSignature}
 use Rattle.checksum.specs.Lookup3.{lookup3}
 use Rattle.structures.specs.Header.{signed_header_test}
 use Rattle.structures.proofs.StructureTests.{figure-header}
@@ -18,5 +19,5 @@ unfolding header_test
 returns c =
     let a = c.args in
     c.test_header.ensures
-    ∙ ap (λ (n : ℕ). signed_header_test 21 0x4448_4145 lookup3 a.file.now a.address n a.offset_size a.length_size) c.serialized_size-size.ensures
+    ∙ ap (λ (n : ℕ). signed_header_test HeaderSignature 0x4448_4145 lookup3 a.file.now a.address n a.offset_size a.length_size) c.serialized_size-size.ensures
     ∙ figure-header _ _ _ _ _ _ _ _ (omega arith)

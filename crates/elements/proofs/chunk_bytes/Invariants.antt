@@ -1,6 +1,6 @@
 -- `elements::chunk_bytes` meets its contract: the lengths that are left, times what there is, are the whole. Assumes
 -- nothing.
-use Prim.Native.Nat.{◌-◌, ◌*◌, ◌≤◌}
+use Prim.Native.Nat.{◌*◌, ◌≤◌}
 use mathlib.Core.Path.{◌≡◌}
 use lib.ListN.{take, drop}
 use Rattle.refusal.specs.Refusals.{figure, largest64}
@@ -8,7 +8,4 @@ use Rattle.elements.specs.Elements.{product}
 use Rattle.elements.proofs.chunk_bytes.Given as goal
 
 abbrev pub invariant-loop-d : goal.invariant-loop-d
-invariant-loop-d l = (l.d ≤ l.rank) × (l.bytes ≤ largest64) × (figure (product (drop l.d (take l.rank l.chunk)) * l.bytes) ≡ figure (product (take l.rank l.chunk) * l.element_bytes))
-
-abbrev pub decreases-loop-d : goal.decreases-loop-d
-decreases-loop-d l = l.rank - l.d
+invariant-loop-d l = (l.bytes ≤ largest64) × (figure (product (drop l.d (take l.rank l.chunk)) * l.bytes) ≡ figure (product (take l.rank l.chunk) * l.element_bytes))

@@ -1,6 +1,7 @@
 -- `fa_blocks::page_position` meets its contract. Assumes nothing.
 use native.Mathlib.Omega.{arith}
 use Rattle.refusal.specs.Refusals.{figure}
+use Rattle.fields.proofs.Numbers.{figure_of}
 use Rattle.fa_geometry.specs.Layout.{fixed_page_at, fixed_tested_extent}
 use Rattle.fa_blocks.specs.Blocks.{fixed_page_position}
 use Rattle.fa_blocks.proofs.page_position.Goals as goal
@@ -14,4 +15,4 @@ unfolding figure fixed_page_position fixed_page_at fixed_tested_extent
 returns c =
     let head = rw c.requires.paged at c.tested_extent.ensures in
     let inside = rw c.requires.paged at c.requires.block.inside in
-    omega (arith, c.saturating_add.ensures, c.saturated.ensures _ c.page_offset.ensures)
+    omega (arith, c.saturating_add.ensures, c.unwrap_or.ensures, figure_of _ _ c.page_offset.ensures)

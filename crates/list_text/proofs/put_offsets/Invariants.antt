@@ -7,7 +7,4 @@ use Rattle.list_text.proofs.Puts.{Putting}
 use Rattle.list_text.proofs.put_offsets.Given as goal
 
 abbrev pub invariant-loop-i : goal.invariant-loop-i
-invariant-loop-i l = (l.i ≤ l.n) × (l.to ≤ l.at + 21 * l.i) × Putting l.initial.out l.at (spaced (numbers_in l.n (drop l.from l.list))) l.out l.to (spaced (numbers_in (l.n - l.i) (drop (l.from + 8 * l.i) l.list)))
-
-abbrev pub decreases-loop-i : goal.decreases-loop-i
-decreases-loop-i l = l.n - l.i
+invariant-loop-i l = (l.to ≤ l.at + 21 * l.i) × Putting l.initial.out l.at (spaced (numbers_in l.n (drop l.from l.list))) l.out l.to (spaced (numbers_in (l.n - l.i) (drop (l.from + 8 * l.i) l.list)))

@@ -8,6 +8,8 @@ use Rattle.list_text.proofs.put_refusal.Goals as goal
 pub returns-clause-put : goal.returns-clause-put
 unfolding refusal_text spaced
 returns-clause-put c =
-    let figures = put_then c.put_spaced-first.ensures.put (put_then c.put_spaced-second.ensures.put c.put_text.ensures) in
-    let put = put_then c.put_text-word.ensures (put_then c.put_spaced-number.ensures.put figures) in
+    let number = rw c.number.ensures at c.put_spaced-number.ensures.put in
+    let first = rw c.first.ensures at c.put_spaced-first.ensures.put in
+    let second = rw c.second.ensures at c.put_spaced-second.ensures.put in
+    let put = put_then c.put_text-word.ensures (put_then number (put_then first (put_then second c.put_text.ensures))) in
     put_as put _ (simp (append_assoc, append-nil))

@@ -5,7 +5,6 @@ use Prim.Native.Nat.{ℕ}
 use native.Mathlib.Omega.{arith}
 use lib.ListN.{length}
 use Rattle.questions.specs.Line.{line_of, question_of, numbers_stored}
-use Rattle.questions.specs.Values.{parsed_of}
 use Rattle.questions.proofs.Inputs.{line_within, line_unended, line_long, file_long, input_fits}
 use Rattle.questions.proofs.parse.Goals.{After-until-line}
 use Rattle.questions.proofs.parse.Goals as goal
@@ -16,19 +15,19 @@ unfolding line_of
 line c = ap (λ (l : List ℕ). length l) c.until-line.ensures.result_value
 
 pub returns-then-line-input : goal.returns-then-line-input
-unfolding question_of numbers_stored parsed_of
+unfolding question_of numbers_stored
 returns-then-line-input c =
     let input = c.args.input.now in
     rw (line_unended input (omega (arith, line (goal.at.returns-then-line-input c).After-until-line, c.if-line-input.true))) (record { value = refl; numbers_after = refl })
 
 pub returns-then-line-gt4095 : goal.returns-then-line-gt4095
-unfolding question_of numbers_stored parsed_of
+unfolding question_of numbers_stored
 returns-then-line-gt4095 c =
     let input = c.args.input.now in
     rw (line_long input (omega (arith, line (goal.at.returns-then-line-gt4095 c).After-until-line, c.if-line-gt4095.true))) (record { value = refl; numbers_after = refl })
 
 pub returns-then-file-gt60000 : goal.returns-then-file-gt60000
-unfolding question_of numbers_stored parsed_of
+unfolding question_of numbers_stored
 returns-then-file-gt60000 c =
     let input = c.args.input.now in
     let told = ap (λ (l : List ℕ). length l) c.file_of-file.ensures in

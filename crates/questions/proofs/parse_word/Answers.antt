@@ -4,7 +4,6 @@ use Prim.Native.Nat.{◌+◌, ◌*◌}
 use native.Mathlib.Omega.{arith}
 use borrow.Author.Tests.{lt-ltb, le-ltb, le-leb, lt-leb, eq-eqb, ne_eqb}
 use Rattle.questions.specs.Line.{word_number}
-use Rattle.questions.specs.Values.{word_of}
 use Rattle.questions.proofs.parse_word.Goals as goal
 use Rattle.questions.proofs.parse_word.Goals.{then-i-ge6+then-rank-i+else-is_only, then-i-ge6+else-rank-i, else-i-ge6}
 
@@ -19,7 +18,7 @@ returns-then-i-eq4 c =
     rw (le-ltb i 2 c.if-i-lt2.false, eq-eqb i 4 c.if-i-eq4.true) c.parse_order.ensures
 
 pub returns-then-is_only : goal.returns-then-is_only
-unfolding word_number word_of
+unfolding word_number
 returns-then-is_only c =
     let a = c.args in
     rw (le-ltb a.i 2 c.if-i-lt2.false, ne_eqb a.i 4 c.if-i-eq4.false, le-leb (6 + 2 * a.rank) a.i (omega arith), sym c.is_only.ensures ∙ c.if-is_only.true) refl

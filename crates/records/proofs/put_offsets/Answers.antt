@@ -4,7 +4,6 @@ use Prim.Native.Nat.{ℕ}
 use mathlib.Core.Path.{◌≡◌, refl, ◌∙◌}
 use mathlib.Core.List.{List}
 use native.Mathlib.Nat.{add-zero}
-use native.Mathlib.Omega.{arith}
 use lib.ListN.{length, get_or, take, set}
 use Rattle.records.proofs.Records.{offset_stored, offsets-stored, length_set_corner, set_here, set_elsewhere}
 use borrow.Author.Rules.{rules}
@@ -12,7 +11,7 @@ use Rattle.records.proofs.put_offsets.Goals.{then-i-dim, else-i-dim}
 use Rattle.records.proofs.put_offsets.Goals as goal
 
 pub loop-i-init : goal.loop-i-init
-loop-i-init c = (omega arith, refl, rw add-zero refl)
+loop-i-init c = (refl, rw add-zero refl)
 
 pub loop-i-preserved : goal.loop-i-preserved
 loop-i-preserved c =
@@ -24,9 +23,9 @@ loop-i-preserved c =
       | then-i-dim w ↦ w.value-is ∙ set_here _ _ fits _ _ _ t w.if-i-dim.true
       | else-i-dim w ↦ w.value-is ∙ set_elsewhere _ _ fits _ _ _ t w.if-i-dim.false
     ] in
-    (omega arith, search rules, rw c.put_le.ensures (offset_stored corner _ _ _ (rw n t) _ v ∙ c.loop-i.invariant.2))
+    (search rules, rw c.put_le.ensures (offset_stored corner _ _ _ (rw n t) _ v ∙ c.loop-i.invariant.1))
 
 pub returns : goal.returns
 returns c =
     let n = length_set_corner c.args.rank c.args.offsets.now c.requires.1 c.args.dim c.args.offset in
-    offsets-stored (set (take c.args.rank c.args.offsets.now) c.args.dim c.args.offset) _ _ c.loop-i.i (rw n c.loop-i-test.false) ∙ c.loop-i.invariant.2
+    offsets-stored (set (take c.args.rank c.args.offsets.now) c.args.dim c.args.offset) _ _ c.loop-i.i (rw n c.loop-i-test.false) ∙ c.loop-i.invariant.1

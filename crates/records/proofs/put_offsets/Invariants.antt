@@ -1,6 +1,6 @@
 -- `records::put_offsets` meets its contract: what is left of the offsets goes behind those that are stored. Assumes
 -- nothing.
-use Prim.Native.Nat.{◌+◌, ◌-◌, ◌*◌, ◌≤◌}
+use Prim.Native.Nat.{◌+◌, ◌*◌}
 use mathlib.Core.Path.{◌≡◌}
 use lib.ListN.{length, take, drop, set}
 use lib.Seq.{sets}
@@ -8,8 +8,5 @@ use Rattle.records.specs.Records.{offset_bytes}
 use Rattle.records.proofs.put_offsets.Given as goal
 
 abbrev pub invariant-loop-i : goal.invariant-loop-i
-invariant-loop-i l = (l.i ≤ l.rank) × (length l.out ≡ length l.initial.out)
+invariant-loop-i l = (length l.out ≡ length l.initial.out)
     × (sets l.out (l.at + 8 * l.i) (offset_bytes (drop l.i (set (take l.rank l.offsets) l.dim l.offset))) ≡ sets l.initial.out l.at (offset_bytes (set (take l.rank l.offsets) l.dim l.offset)))
-
-abbrev pub decreases-loop-i : goal.decreases-loop-i
-decreases-loop-i l = l.rank - l.i

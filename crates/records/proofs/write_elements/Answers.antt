@@ -4,10 +4,9 @@ use mathlib.Core.Path.{◌≡◌, refl, sym, ap, ◌∙◌}
 use mathlib.Core.List.{List, []}
 use native.Mathlib.Omega.{arith}
 use lib.ListN.{length}
-use Rattle.refusal.specs.Outcome.{accepted}
+use Rattle.std.specs.Prelude.{Ok, true}
 use Rattle.chunk_grid.specs.Grid.{Grid}
 use Rattle.chunk_grid.specs.Values.{in_extent, offsets_of}
-use Rattle.chunk_grid.specs.declared.Offsets.TheVariants.{Inside}
 use Rattle.chunk_slots.specs.Lines.{InLine}
 use Rattle.chunk_slots.specs.declared.Line.{Line}
 use Rattle.chunk_slots.proofs.Handed.{length-handed}
@@ -23,7 +22,7 @@ use Rattle.records.specs.Values.{ReadsLine}
 use Rattle.records.proofs.Lines.{reads_line}
 use Rattle.records.proofs.Writing.{LeftOf, left_first, left_length, left_done, left_same, left_sized, left_skip, left_outside, part, part_is, part_fits, left_behind}
 use borrow.Author.Rules.{rules}
-use Rattle.records.proofs.write_elements.Goals.{After-reach-reached, After-undefined_run-gap, At-loop-i, In-loop-i, Joined-reached, in-Inside, in_default}
+use Rattle.records.proofs.write_elements.Goals.{After-reach-reached, After-undefined_run-gap, At-loop-i, In-loop-i, Joined-reached, in-Ok-true, in_default, in_default-2}
 use Rattle.records.proofs.write_elements.Goals as goal
 
 pub loop-i-init : goal.loop-i-init
@@ -43,14 +42,14 @@ abbrev ReadsAt : At-loop-i → Grid → ℕ → Type 0
 ReadsAt c grid m = Reads c.args.reader c.args.chunk.now c.args.bound.now c.args.down.now grid m
 
 abbrev Listed : At-loop-i → Grid → ℕ → List Rec → Type 0
-Listed c grid m l = elements_from (elements_at c grid m) c.args.pos (left c) c.args.slot (accepted []) ≡ accepted l
+Listed c grid m l = elements_from (elements_at c grid m) c.args.pos (left c) c.args.slot (Ok []) ≡ Ok l
 
 abbrev LeftAt : At-loop-i → Grid → ℕ → List Rec → ℕ → ℕ → List ℕ → ℕ → Type 0
 LeftAt c grid m l from i out to = LeftOf (elements_at c grid m) (left c) c.args.slot c.args.out.now c.args.at l from i out to
 
 listed : (c : At-loop-i) (grid : Grid) (m : ℕ) (l : List Rec)
-    → elements_from (elements_at c grid m) c.args.pos c.args.n c.args.slot (accepted []) ≡ accepted l → Listed c grid m l
-listed c grid m l h = sym (left_run (elements_at c grid m) _ _ _ _ (accepted []) c.below_count-left.ensures) ∙ h
+    → elements_from (elements_at c grid m) c.args.pos c.args.n c.args.slot (Ok []) ≡ Ok l → Listed c grid m l
+listed c grid m l h = sym (left_run (elements_at c grid m) _ _ _ _ (Ok []) c.below_count-left.ensures) ∙ h
 
 given : (c : At-loop-i)
     → (grid : Grid) × (m : ℕ) × (l : List Rec) × ReadsAt c grid m × Listed c grid m l × (c.args.at + length (list_bytes l) ≤ length c.args.out.now)
@@ -113,10 +112,10 @@ pub line_from-line-requires : goal.line_from-line-requires
 line_from-line-requires c =
     let d = given (goal.at.line_from-line-requires c).At-loop-i in
     let q = d.3 in
-    (d.0, c.args.chunk.now, c.args.reader.numbers, q.numbered, q.extended, sym (c.reach-reached.ensures _ _ q).0 ∙ c.in-Inside.is)
+    (d.0, c.args.chunk.now, c.args.reader.numbers, q.numbered, q.extended, sym (c.reach-reached.ensures _ _ q).0 ∙ c.in-Ok-true.is ∙ ap Ok c.in-Ok-true.field-0-test)
 
-line_read : (c : After-reach-reached) → c.reach-reached.result ≡ Inside → (grid : Grid) (m : ℕ) → ReadsAt (goal.at.After-reach-reached c).At-loop-i grid m
-    → {line : Line} → (offsets_of (in_extent grid (c.args.slot + c.loop-i.i)) ≡ Inside → InLine grid c.args.chunk.now (c.args.slot + c.loop-i.i) line)
+line_read : (c : After-reach-reached) → c.reach-reached.result ≡ Ok true → (grid : Grid) (m : ℕ) → ReadsAt (goal.at.After-reach-reached c).At-loop-i grid m
+    → {line : Line} → (offsets_of (in_extent grid (c.args.slot + c.loop-i.i)) ≡ Ok true → InLine grid c.args.chunk.now (c.args.slot + c.loop-i.i) line)
     → ReadsLine c.args.reader c.reach-reached.new.offsets line c.args.chunk.now grid m (c.args.slot + c.loop-i.i)
 line_read c is grid m q lies = reads_line q _ _ (c.reach-reached.ensures grid m q) c.loop-i.invariant.2 is lies
 
@@ -131,7 +130,7 @@ write_line-to-requires c =
         d.1,
         c.args.slot + c.loop-i.i,
         part z _ h,
-        line_read (goal.at.write_line-to-requires c).After-reach-reached c.in-Inside.is _ _ d.3 (c.line_from-line.ensures d.0 _ _ d.3.numbered d.3.extended),
+        line_read (goal.at.write_line-to-requires c).After-reach-reached (c.in-Ok-true.is ∙ ap Ok c.in-Ok-true.field-0-test) _ _ d.3 (c.line_from-line.ensures d.0 _ _ d.3.numbered d.3.extended),
         part_is z _ h,
         omega (arith, part_fits z _ h, d.5, c.loop-i.invariant.1),
         omega (arith, h, below (goal.at.write_line-to-requires c).In-loop-i),
@@ -145,11 +144,12 @@ passes : (c : Joined-reached) → (0 < c.match-reached.passed) × (c.loop-i.i + 
 passes c =
     let t = c.loop-i-test.true in
     elim c.match-reached.branch [
-      | in-Inside w ↦
+      | in-Ok-true w ↦
           let d = given (goal.at.Joined-reached c).At-loop-i in
-          let r = line_read (goal.at.Joined-reached c).After-reach-reached w.in-Inside.is _ _ d.3 (w.line_from-line.ensures d.0 _ _ d.3.numbered d.3.extended) in
+          let r = line_read (goal.at.Joined-reached c).After-reach-reached (w.in-Ok-true.is ∙ ap Ok w.in-Ok-true.field-0-test) _ _ d.3 (w.line_from-line.ensures d.0 _ _ d.3.numbered d.3.extended) in
           rw w.passed-is (omega (arith, t, w.below_count-n.ensures, r.lies.some), omega (arith, t, w.below_count-n.ensures))
       | in_default w ↦ (omega (arith, w.passed-is), omega (arith, w.passed-is, t))
+      | in_default-2 w ↦ (omega (arith, w.passed-is), omega (arith, w.passed-is, t))
     ]
 
 passed : (c : Joined-reached)
@@ -165,15 +165,19 @@ written c grid m l q h =
     let t = c.loop-i-test.true in
     let taken = (goal.at.Joined-reached c).In-loop-i in
     elim c.match-reached.branch [
-      | in-Inside w ↦
+      | in-Ok-true w ↦
           let i : c.loop-i.i + w.below_count-n.result ≤ c.below_count-left.result = omega (arith, t, w.below_count-n.ensures) in
-          let r = line_read (goal.at.Joined-reached c).After-reach-reached w.in-Inside.is grid m q (w.line_from-line.ensures grid _ _ q.numbered q.extended) in
+          let r = line_read (goal.at.Joined-reached c).After-reach-reached (w.in-Ok-true.is ∙ ap Ok w.in-Ok-true.field-0-test) grid m q (w.line_from-line.ensures grid _ _ q.numbered q.extended) in
           let p = w.write_line-to.ensures grid m _ _ r (part_is z _ i) (omega (arith, i, below taken)) in
           rw w.passed-is (left_same (left_behind z _ i) (w.out-is ∙ p.0) (w.to-is ∙ p.1))
       | in_default w ↦
           let one : 1 * stride_of c.args.reader.form ≡ stride_of c.args.reader.form = omega arith in
           let o = (c.reach-reached.ensures grid m q).0 in
-          rw (w.passed-is, one) (left_same (left_outside z t (few taken) (λ x. w.in_default.not-Inside (o ∙ x))) w.out-is w.to-is)
+          rw (w.passed-is, one) (left_same (left_outside z t (few taken) (λ x. let d = o ∙ x in search rules)) w.out-is w.to-is)
+      | in_default-2 w ↦
+          let one : 1 * stride_of c.args.reader.form ≡ stride_of c.args.reader.form = omega arith in
+          let o = (c.reach-reached.ensures grid m q).0 in
+          rw (w.passed-is, one) (left_same (left_outside z t (few taken) (λ x. let d = o ∙ x in search rules)) w.out-is w.to-is)
     ]
 
 pub overflow_mul-from-in-loop-i : goal.overflow_mul-from-in-loop-i

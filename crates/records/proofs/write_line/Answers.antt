@@ -1,14 +1,15 @@
 -- `records::write_line` meets its contract. Assumes nothing.
 use Prim.Native.Nat.{ℕ, ◌+◌, ◌*◌, ◌<◌, ◌≤◌}
-use mathlib.Core.Path.{◌≡◌, refl, sym, ◌∙◌}
+use mathlib.Core.Path.{◌≡◌, refl, sym, ap, ◌∙◌}
 use mathlib.Core.List.{List}
+use Rattle.std.proofs.Common.{rules}
 use native.Mathlib.Omega.{arith}
 use lib.ListN.{length, get_or}
+use Rattle.std.specs.Prelude.{Ok, Some}
 use Rattle.chunk_grid.specs.Grid.{Grid}
 use Rattle.element_form.specs.Form.{stride as stride_of}
 use Rattle.index.specs.declared.Entry.{Entry}
 use Rattle.index.specs.Index.{Rec}
-use Rattle.elements.specs.declared.Found.TheVariants.{Chunk}
 use Rattle.elements.specs.Elements.{element}
 use Rattle.elements.specs.Values.{found_of, elements_of}
 use Rattle.elements.proofs.Readers.{reads_rank}
@@ -17,7 +18,7 @@ use Rattle.records.specs.Records.{record_length, list_bytes}
 use Rattle.records.proofs.Records.{length_set_corner}
 use Rattle.records.proofs.Lines.{line_fits, line_grows, line_begins, line_array, Lined, lined}
 use Rattle.records.proofs.Writing.{LeftOf, left_first, left_length, left_done, left_same, left_sized, left_other, left_fits, left_chunk}
-use Rattle.records.proofs.write_line.Goals.{After-read_inside_element-element, At-loop-i, Joined-element, in-Chunk, in_default}
+use Rattle.records.proofs.write_line.Goals.{After-read_inside_element, At-loop-i, Joined-read_inside_element, in-Ok-Some, in-Ok+in-None-1, in-Err-1}
 use Rattle.records.proofs.write_line.Goals as goal
 
 pub offset_bounds-chunk-dim : goal.offset_bounds-chunk-dim
@@ -43,17 +44,17 @@ given : (c : At-loop-i)
     → (grid : Grid) × (m : ℕ) × (s : ℕ) × (l : List Rec) × LinedAt c grid m s l × (c.args.at + length (list_bytes l) ≤ length c.args.out.now)
 given c = let p = c.requires in let q = p.0 in (q.0, q.1, q.2, q.3, lined p.1 q.4 q.5 q.7, q.6)
 
-pub read_inside_element-element-requires : goal.read_inside_element-element-requires
-read_inside_element-element-requires c =
+pub read_inside_element-requires : goal.read_inside_element-requires
+read_inside_element-requires c =
     let t = c.loop-i-test.true in
-    let d = given (goal.at.read_inside_element-element-requires c).At-loop-i in
+    let d = given (goal.at.read_inside_element-requires c).At-loop-i in
     (left_sized (c.loop-i.invariant.2 _ _ _ _ d.4) t (omega (arith, t, d.4.below)), within_here c.loop-i.invariant.0 t)
 
 -- the element that is read
-is_element : (c : After-read_inside_element-element) (grid : Grid) (m s : ℕ) (l : List Rec) → LinedAt (goal.at.After-read_inside_element-element c).At-loop-i grid m s l
-    → c.read_inside_element-element.result
+is_element : (c : After-read_inside_element) (grid : Grid) (m s : ℕ) (l : List Rec) → LinedAt (goal.at.After-read_inside_element c).At-loop-i grid m s l
+    → c.read_inside_element.result
     ≡ found_of (element (elements_of c.args.file.now c.args.reader grid m) c.loop-i.from (s + c.loop-i.i))
-is_element c grid m s l h = c.read_inside_element-element.ensures grid m _ h.chunked (h.inside _ c.loop-i-test.true)
+is_element c grid m s l h = c.read_inside_element.ensures grid m _ h.chunked (h.inside _ c.loop-i-test.true)
 
 -- the slot of a chunk is one of the line
 pub overflow_mul-i : goal.overflow_mul-i
@@ -66,53 +67,54 @@ overflow_add-first c = omega (arith, line_fits c.requires.0.4 c.loop-i.i (omega 
 array : (c : At-loop-i) → c.args.reader.rank ≤ length c.args.offsets.now
 array c = line_array c.requires.0.4
 
-fits : (c : After-read_inside_element-element) (x : Entry) → c.read_inside_element-element.result ≡ Chunk x
+fits : (c : After-read_inside_element) (x : Entry) → c.read_inside_element.result ≡ Ok (Some x)
     → (c.args.reader.rank ≤ 32)
     × (c.loop-i.to + record_length c.args.reader.rank ≤ length c.loop-i.out)
 fits c x e =
-    let d = given (goal.at.After-read_inside_element-element c).At-loop-i in
+    let d = given (goal.at.After-read_inside_element c).At-loop-i in
     let t = c.loop-i-test.true in
-    let f = left_fits (c.loop-i.invariant.2 _ _ _ _ d.4) t (omega (arith, t, d.4.below)) (sym (is_element c _ _ _ _ d.4) ∙ e) (d.4.corners _ t) (length_set_corner _ _ (array (goal.at.After-read_inside_element-element c).At-loop-i) _ _) in
+    let f = left_fits (c.loop-i.invariant.2 _ _ _ _ d.4) t (omega (arith, t, d.4.below)) (sym (is_element c _ _ _ _ d.4) ∙ e) (d.4.corners _ t) (length_set_corner _ _ (array (goal.at.After-read_inside_element c).At-loop-i) _ _) in
     (reads_rank c.requires.0.4.reads, omega (arith, f, d.5, c.loop-i.invariant.1))
 
 pub put_record-requires : goal.put_record-requires
-put_record-requires c = let f = fits (goal.at.put_record-requires c).After-read_inside_element-element _ c.in-Chunk.is in (f.0, array (goal.at.put_record-requires c).At-loop-i, f.1)
+put_record-requires c = let f = fits (goal.at.put_record-requires c).After-read_inside_element _ (c.in-Ok-Some.is ∙ ap Ok c.in-Ok-Some.field-0-is) in (f.0, array (goal.at.put_record-requires c).At-loop-i, f.1)
 
 pub overflow_mul-to : goal.overflow_mul-to
-overflow_mul-to c = omega (arith, fits (goal.at.overflow_mul-to c).After-read_inside_element-element _ c.in-Chunk.is)
+overflow_mul-to c = omega (arith, fits (goal.at.overflow_mul-to c).After-read_inside_element _ (c.in-Ok-Some.is ∙ ap Ok c.in-Ok-Some.field-0-is))
 
 pub overflow_add-to : goal.overflow_add-to
-overflow_add-to c = omega (arith, fits (goal.at.overflow_add-to c).After-read_inside_element-element _ c.in-Chunk.is)
+overflow_add-to c = omega (arith, fits (goal.at.overflow_add-to c).After-read_inside_element _ (c.in-Ok-Some.is ∙ ap Ok c.in-Ok-Some.field-0-is))
 
-pub overflow_add-to-in-Chunk : goal.overflow_add-to-in-Chunk
+pub overflow_add-to-in-Ok-Some : goal.overflow_add-to-in-Ok-Some
 unfolding record_length
-overflow_add-to-in-Chunk c = omega (arith, fits (goal.at.overflow_add-to-in-Chunk c).After-read_inside_element-element _ c.in-Chunk.is)
+overflow_add-to-in-Ok-Some c = omega (arith, fits (goal.at.overflow_add-to-in-Ok-Some c).After-read_inside_element _ (c.in-Ok-Some.is ∙ ap Ok c.in-Ok-Some.field-0-is))
 
 pub overflow_add-from : goal.overflow_add-from
 overflow_add-from c =
     omega (arith, c.stride-stride.ensures, within_here c.loop-i.invariant.0 c.loop-i-test.true)
 
 -- behind the element that was read
-written : (c : Joined-element) (grid : Grid) (m s : ℕ) (l : List Rec) → LinedAt (goal.at.Joined-element c).At-loop-i grid m s l
+written : (c : Joined-read_inside_element) (grid : Grid) (m s : ℕ) (l : List Rec) → LinedAt (goal.at.Joined-read_inside_element c).At-loop-i grid m s l
     → LeftOf (elements_of c.args.file.now c.args.reader grid m) c.args.n s c.args.out.now c.args.at l
-    (c.loop-i.from + stride_of c.args.reader.form) (c.loop-i.i + 1) c.match-element.out c.match-element.to
+    (c.loop-i.from + stride_of c.args.reader.form) (c.loop-i.i + 1) c.match-read_inside_element.out c.match-read_inside_element.to
 unfolding record_length
 written c grid m s l h =
     let t = c.loop-i-test.true in
     let k = c.loop-i.invariant.2 grid m s l h in
     let u : s + c.loop-i.i < c.args.reader.count = omega (arith, t, h.below) in
-    let e = is_element (goal.at.Joined-element c).After-read_inside_element-element grid m s l h in
-    elim c.match-element.branch [
-      | in-Chunk w ↦ left_same (left_chunk k t u (sym e ∙ w.in-Chunk.is) (h.corners _ t) (length_set_corner _ _ (array (goal.at.Joined-element c).At-loop-i) _ _)) (w.out-is ∙ w.put_record.ensures) w.to-is
-      | in_default w ↦ left_same (left_other k t u (λ x q. w.in_default.not-Chunk x (e ∙ q))) w.out-is w.to-is
+    let e = is_element (goal.at.Joined-read_inside_element c).After-read_inside_element grid m s l h in
+    elim c.match-read_inside_element.branch [
+      | in-Ok-Some w ↦ left_same (left_chunk k t u (sym e ∙ w.in-Ok-Some.is ∙ ap Ok w.in-Ok-Some.field-0-is) (h.corners _ t) (length_set_corner _ _ (array (goal.at.Joined-read_inside_element c).At-loop-i) _ _)) (w.out-is ∙ w.put_record.ensures) w.to-is
+      | in-Ok+in-None-1 w ↦ left_same (left_other k t u (λ x q. let d = e ∙ q in search rules)) w.out-is w.to-is
+      | in-Err-1 w ↦ left_same (left_other k t u (λ x q. let d = e ∙ q in search rules)) w.out-is w.to-is
     ]
 
 pub loop-i-preserved : goal.loop-i-preserved
 loop-i-preserved c =
     rw c.stride-stride.ensures (
       within_more c.loop-i.invariant.0 c.loop-i-test.true,
-      left_length _ _ _ _ _ _ _ _ _ _ (written (goal.at.loop-i-preserved c).Joined-element _ _ _ _ (given (goal.at.loop-i-preserved c).At-loop-i).4),
-      written (goal.at.loop-i-preserved c).Joined-element,
+      left_length _ _ _ _ _ _ _ _ _ _ (written (goal.at.loop-i-preserved c).Joined-read_inside_element _ _ _ _ (given (goal.at.loop-i-preserved c).At-loop-i).4),
+      written (goal.at.loop-i-preserved c).Joined-read_inside_element,
     )
 
 pub returns : goal.returns

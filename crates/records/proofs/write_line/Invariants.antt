@@ -1,5 +1,5 @@
 -- `records::write_line` meets its contract. Assumes nothing.
-use Prim.Native.Nat.{ℕ, ◌-◌}
+use Prim.Native.Nat.{ℕ}
 use mathlib.Core.Path.{◌≡◌}
 use mathlib.Core.List.{List}
 use lib.ListN.{length}
@@ -15,6 +15,3 @@ use Rattle.records.proofs.write_line.Given as goal
 abbrev pub invariant-loop-i : goal.invariant-loop-i
 invariant-loop-i here = Within here.file (stride_of here.reader.form) here.n here.i here.from × (length here.out ≡ length here.initial.out)
     × ((grid : Grid) (m s : ℕ) (l : List Rec) → Lined here.file here.reader here.offsets here.dim here.first here.step here.pos here.n grid m s l → LeftOf (elements_of here.file here.reader grid m) here.n s here.initial.out here.at l here.from here.i here.out here.to)
-
-abbrev pub decreases-loop-i : goal.decreases-loop-i
-decreases-loop-i l = l.n - l.i

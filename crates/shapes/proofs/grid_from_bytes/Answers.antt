@@ -1,10 +1,7 @@
 -- `shapes::grid_from_bytes` meets its contract. Assumes nothing.
-use mathlib.Core.Path.{ap, ◌∙◌}
 use lib.Dec.{lit≤}
-use Rattle.refusal.specs.declared.Checked.TheVariants.{Refused}
-use Rattle.chunk_grid.specs.Values.{where_tested}
 use Rattle.chunk_grid.proofs.Building.{rank_over}
-use Rattle.chunk_grid.proofs.Numbered.{refused_shapes}
+use Rattle.chunk_grid.proofs.Numbered.{refused_shapes, built_refused}
 use Rattle.shapes.proofs.Shapes.{BeginsWith, stored_shape}
 use Rattle.shapes.proofs.grid_from_bytes.Goals.{After-read_shape-m, After-read_shape-n, After-read_shape-p}
 use Rattle.shapes.proofs.grid_from_bytes.Goals as goal
@@ -20,16 +17,12 @@ maximum_read : (c : After-read_shape-m) → BeginsWith c.args.rank c.args.maximu
 maximum_read c = stored_shape _ _ _ _ _ c.if-rank-gt32.false (lit≤ tt) c.read_shape-m.ensures.0 c.read_shape-m.ensures.1
 
 pub returns-then-rank-gt32 : goal.returns-then-rank-gt32
-unfolding where_tested
-returns-then-rank-gt32 c =
-    let e = c.refused_grid.ensures in
-    (e.0 ∙ ap Refused c.plain.ensures ∙ refused_shapes _ _ (rank_over _ _ _ _ _ _ c.if-rank-gt32.true), rw e.0 e.1)
+returns-then-rank-gt32 c = built_refused _ _ (refused_shapes _ _ (rank_over _ _ _ _ _ _ c.if-rank-gt32.true))
 
 pub returns : goal.returns
 returns c =
     let before = goal.at.returns c in
-    let e = rw ((chunk_read before.After-read_shape-n).1, (present_read before.After-read_shape-p).1, (maximum_read before.After-read_shape-m).1) at c.new.ensures in
-    (e.checked, e.grid)
+    rw ((chunk_read before.After-read_shape-n).1, (present_read before.After-read_shape-p).1, (maximum_read before.After-read_shape-m).1) at c.new.ensures
 
 pub slice_bounds-lengths-end : goal.slice_bounds-lengths-end
 slice_bounds-lengths-end c = (chunk_read (goal.at.slice_bounds-lengths-end c).After-read_shape-n).0

@@ -24,7 +24,7 @@ loop-i-preserved c =
     let s = c.args in
     let vs = numbers_in s.rank s.bytes.now in
     let h = c.loop-i-test.true in
-    (omega arith, length-set l.shape l.i _ ∙ l.invariant.1, stored_on vs l.shape l.i _ (omega (arith, length_numbers s.rank s.bytes.now)) (c.read_u64_le.ensures ∙ sym (number_at s.rank s.bytes.now l.i h)) ∙ l.invariant.2)
+    (length-set l.shape l.i _ ∙ l.invariant.0, stored_on vs l.shape l.i _ (omega (arith, length_numbers s.rank s.bytes.now)) (c.read_u64_le.ensures ∙ sym (number_at s.rank s.bytes.now l.i h)) ∙ l.invariant.1)
 
 pub returns : goal.returns
 returns c =
@@ -32,4 +32,4 @@ returns c =
     let s = c.args in
     let e = shape_is s.rank s.bytes.now c.if-bytes-n.false in
     let n = length_numbers s.rank s.bytes.now in
-    (rw e (sym n), rw e (stored_end (numbers_in s.rank s.bytes.now) l.shape l.i (omega arith) ∙ l.invariant.2))
+    (rw e (sym n), rw e (stored_end (numbers_in s.rank s.bytes.now) l.shape l.i (omega arith) ∙ l.invariant.1))

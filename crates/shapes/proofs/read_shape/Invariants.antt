@@ -1,5 +1,4 @@
 -- `shapes::read_shape` meets its contract. Assumes nothing.
-use Prim.Native.Nat.{◌-◌, ◌≤◌}
 use mathlib.Core.Path.{◌≡◌}
 use lib.ListN.{length, drop}
 use lib.Seq.{sets}
@@ -7,7 +6,4 @@ use Rattle.shapes.specs.Shapes.{numbers_in}
 use Rattle.shapes.proofs.read_shape.Given as goal
 
 abbrev pub invariant-loop-i : goal.invariant-loop-i
-invariant-loop-i l = (l.i ≤ l.n) × (length l.shape ≡ length l.initial.shape) × (sets l.shape l.i (drop l.i (numbers_in l.n l.bytes)) ≡ sets l.initial.shape 0 (numbers_in l.n l.bytes))
-
-abbrev pub decreases-loop-i : goal.decreases-loop-i
-decreases-loop-i l = l.n - l.i
+invariant-loop-i l = (length l.shape ≡ length l.initial.shape) × (sets l.shape l.i (drop l.i (numbers_in l.n l.bytes)) ≡ sets l.initial.shape 0 (numbers_in l.n l.bytes))

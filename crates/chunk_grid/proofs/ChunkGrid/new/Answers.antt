@@ -1,75 +1,52 @@
 -- `chunk_grid::ChunkGrid::new` meets its contract. Assumes nothing.
 use mathlib.Core.Path.{◌≡◌, sym, ap, ◌∙◌}
-use mathlib.Core.Bool.{Bool, true, cond}
-use Prim.Native.Nat.{◌≤◌}
-use lib.ListN.{length}
-use Rattle.refusal.specs.declared.Checked.{Checked}
-use Rattle.refusal.specs.declared.Checked.TheVariants.{Passed}
-use Rattle.chunk_grid.specs.Grid.{Grid, shapes_test, grid_test, is_unlimited_first, given}
-use Rattle.chunk_grid.specs.Values.{where_tested, numbering_test}
-use Rattle.chunk_grid.proofs.Numbered.{refused_by, given_lengths, tests-given, same_grid}
-use Rattle.chunk_grid.proofs.ChunkGrid.new.Goals.{In_default, Joined-has_maximum, Start, then-has_maximum, else-has_maximum}
+use mathlib.Core.Bool.{Bool, cond}
+use mathlib.Core.List.{List}
+use Rattle.std.specs.Prelude.{Ok}
+use Rattle.std.proofs.Common.{rules, ℕ, Bor, length}
+use Rattle.refusal.proofs.Tests.{by_cond}
+use Rattle.chunk_grid.specs.Grid.{Grid, shapes_test, grid_test, given}
+use Rattle.chunk_grid.proofs.Numbered.{refused_shapes, built_refused, built_passed, given_lengths, tests-given, same_grid}
+use Rattle.chunk_grid.proofs.ChunkGrid.new.Goals.{After-numbering_test, In_ok-shapes_test, Joined-has_maximum, Start, then-has_maximum, else-has_maximum}
 use Rattle.chunk_grid.proofs.ChunkGrid.new.Goals as goal
 
 -- the grid that is asked for
 abbrev asked : Start → Grid
 asked c = given c.args.rank c.args.chunk.now c.args.present.now c.args.has_maximum c.args.maximum.now c.args.order
 
-passed : (c : In_default) → Passed ≡ shapes_test (asked (goal.at.In_default c).Start)
-passed c = sym c.in_default.is ∙ c.shapes_test-shapes.ensures _
+passed : (c : In_ok-shapes_test) → Ok tt ≡ shapes_test (asked (goal.at.In_ok-shapes_test c).Start)
+passed c = sym c.in_ok-shapes_test.was ∙ c.shapes_test.ensures _
 
--- its shapes have one rank
-lengths : (c : In_default)
-    → (c.args.has_maximum ≡ true → length c.args.maximum.now ≡ length c.args.chunk.now)
-    × (length c.args.present.now ≡ length c.args.chunk.now)
-    × (length c.args.chunk.now ≤ 32)
-lengths c = given_lengths _ _ _ _ _ _ (passed c)
-
-tested : (c : Joined-has_maximum) → c.if-has_maximum.checked ≡ grid_test (asked (goal.at.Joined-has_maximum c).Start)
-tested c =
-    let a = c.args in
-    let t = tests-given _ _ _ _ _ _ (passed (goal.at.Joined-has_maximum c).In_default) in
-    let pick : Bool → Checked = λ h. numbering_test (is_unlimited_first a.order) (cond h a.maximum.now a.present.now) a.chunk.now in
+limited : (c : Joined-has_maximum) → c.if-has_maximum.limits.now ≡ cond c.args.has_maximum c.args.maximum.now c.args.present.now
+limited c =
+    let pick : Bool → List ℕ = λ h. cond h c.args.maximum.now c.args.present.now in
     elim c.if-has_maximum.branch [
-      | then-has_maximum w ↦ w.checked-is ∙ w.numbering_test-checked.ensures ∙ ap pick (sym w.if-has_maximum.true) ∙ t
-      | else-has_maximum w ↦ w.checked-is ∙ w.numbering_test-checked-else-has_maximum.ensures ∙ ap pick (sym w.if-has_maximum.false) ∙ t
+      | then-has_maximum w ↦ ap (λ (b : Bor (List ℕ)). b.now) w.limits-is ∙ ap pick (sym w.if-has_maximum.true)
+      | else-has_maximum w ↦ ap (λ (b : Bor (List ℕ)). b.now) w.limits-is ∙ ap pick (sym w.if-has_maximum.false)
     ]
 
-pub returns-in-Refused : goal.returns-in-Refused
-unfolding where_tested
-returns-in-Refused c =
-    let e = c.refused_grid.ensures in
-    let s = c.shapes_test-shapes.ensures in
-    record {
-      checked = e.0 ∙ refused_by (asked (goal.at.returns-in-Refused c).Start) _ _ c.in-Refused.is (s _);
-      grid = rw e.0 e.1;
-    }
+tested : (c : After-numbering_test) → c.numbering_test.result ≡ grid_test (asked (goal.at.After-numbering_test c).Start)
+tested c =
+    let before = goal.at.After-numbering_test c in
+    c.numbering_test.ensures ∙ rw (limited before.Joined-has_maximum) (tests-given _ _ _ _ _ _ (passed before.In_ok-shapes_test))
 
-pub numbering_test-checked-requires : goal.numbering_test-checked-requires
-numbering_test-checked-requires c =
-    let l = lengths (goal.at.numbering_test-checked-requires c).In_default in
-    (l.0 c.if-has_maximum.true, l.2)
+pub returns-in_err-shapes_test : goal.returns-in_err-shapes_test
+returns-in_err-shapes_test c =
+    let e = built_refused (asked (goal.at.returns-in_err-shapes_test c).Start) c.in_err-shapes_test.field-0.0 (refused_shapes _ _ (sym c.in_err-shapes_test.was ∙ c.shapes_test.ensures _)) in
+    search rules
 
-pub numbering_test-checked-requires-else-has_maximum : goal.numbering_test-checked-requires-else-has_maximum
-numbering_test-checked-requires-else-has_maximum c =
-    let l = lengths (goal.at.numbering_test-checked-requires-else-has_maximum c).In_default in
-    (l.1, l.2)
+pub numbering_test-requires : goal.numbering_test-requires
+numbering_test-requires c =
+    let a = c.args in
+    let l = given_lengths _ _ _ _ _ _ (passed (goal.at.numbering_test-requires c).In_ok-shapes_test) in
+    rw (limited c) (by_cond (λ (s : List ℕ). length s ≡ length a.chunk.now) a.has_maximum l.0 (λ e. l.1), l.2)
 
-pub returns-in-Refused-checked : goal.returns-in-Refused-checked
-unfolding where_tested
-returns-in-Refused-checked c =
-    let e = c.refused_grid-in-Refused-checked.ensures in
-    record {
-      checked = e.0 ∙ sym c.in-Refused-checked.is ∙ tested (goal.at.returns-in-Refused-checked c).Joined-has_maximum;
-      grid = rw e.0 e.1;
-    }
+pub returns-in_err-numbering_test : goal.returns-in_err-numbering_test
+returns-in_err-numbering_test c =
+    let e = built_refused (asked (goal.at.returns-in_err-numbering_test c).Start) c.in_err-numbering_test.field-0.0 (sym c.in_err-numbering_test.was ∙ tested (goal.at.returns-in_err-numbering_test c).After-numbering_test) in
+    search rules
 
 pub returns : goal.returns
-unfolding where_tested
 returns c =
-    record {
-      checked = tested (goal.at.returns c).Joined-has_maximum;
-      grid =
-          rw c.in_default-checked.is
-          (same_grid _ _ _ _ _ _ _ _ _ (passed (goal.at.returns c).In_default) c.padded-chunk.ensures c.padded-present.ensures c.padded-maximum.ensures);
-    }
+    built_passed (asked (goal.at.returns c).Start) _ (sym c.in_ok-numbering_test.was ∙ tested (goal.at.returns c).After-numbering_test)
+    (same_grid _ _ _ _ _ _ _ _ _ (passed (goal.at.returns c).In_ok-shapes_test) c.padded.ensures c.padded-2.ensures c.padded-3.ensures)

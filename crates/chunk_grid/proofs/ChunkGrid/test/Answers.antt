@@ -11,7 +11,7 @@ use Rattle.chunk_grid.proofs.ChunkGrid.test.Goals.{After-limits-limits, Else-sel
 use Rattle.chunk_grid.proofs.ChunkGrid.test.Goals as goal
 
 pub returns-then-self-gt32 : goal.returns-then-self-gt32
-returns-then-self-gt32 c = c.refused.ensures ∙ over_32 _ c.if-self-gt32.true
+returns-then-self-gt32 c = over_32 _ c.if-self-gt32.true
 
 sizes : (c : Start) → (length c.args.self.chunk ≡ 32) × (length c.args.self.present ≡ 32) × (length c.args.self.maximum ≡ 32)
 sizes c = (search rules, search rules, search rules)

@@ -1,13 +1,9 @@
 -- `ea_blocks::enter::enter_page` meets its contract. Assumes nothing.
-use mathlib.Core.Path.{sym, subst, ◌∙◌}
+use mathlib.Core.Path.{sym, ◌∙◌}
 use native.Mathlib.Omega.{arith}
 use Rattle.ea_blocks.specs.Structures.{data_page_at}
-use Rattle.ea_blocks.specs.Entered.{EnteredPage}
-use Rattle.ea_blocks.proofs.Entering.{page_few, page_fits, page_by_result}
+use Rattle.ea_blocks.proofs.Entering.{page_few, page_fits}
 use Rattle.ea_blocks.proofs.enter.enter_page.Goals as goal
-
-pub returns-then-not-page_set : goal.returns-then-not-page_set
-returns-then-not-page_set c = λ e i. sym (c.page_set.ensures e) ∙ c.if-not-page_set.true
 
 pub page_at-requires : goal.page_at-requires
 page_at-requires c = (page_few _ c.requires.0.bounded.served _ _ c.requires.0.super c.requires.0.page, c.requires.0.bounded)
@@ -18,6 +14,4 @@ overflow_add-pos c =
 
 pub returns : goal.returns
 unfolding data_page_at
-returns c = λ e i.
-    subst (EnteredPage _ _ _ _) (sym c.enter_by_result.ensures)
-    (page_by_result _ _ _ _ _ _ (sym (c.page_set.ensures e) ∙ c.if-not-page_set.false) (c.test_page.ensures _ _ i) (rw (← i, c.page_at.ensures)))
+returns c = λ e i. (sym (c.page_set.ensures e) ∙ c.if-not-page_set.false, sym (c.test_page.ensures _ _ i) ∙ c.in_ok-test_page.was, rw (← i, c.page_at.ensures))

@@ -1,13 +1,11 @@
 -- `ea_blocks::enter::enter_page_in_turn` meets its contract. Assumes nothing.
-use mathlib.Core.Path.{sym, subst, ◌∙◌}
+use mathlib.Core.Path.{sym, ◌∙◌}
+use Prim.Native.Nat.{◌+◌}
 use native.Mathlib.Omega.{arith}
+use Rattle.std.proofs.Common.{rules}
 use Rattle.ea_blocks.specs.Structures.{data_page_at}
-use Rattle.ea_blocks.specs.Entered.{EnteredPage}
 use Rattle.ea_blocks.proofs.Entering.{page_few, page_fits, page_by_result}
 use Rattle.ea_blocks.proofs.enter.enter_page_in_turn.Goals as goal
-
-pub returns-then-not-page_set : goal.returns-then-not-page_set
-returns-then-not-page_set c = λ e i f. (sym (c.page_set.ensures e) ∙ c.if-not-page_set.true, f)
 
 pub page_at-requires : goal.page_at-requires
 page_at-requires c = (page_few _ c.requires.0.bounded.served _ _ c.requires.0.super c.requires.0.page, c.requires.0.bounded)
@@ -19,7 +17,5 @@ overflow_add-pos c =
 pub returns : goal.returns
 unfolding data_page_at
 returns c = λ e i f.
-    let v = c.page_result-tested.ensures i f in (
-      subst (EnteredPage _ _ _ _) (sym c.enter_by_result.ensures) (page_by_result _ _ _ _ _ _ (sym (c.page_set.ensures e) ∙ c.if-not-page_set.false) v.0 (rw (← i, c.page_at.ensures))),
-      v.1,
-    )
+    let v = c.page_result-tested.ensures i f in
+    (page_by_result _ _ _ (c.args.at + c.page_at.result) (λ z. search rules) (λ r z. search rules) _ _ _ (sym (c.page_set.ensures e) ∙ c.if-not-page_set.false) v.0 (rw (← i, c.page_at.ensures)), v.1)

@@ -7,6 +7,6 @@ pub returns-then-is_undefined_addr : goal.returns-then-is_undefined_addr
 unfolding pointer_of undefined_at
 returns-then-is_undefined_addr c = rw (← c.read_address-address.ensures, ← c.is_undefined_addr.ensures, c.if-is_undefined_addr.true)
 
-pub returns : goal.returns
+pub returns-else-is_undefined_addr : goal.returns-else-is_undefined_addr
 unfolding pointer_of undefined_at
-returns c = rw (← c.read_address-address.ensures, ← c.is_undefined_addr.ensures, c.if-is_undefined_addr.false)
+returns-else-is_undefined_addr c = rw (← c.read_address-address.ensures, ← c.is_undefined_addr.ensures, c.if-is_undefined_addr.false)

@@ -3,10 +3,11 @@ use Prim.Native.Nat.{ℕ, ◌+◌, ◌*◌, ◌≤◌}
 use mathlib.Core.Path.{◌≡◌, sym, ap, subst, ◌∙◌}
 use mathlib.Core.Bool.{true}
 use mathlib.Core.List.{[]}
+use Rattle.std.proofs.Common.{rules}
 use native.Mathlib.Omega.{arith}
 use lib.ListN.{length}
-use Rattle.refusal.specs.declared.Checked.TheVariants.{Passed}
-use Rattle.refusal.specs.Outcome.{accepted}
+use Rattle.std.specs.Prelude.{Ok}
+use Rattle.refusal.specs.declared.Refusal.TheVariants.{OffsetSize}
 use Rattle.refusal.specs.Values.{counted_of}
 use Rattle.refusal.proofs.Tests.{then_inv}
 use Rattle.chunk_grid.specs.Grid.{Grid}
@@ -25,17 +26,20 @@ use Rattle.ea_blocks.specs.Structures.{index_block, test_of, array_test}
 use Rattle.ea_blocks.proofs.StructureTests.{index_in_file}
 use Rattle.ea_count.proofs.WalkStates.{count_few}
 use Rattle.ea_count.proofs.Heads.{walk_refused, walk_passed, inline_refused, inline_counted, inline_room}
-use Rattle.ea_count.proofs.walk.count_walk.Goals.{After-count_elements-counted, After-inline_element_at, Else-not-is_width, In_default}
+use Rattle.ea_count.proofs.walk.count_walk.Goals.{After-count_elements, After-inline_element_at, Else-not-is_width, In_ok-test_array}
 use Rattle.ea_count.proofs.walk.count_walk.Goals as goal
 
-pub returns-in-Refused : goal.returns-in-Refused
-returns-in-Refused c = λ g n q. walk_refused _ _ _ (sym c.test_array.ensures ∙ c.in-Refused.is)
+pub returns-in_err-test_array : goal.returns-in_err-test_array
+returns-in_err-test_array c = λ g n q.
+    let a = c.args in
+    let h = walk_refused (array_of a.file.now a.array) (elements_of a.file.now a.reader g n) _ (sym c.test_array.ensures ∙ c.in_err-test_array.was) in
+    search rules
 
-tested : (c : In_default) → array_test (array_of c.args.file.now c.args.array) ≡ Passed
-tested c = sym c.test_array.ensures ∙ c.in_default.is
+tested : (c : In_ok-test_array) → array_test (array_of c.args.file.now c.args.array) ≡ Ok tt
+tested c = sym c.test_array.ensures ∙ c.in_ok-test_array.was
 
-passed : (c : In_default)
-    → Served c.args.array.geometry.parameters × (test_of (array_of c.args.file.now c.args.array) index_block ≡ Passed)
+passed : (c : In_ok-test_array)
+    → Served c.args.array.geometry.parameters × (test_of (array_of c.args.file.now c.args.array) index_block ≡ Ok tt)
 unfolding array_test
 passed c = let t = then_inv _ _ (tested c) in (tested_serves _ t.0, t.1)
 
@@ -49,19 +53,19 @@ room : (c : After-inline_element_at)
     + a.array.geometry.parameters.idx_blk_elmts * element_stride a.array.geometry.parameters a.array.geometry.offset_size
     ≤ length a.file.now
 room c =
-    inline_room (array_of c.args.file.now c.args.array) _ (passed (goal.at.After-inline_element_at c).In_default).1 (ap (λ (n : ℕ). c.args.array.index_at + n) c.inline_element_at.ensures)
+    inline_room (array_of c.args.file.now c.args.array) _ (passed (goal.at.After-inline_element_at c).In_ok-test_array).1 (ap (λ (n : ℕ). c.args.array.index_at + n) c.inline_element_at.ensures)
 
 -- they are counted
-counts : (c : After-count_elements-counted)
+counts : (c : After-count_elements)
     → let a = c.args in
     (g : Grid) (n : ℕ) → Reads a.reader a.chunk.now a.bound.now a.down.now g n
-    → c.count_elements-counted.result
+    → c.count_elements.result
     ≡ counted_of (elements_from (elements_of a.file.now a.reader g n) (a.array.index_at + inline_element_at a.array.geometry.parameters a.array.geometry.offset_size 0)
-    a.array.geometry.parameters.idx_blk_elmts 0 (accepted []))
+    a.array.geometry.parameters.idx_blk_elmts 0 (Ok []))
 counts c g n q =
     let a = c.args in
-    c.count_elements-counted.ensures g n q
-    ∙ ap (λ (x : ℕ). counted_of (elements_from (elements_of a.file.now a.reader g n) (a.array.index_at + x) a.array.geometry.parameters.idx_blk_elmts 0 (accepted [])))
+    c.count_elements.ensures g n q
+    ∙ ap (λ (x : ℕ). counted_of (elements_from (elements_of a.file.now a.reader g n) (a.array.index_at + x) a.array.geometry.parameters.idx_blk_elmts 0 (Ok [])))
     c.inline_element_at.ensures
 
 pub count_unreadable-requires : goal.count_unreadable-requires
@@ -69,31 +73,32 @@ count_unreadable-requires c =
     (c.requires.formed, sym c.is_width.ensures ∙ c.if-not-is_width.true)
 
 pub returns-then-not-is_width : goal.returns-then-not-is_width
-returns-then-not-is_width c = λ g n q. c.count_unreadable.ensures _ g n ∙ walk_passed _ _ (tested (goal.at.returns-then-not-is_width c).In_default)
+returns-then-not-is_width c = λ g n q. c.count_unreadable.ensures _ g n ∙ walk_passed _ _ (tested (goal.at.returns-then-not-is_width c).In_ok-test_array)
 
 pub inline_element_at-requires : goal.inline_element_at-requires
-inline_element_at-requires c = (omega arith, record { served = (passed (goal.at.inline_element_at-requires c).In_default).0; width = width_le _ (wide (goal.at.inline_element_at-requires c).Else-not-is_width) })
+inline_element_at-requires c = (omega arith, record { served = (passed (goal.at.inline_element_at-requires c).In_ok-test_array).0; width = width_le _ (wide (goal.at.inline_element_at-requires c).Else-not-is_width) })
 
 pub overflow_add-pos : goal.overflow_add-pos
 overflow_add-pos c = omega (arith, room (goal.at.overflow_add-pos c).After-inline_element_at)
 
-pub count_elements-counted-requires : goal.count_elements-counted-requires
-count_elements-counted-requires c =
+pub count_elements-requires : goal.count_elements-requires
+count_elements-requires c =
     let w = c.requires in
     record {
       grid = w.grid;
       element_bytes = w.element_bytes;
       reads = w.reads;
-      inside = subst (λ (n : ℕ). c.args.array.index_at + c.inline_element_at.result + c.args.array.geometry.parameters.idx_blk_elmts * n ≤ length c.args.file.now) (ap stride w.formed) (room (goal.at.count_elements-counted-requires c).After-inline_element_at);
+      inside = subst (λ (n : ℕ). c.args.array.index_at + c.inline_element_at.result + c.args.array.geometry.parameters.idx_blk_elmts * n ≤ length c.args.file.now) (ap stride w.formed) (room (goal.at.count_elements-requires c).After-inline_element_at);
     }
 
-pub returns-in_default-counted : goal.returns-in_default-counted
-returns-in_default-counted c =
-    λ g n q. c.in_default-counted.is ∙ inline_refused _ _ _ (sym c.in_default-counted.is ∙ counts (goal.at.returns-in_default-counted c).After-count_elements-counted g n q) ∙ walk_passed _ _ (tested (goal.at.returns-in_default-counted c).In_default)
+pub returns-in_err-n : goal.returns-in_err-n
+returns-in_err-n c = λ g n q.
+    let h = inline_refused _ _ _ (sym c.in_err-n.was ∙ counts (goal.at.returns-in_err-n c).After-count_elements g n q) ∙ walk_passed _ _ (tested (goal.at.returns-in_err-n c).In_ok-test_array) in
+    search rules
 
 pub super_blocks-supers-requires : goal.super_blocks-supers-requires
 super_blocks-supers-requires c =
-    (passed (goal.at.super_blocks-supers-requires c).In_default).0
+    (passed (goal.at.super_blocks-supers-requires c).In_ok-test_array).0
 
 pub count_blocks-requires : goal.count_blocks-requires
 count_blocks-requires c =
@@ -101,8 +106,8 @@ count_blocks-requires c =
     let n = c.super_blocks-supers.ensures in
     record {
       by = w;
-      index = index_in_file _ _ (passed (goal.at.count_blocks-requires c).In_default).0 (wide (goal.at.count_blocks-requires c).Else-not-is_width) (passed (goal.at.count_blocks-requires c).In_default).1;
-      few = omega (arith, first_slot_zero c.args.array.geometry.parameters, count_few (elements_of c.args.file.now c.args.reader w.grid w.element_bytes) _ _ _ _ (sym c.in-Count.is ∙ counts (goal.at.count_blocks-requires c).After-count_elements-counted w.grid w.element_bytes w.reads));
+      index = index_in_file _ _ (passed (goal.at.count_blocks-requires c).In_ok-test_array).0 (wide (goal.at.count_blocks-requires c).Else-not-is_width) (passed (goal.at.count_blocks-requires c).In_ok-test_array).1;
+      few = omega (arith, first_slot_zero c.args.array.geometry.parameters, count_few (elements_of c.args.file.now c.args.reader w.grid w.element_bytes) _ _ _ _ (sym c.in_ok-n.was ∙ counts (goal.at.count_blocks-requires c).After-count_elements w.grid w.element_bytes w.reads));
       ordered = omega arith;
       supers = omega (arith, n);
     }
@@ -110,6 +115,6 @@ count_blocks-requires c =
 pub returns : goal.returns
 returns c =
     λ g n q.
-    inline_counted _ _ _ (sym c.in-Count.is ∙ counts (goal.at.returns c).After-count_elements-counted g n q) (sym (width_passed 1 _ (wide (goal.at.returns c).Else-not-is_width)))
+    inline_counted _ _ _ (sym c.in_ok-n.was ∙ counts (goal.at.returns c).After-count_elements g n q) (sym (width_passed (OffsetSize _) _ (wide (goal.at.returns c).Else-not-is_width)))
     _ c.super_blocks-supers.ensures (c.count_blocks.ensures g n q)
-    ∙ walk_passed _ _ (tested (goal.at.returns c).In_default)
+    ∙ walk_passed _ _ (tested (goal.at.returns c).In_ok-test_array)

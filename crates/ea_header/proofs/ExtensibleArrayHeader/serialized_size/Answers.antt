@@ -5,4 +5,4 @@ use Rattle.ea_header.proofs.ExtensibleArrayHeader.serialized_size.Goals as goal
 
 pub returns : goal.returns
 unfolding figure
-returns c = omega (arith, c.saturating_add-2.ensures, c.saturating_add.ensures, c.saturating_mul.ensures)
+returns c = omega (arith, c.saturating_add-2.ensures, c.saturating_add.ensures, c.saturating_mul-statistics.ensures)

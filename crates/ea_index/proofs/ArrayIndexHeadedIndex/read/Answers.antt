@@ -1,18 +1,25 @@
 -- `read` of `ea_index::ArrayIndex` meets its trait's contract. Assumes nothing.
-use mathlib.Core.Path.{sym, ap, ◌∙◌}
-use Rattle.ea_header.specs.declared.ExtensibleArrayHeader.{ExtensibleArrayHeader}
+use mathlib.Core.Path.{◌≡◌, refl, sym, ◌∙◌}
+use Rattle.std.proofs.Common.{rules}
+use Rattle.std.specs.Prelude.{Err}
+use Rattle.refusal.specs.Refusals.{Checked}
+use Rattle.refusal.specs.Outcome.{◌yields◌}
+use Rattle.refusal.proofs.Outcomes.{value_is, refused_is}
+use Rattle.checksum.specs.Lookup3.{lookup3}
+use Rattle.ea_header.specs.Header.{header_test}
 use Rattle.ea_header.specs.Values.{parsed_at}
-use Rattle.ea_header.proofs.Header.{header_is, refused_is}
-use Rattle.walked_index.proofs.Calls.{read_as, refused_as}
-use Rattle.ea_index.specs.Values.{indexed}
 use Rattle.ea_index.proofs.ArrayIndexHeadedIndex.read.Goals as goal
 
-pub returns-in-Header : goal.returns-in-Header
-unfolding parsed_at
-returns-in-Header c =
-    let i = header_is _ _ _ (sym c.in-Header.is ∙ c.parse.ensures) in
-    read_as i.0 (c.from_header.ensures ∙ ap (λ (h : ExtensibleArrayHeader). indexed h c.args.offset_size) i.1)
+pub returns-in_err-header : goal.returns-in_err-header
+unfolding parsed_at ◌yields◌
+returns-in_err-header c =
+    let a = c.args in
+    let t = header_test lookup3 a.file.now a.address a.offset_size a.length_size in
+    let e : ◌≡◌ {A = Checked} (Err c.in_err-header.field-0.0) t = refused_is _ _ _ (sym c.in_err-header.was ∙ c.parse.ensures) in
+    search rules
 
-pub returns-in-Refused : goal.returns-in-Refused
-unfolding parsed_at
-returns-in-Refused c = refused_as _ (refused_is _ _ _ (sym c.in-Refused.is ∙ c.parse.ensures))
+pub returns : goal.returns
+unfolding parsed_at ◌yields◌
+returns c =
+    let i = value_is _ _ _ (sym c.in_ok-header.was ∙ c.parse.ensures) in
+    rw (← i.0, c.from_header.ensures, i.1) refl

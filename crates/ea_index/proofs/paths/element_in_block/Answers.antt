@@ -1,9 +1,11 @@
 -- `ea_index::paths::element_in_block` meets its contract. Assumes nothing.
 use Prim.Native.Nat.{◌/◌, ◌≤◌}
-use mathlib.Core.Path.{◌≡◌, sym, subst, ◌∙◌}
+use mathlib.Core.Path.{◌≡◌, sym, ap, subst, ◌∙◌}
+use Rattle.std.proofs.Common.{rules}
 use mathlib.Core.Bool.{true, false}
 use native.Mathlib.Omega.{arith}
 use lib.Pow.{pow_pos}
+use Rattle.std.specs.Prelude.{Ok, Option, Some, ℕ}
 use Rattle.fields.proofs.Fields.{width_is}
 use Rattle.fields.proofs.Widths.{width_le}
 use Rattle.ea_geometry.specs.Bounded.{most_elements, Bounded}
@@ -11,14 +13,13 @@ use Rattle.ea_geometry.specs.Sizes.{page_elements}
 use Rattle.ea_geometry.specs.Place.{in_pages}
 use Rattle.ea_geometry.proofs.Counts.{elements_few}
 use Rattle.ea_geometry.proofs.Places.{page_below, paged_behind}
-use Rattle.structures.specs.declared.enter.Entered.{Entered}
-use Rattle.structures.specs.declared.enter.Entered.TheVariants.{At}
 use Rattle.ea_blocks.specs.Values.{array_of}
 use Rattle.ea_blocks.specs.Entered.{EnteredPage}
 use Rattle.ea_blocks.proofs.StructureTests.{not_direct}
 use Rattle.ea_blocks.proofs.Entering.{entered_at, entered_super_room, entered_head_room}
-use Rattle.ea_index.proofs.PathEnds.{unpaged_room, unpaged_ends, page_ends, paged_room, paged_ends}
-use Rattle.ea_index.proofs.paths.element_in_block.Goals.{After-enter_page-page, Else-not-in_pages, In-At, Start, Then-not-in_pages}
+use Rattle.ea_index.proofs.PathEnds.{unpaged_room, unpaged_ends, clear_page_ends, refused_page_ends, paged_room, paged_ends}
+use Rattle.ea_index.proofs.paths.element_in_block.Goals.{After-enter_page, Else-not-in_pages, In-Some, Start, Then-not-in_pages}
+use Rattle.refusal.specs.Refusals.{Outcome}
 use Rattle.ea_index.proofs.paths.element_in_block.Goals as goal
 
 bounded : (c : Start) → Bounded c.args.array.geometry
@@ -53,16 +54,16 @@ nonzero_div-p c =
     let p = pow_pos c.args.array.geometry.parameters.max_dblk_nelmts_bits in
     rw c.page_elements.ensures (omega arith)
 
-pub enter_page-page-requires : goal.enter_page-page-requires
-enter_page-page-requires c =
-    let q = paged (goal.at.enter_page-page-requires c).Else-not-in_pages in
+pub enter_page-requires : goal.enter_page-requires
+enter_page-requires c =
+    let q = paged (goal.at.enter_page-requires c).Else-not-in_pages in
     let b = c.requires.1.1 in
     let t = c.requires.2 in (
       record {
         super = b.super;
         block = b.block;
         page = rw c.page_elements.ensures (page_below _ c.requires.0 _ _ b.super q b.element);
-        bounded = bounded (goal.at.enter_page-page-requires c).Start;
+        bounded = bounded (goal.at.enter_page-requires c).Start;
         paged = q;
         inside = entered_super_room _ _ _ t.super (paged_behind _ _ q);
       },
@@ -70,34 +71,43 @@ enter_page-page-requires c =
     )
 
 -- what stepping into the page has found
-abbrev EnteredAs : Start → Entered → Type 0
+abbrev EnteredAs : Start → Outcome (Option ℕ) → Type 0
 EnteredAs c x =
     let a = c.args in
     EnteredPage (array_of a.file.now a.array) a.u a.k (a.i / page_elements a.array.geometry.parameters) x
 
-page : (c : After-enter_page-page) → EnteredAs (goal.at.After-enter_page-page c).Start c.enter_page-page.result
+page : (c : After-enter_page) → EnteredAs (goal.at.After-enter_page c).Start c.enter_page.result
 page c =
     let t = c.requires.2 in
     rw (← c.page_elements.ensures)
-    (c.enter_page-page.ensures (entered_at _ _ _ t.super (not_direct _ _ (paged_behind _ _ (paged (goal.at.After-enter_page-page c).Else-not-in_pages)))) t.block.2)
+    (c.enter_page.ensures (entered_at _ _ _ t.super (not_direct _ _ (paged_behind _ _ (paged (goal.at.After-enter_page c).Else-not-in_pages)))) t.block.2)
+
+pub returns-in_err-enter_page : goal.returns-in_err-enter_page
+returns-in_err-enter_page c = λ s b.
+    let at = goal.at.returns-in_err-enter_page c in
+    let h = refused_page_ends _ c.requires.0 s _ _ _ b _ _ c.requires.2 (paged at.Else-not-in_pages) _ (subst (EnteredAs at.Start) c.in_err-enter_page.was (page at.After-enter_page)) in
+    search rules
 
 pub returns-in_default : goal.returns-in_default
 returns-in_default c = λ s b.
-    page_ends _ c.requires.0 s _ _ _ b _ _ c.requires.2 (paged (goal.at.returns-in_default c).Else-not-in_pages) _ (page (goal.at.returns-in_default c).After-enter_page-page)
-    c.in_default.not-At
+    let at = goal.at.returns-in_default c in
+    clear_page_ends _ c.requires.0 s _ _ _ b _ _ c.requires.2 (paged at.Else-not-in_pages)
+    (subst (EnteredAs at.Start) (c.in_ok-enter_page.was ∙ ap Ok c.in_default.is) (page at.After-enter_page))
 
 -- the page has passed its test
-turned : (c : In-At) → EnteredAs (goal.at.In-At c).Start (At c.in-At.field-0)
-turned c = subst (EnteredPage _ _ _ _) c.in-At.is (page (goal.at.In-At c).After-enter_page-page)
+turned : (c : In-Some) → EnteredAs (goal.at.In-Some c).Start (Ok (Some c.in-Some.field-0))
+turned c =
+    let at = goal.at.In-Some c in
+    subst (EnteredAs at.Start) (c.in_ok-enter_page.was ∙ ap Ok c.in-Some.is) (page at.After-enter_page)
 
 pub paged_element_at-requires : goal.paged_element_at-requires
 paged_element_at-requires c = (few (goal.at.paged_element_at-requires c).Start, bounded (goal.at.paged_element_at-requires c).Start)
 
 pub overflow_add-pos-2 : goal.overflow_add-pos-2
 overflow_add-pos-2 c =
-    let x = paged_room _ c.requires.0 _ _ _ _ c.requires.1.1 _ _ c.requires.2 (paged (goal.at.overflow_add-pos-2 c).Else-not-in_pages) _ (turned (goal.at.overflow_add-pos-2 c).In-At) in
+    let x = paged_room _ c.requires.0 _ _ _ _ c.requires.1.1 _ _ c.requires.2 (paged (goal.at.overflow_add-pos-2 c).Else-not-in_pages) _ (turned (goal.at.overflow_add-pos-2 c).In-Some) in
     rw c.paged_element_at.ensures (omega arith)
 
 pub returns : goal.returns
 returns c = λ s b.
-    rw c.paged_element_at.ensures (paged_ends _ c.requires.0 s _ _ _ b _ _ c.requires.2 (paged (goal.at.returns c).Else-not-in_pages) _ (turned (goal.at.returns c).In-At))
+    rw c.paged_element_at.ensures (paged_ends _ c.requires.0 s _ _ _ b _ _ c.requires.2 (paged (goal.at.returns c).Else-not-in_pages) _ (turned (goal.at.returns c).In-Some))

@@ -1,8 +1,8 @@
 -- `ea_index::paths::path_of` meets its contract. Assumes nothing.
 use mathlib.Core.Path.{◌≡◌, sym, subst, ◌∙◌}
+use Rattle.std.proofs.Common.{rules}
 use mathlib.Core.Logic.{⊎_elim}
 use native.Mathlib.Omega.{arith}
-use Rattle.refusal.specs.declared.Checked.{Checked}
 use Rattle.element_form.specs.Form.{element_size_test}
 use Rattle.element_form.proofs.Forms.{sized_width}
 use Rattle.fields.proofs.Widths.{width_le}
@@ -15,8 +15,11 @@ use Rattle.ea_geometry.proofs.Places.{place_of_lem}
 use Rattle.ea_blocks.specs.Values.{array_of}
 use Rattle.ea_blocks.proofs.StructureTests.{array_passed}
 use Rattle.ea_walk.proofs.Paths.{no_place}
+use Rattle.std.specs.Prelude.{Err}
+use Rattle.ea_index.specs.Values.{ArrayEnds}
 use Rattle.ea_index.proofs.PathEnds.{ends_nowhere, inline_room, inline_ends, unsized_ends}
 use Rattle.ea_index.proofs.paths.path_of.Goals.{After-place_of, After-test, In-Block, Start}
+use Rattle.refusal.specs.Refusals.{Checked}
 use Rattle.ea_index.proofs.paths.path_of.Goals as goal
 
 served : (c : Start) → Served c.args.array.geometry.parameters
@@ -40,7 +43,7 @@ pub inline_element_at-requires : goal.inline_element_at-requires
 unfolding PlaceOf
 inline_element_at-requires c =
     let q = placed (goal.at.inline_element_at-requires c).After-place_of c.in-Inline.is in
-    (omega (arith, q.1), record { served = served (goal.at.inline_element_at-requires c).Start; width = width_le _ (sized_width _ (sized (goal.at.inline_element_at-requires c).After-test c.in-Passed.is)) })
+    (omega (arith, q.1), record { served = served (goal.at.inline_element_at-requires c).Start; width = width_le _ (sized_width _ (sized (goal.at.inline_element_at-requires c).After-test c.in_ok-test-in-Inline.was)) })
 
 pub overflow_add-pos : goal.overflow_add-pos
 unfolding PlaceOf
@@ -48,17 +51,14 @@ overflow_add-pos c =
     let x = inline_room _ c.requires _ (placed (goal.at.overflow_add-pos c).After-place_of c.in-Inline.is).1 in
     rw c.inline_element_at.ensures (omega arith)
 
-pub returns-in-Passed : goal.returns-in-Passed
+pub returns-in_err-test-in-Inline : goal.returns-in_err-test-in-Inline
 unfolding PlaceOf
-returns-in-Passed c =
-    let q = placed (goal.at.returns-in-Passed c).After-place_of c.in-Inline.is in
-    rw (c.inline_element_at.ensures, q.0) (inline_ends _ c.requires _ q.1)
-
-pub returns-in-Refused : goal.returns-in-Refused
-unfolding PlaceOf
-returns-in-Refused c =
-    let q = placed (goal.at.returns-in-Refused c).After-place_of c.in-Inline.is in
-    rw q.0 (unsized_ends _ c.requires _ q.1 _ (sized (goal.at.returns-in-Refused c).After-test c.in-Refused.is))
+returns-in_err-test-in-Inline c =
+    let at = goal.at.returns-in_err-test-in-Inline c in
+    let q = placed at.After-place_of c.in-Inline.is in
+    let h : ArrayEnds (array_of c.args.file.now c.args.array) c.args.slot (Err c.in_err-test-in-Inline.field-0.0) =
+    rw q.0 (unsized_ends _ c.requires _ q.1 _ (sized at.After-test c.in_err-test-in-Inline.was)) in
+    search rules
 
 -- a slot in a data block
 within : (c : In-Block)
@@ -79,3 +79,9 @@ returns-in-Nowhere c = ends_nowhere _ _ (λ e. no_place _ e _ (sym c.place_of.en
 
 pub returns-in-Block : goal.returns-in-Block
 returns-in-Block c = c.block_path.ensures _ (within (goal.at.returns-in-Block c).In-Block)
+
+pub returns-in_ok-test-in-Inline : goal.returns-in_ok-test-in-Inline
+unfolding PlaceOf
+returns-in_ok-test-in-Inline c =
+    let q = placed (goal.at.returns-in_ok-test-in-Inline c).After-place_of c.in-Inline.is in
+    rw (c.inline_element_at.ensures, q.0) (inline_ends _ c.requires _ q.1)

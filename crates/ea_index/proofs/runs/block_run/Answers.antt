@@ -3,9 +3,9 @@ use mathlib.Core.Path.{◌≡◌, refl, sym, ◌∙◌}
 use mathlib.Core.Bool.{false}
 use mathlib.Core.Logic.{inl}
 use native.Mathlib.Omega.{arith}
+use Rattle.std.specs.Prelude.{Ok, Some}
 use Rattle.ea_geometry.proofs.Counts.{supers_few}
 use Rattle.ea_geometry.proofs.Places.{in_super_block_lem}
-use Rattle.structures.specs.declared.enter.Entered.TheVariants.{At}
 use Rattle.ea_blocks.specs.Values.{array_of}
 use Rattle.ea_blocks.specs.Structures.{is_direct}
 use Rattle.ea_blocks.specs.Entered.{EnteredSuper}
@@ -14,7 +14,7 @@ use Rattle.ea_blocks.proofs.PointerValues.{pointer_undefined, pointer_at_lem}
 use Rattle.ea_blocks.proofs.Entering.{entered_at, entered_super_room}
 use Rattle.ea_index.specs.Values.{slots_of}
 use Rattle.ea_index.proofs.SlotRuns.{super_left, gap_left, super_gap, super_entered, block_gap, block_entered}
-use Rattle.ea_index.proofs.runs.block_run.Goals.{Joined-direct_super_blocks-u, Then-direct_super_blocks-u, then-direct_super_blocks-u+in-At, else-direct_super_blocks-u}
+use Rattle.ea_index.proofs.runs.block_run.Goals.{Joined-direct_super_blocks-u, Then-direct_super_blocks-u, then-direct_super_blocks-u+in-Some, else-direct_super_blocks-u}
 use Rattle.ea_index.proofs.runs.block_run.Goals as goal
 
 pub super_pointer-requires : goal.super_pointer-requires
@@ -48,13 +48,13 @@ returns-in_default c =
 -- where both ways meet
 super : (c : Joined-direct_super_blocks-u)
     → let a = c.args in
-    EnteredSuper (array_of a.file.now a.array) a.u (At c.if-direct_super_blocks-u.super_at)
+    EnteredSuper (array_of a.file.now a.array) a.u (Ok (Some c.if-direct_super_blocks-u.super_at))
 super c =
     let p = c.requires in
     let d = c.direct_super_blocks.ensures in
     elim c.if-direct_super_blocks-u.branch [
-      | then-direct_super_blocks-u+in-At w ↦
-          let q = pointer_at_lem _ _ _ (sym w.in-At.is ∙ w.super_pointer.ensures) in
+      | then-direct_super_blocks-u+in-Some w ↦
+          let q = pointer_at_lem _ _ _ (sym w.in-Some.is ∙ w.super_pointer.ensures) in
           super_entered _ _ _ p.0 _ _ _ p.1 _ (not_direct _ _ (omega (arith, d, w.if-direct_super_blocks-u.true))) q.0
           (w.super_at-is ∙ q.1)
       | else-direct_super_blocks-u w ↦
@@ -77,7 +77,7 @@ returns-in_default-block_pointer c =
 pub run_in_block-requires : goal.run_in_block-requires
 run_in_block-requires c =
     let p = c.requires in
-    let q = pointer_at_lem _ _ _ (sym c.in-At-block_pointer.is ∙ c.block_pointer.ensures (entered_at _ _ _ (super (goal.at.run_in_block-requires c).Joined-direct_super_blocks-u))) in
+    let q = pointer_at_lem _ _ _ (sym c.in-Some-block_pointer.is ∙ c.block_pointer.ensures (entered_at _ _ _ (super (goal.at.run_in_block-requires c).Joined-direct_super_blocks-u))) in
     (p.0, p.1, super (goal.at.run_in_block-requires c).Joined-direct_super_blocks-u, block_entered _ _ _ p.0 _ _ _ p.1 _ (super (goal.at.run_in_block-requires c).Joined-direct_super_blocks-u) _ q.0 q.1)
 
 pub returns : goal.returns

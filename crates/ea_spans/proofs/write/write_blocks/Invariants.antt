@@ -1,16 +1,13 @@
 -- `ea_spans::write::write_blocks` meets its contract: what is left from data block k on, written behind `next`, gives
 -- the lists. Assumes nothing.
-use Prim.Native.Nat.{◌-◌, ◌≤◌}
-use Rattle.refusal.specs.Outcome.{accepted}
+use Prim.Native.Nat.{◌-◌}
+use Rattle.std.specs.Prelude.{Ok}
 use Rattle.ea_blocks.specs.Values.{array_of}
 use Rattle.span_walk.specs.Walk.{block_spans}
 use Rattle.ea_spans.proofs.Writing.{Going}
 use Rattle.ea_spans.proofs.write.write_blocks.Given as goal
 
 abbrev pub invariant-loop-k : goal.invariant-loop-k
-invariant-loop-k l = (l.k ≤ l.blocks)
-    × (let left = block_spans (array_of l.file l.array) l.u in
-    Going (accepted (left l.blocks 0)) l.n l.initial.addresses l.initial.lengths (accepted (left (l.blocks - l.k) l.k)) l.next l.addresses l.lengths)
-
-abbrev pub decreases-loop-k : goal.decreases-loop-k
-decreases-loop-k l = l.blocks - l.k
+invariant-loop-k l =
+    let left = block_spans (array_of l.file l.array) l.u in
+    Going (Ok (left l.blocks 0)) l.n l.initial.addresses l.initial.lengths (Ok (left (l.blocks - l.k) l.k)) l.next l.addresses l.lengths

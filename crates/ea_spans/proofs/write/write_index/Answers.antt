@@ -1,7 +1,7 @@
 -- `ea_spans::write::write_index` meets its contract. Assumes nothing.
 use mathlib.Core.Path.{◌≡◌, sym, ◌∙◌}
 use mathlib.Core.Bool.{false}
-use Rattle.refusal.specs.declared.Checked.TheVariants.{Passed}
+use Rattle.std.specs.Prelude.{Ok}
 use Rattle.refusal.specs.Outcome.{also}
 use Rattle.refusal.proofs.Tests.{then_inv}
 use Rattle.refusal.proofs.Outcomes.{yields_inv, yields_passed}
@@ -28,7 +28,7 @@ there : (c : Else-index_undefined)
     undefined a.offset_size a.index_at ≡ false
 there c = sym c.index_undefined.ensures ∙ c.if-index_undefined.false
 
-passed : (c : Else-index_undefined) → spanned_test (array_of c.args.file.now c.args.array) index_block ≡ Passed
+passed : (c : Else-index_undefined) → spanned_test (array_of c.args.file.now c.args.array) index_block ≡ Ok tt
 passed c =
     let r = c.requires.2 in
     (yields_inv _ _ _ (sym (index_defined _ (there c)) ∙ r.is)).0

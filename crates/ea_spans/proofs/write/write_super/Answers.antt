@@ -4,8 +4,8 @@ use mathlib.Core.Path.{◌≡◌, refl, sym, ◌∙◌}
 use mathlib.Core.Bool.{true, false}
 use mathlib.Core.Logic.{inl}
 use native.Mathlib.Omega.{arith}
-use Rattle.refusal.specs.declared.Checked.TheVariants.{Passed}
-use Rattle.refusal.specs.Outcome.{accepted, also}
+use Rattle.std.specs.Prelude.{Ok}
+use Rattle.refusal.specs.Outcome.{also}
 use Rattle.refusal.proofs.Outcomes.{yields_inv, yields_passed}
 use Rattle.ea_geometry.specs.Sizes.{blocks}
 use Rattle.ea_blocks.specs.Array.{Array}
@@ -18,7 +18,7 @@ use Rattle.span_walk.specs.Walk.{Spanning, block_spans, super_spans}
 use Rattle.span_walk.proofs.Turns.{super_direct, super_none, super_defined}
 use Rattle.span_count.proofs.SuperBlocks.{entered_tested}
 use Rattle.ea_spans.proofs.Writing.{Going, going_whole, going_as, going_none, going_fits, going_put}
-use Rattle.ea_spans.proofs.write.write_super.Goals.{After-put_span, After-super_span, Else-u-direct_super_blocks, In-At, Start, Then-u-direct_super_blocks}
+use Rattle.ea_spans.proofs.write.write_super.Goals.{After-put_span, After-super_span, Else-u-direct_super_blocks, In-Some, Start, Then-u-direct_super_blocks}
 use Rattle.ea_spans.proofs.write.write_super.Goals as goal
 
 abbrev array : Start → Array
@@ -31,7 +31,7 @@ Left s a =
     a s.args.n s.args.addresses.now s.args.lengths.now
 
 abbrev inner : Start → Spanning
-inner s = accepted (block_spans (array s) s.args.u (blocks s.args.u) 0)
+inner s = Ok (block_spans (array s) s.args.u (blocks s.args.u) 0)
 
 -- the index block names the data blocks, ..
 direct : (c : Then-u-direct_super_blocks)
@@ -58,25 +58,25 @@ beyond c =
     let e = c.direct_super_blocks.ensures in
     not_direct _ _ (omega arith)
 
-pub returns-in-Undefined : goal.returns-in-Undefined
-returns-in-Undefined c =
-    going_none (going_as (super_none _ _ (beyond (goal.at.returns-in-Undefined c).Else-u-direct_super_blocks)
-    (pointer_undefined _ _ (sym c.in-Undefined.is ∙ c.super_pointer.ensures))) (going_whole c.requires.2))
+pub returns-in_default : goal.returns-in_default
+returns-in_default c =
+    going_none (going_as (super_none _ _ (beyond (goal.at.returns-in_default c).Else-u-direct_super_blocks)
+    (pointer_undefined _ _ (sym c.in_default.is ∙ c.super_pointer.ensures))) (going_whole c.requires.2))
 
 -- where it lies, and that it has passed its tests
-found : (c : In-At)
-    → (super_undefined (array (goal.at.In-At c).Start) c.args.u ≡ false) × (c.in-At.at ≡ super_block_at (array (goal.at.In-At c).Start) c.args.u)
-    × (spanned_test (array (goal.at.In-At c).Start) (super_block c.args.u) ≡ Passed)
+found : (c : In-Some)
+    → (super_undefined (array (goal.at.In-Some c).Start) c.args.u ≡ false) × (c.in-Some.at ≡ super_block_at (array (goal.at.In-Some c).Start) c.args.u)
+    × (spanned_test (array (goal.at.In-Some c).Start) (super_block c.args.u) ≡ Ok tt)
 found c =
-    let q = pointer_at_lem _ _ _ (sym c.in-At.is ∙ c.super_pointer.ensures) in
+    let q = pointer_at_lem _ _ _ (sym c.in-Some.is ∙ c.super_pointer.ensures) in
     let r = c.requires.2 in
-    (q.0, q.1, (yields_inv _ _ _ (sym (super_defined _ _ (beyond (goal.at.In-At c).Else-u-direct_super_blocks) q.0) ∙ r.is)).0)
+    (q.0, q.1, (yields_inv _ _ _ (sym (super_defined _ _ (beyond (goal.at.In-Some c).Else-u-direct_super_blocks) q.0) ∙ r.is)).0)
 
 -- its span comes next
 spanned : (c : After-super_span)
     → Left (goal.at.After-super_span c).Start (also c.super_span.result (inner (goal.at.After-super_span c).Start))
 spanned c =
-    let q = found (goal.at.After-super_span c).In-At in
+    let q = found (goal.at.After-super_span c).In-Some in
     rw (c.super_span.ensures c.args.file.now q.1)
     (going_as (super_defined _ _ (beyond (goal.at.After-super_span c).Else-u-direct_super_blocks) q.0 ∙ yields_passed _ _ q.2) (going_whole c.requires.2))
 
@@ -89,13 +89,13 @@ behind : (c : After-put_span)
     (inner (goal.at.After-put_span c).Start) (c.args.n + 1) c.put_span.new.addresses c.put_span.new.lengths
 behind c = going_put _ _ (spanned (goal.at.After-put_span c).After-super_span) c.put_span.ensures.0 c.put_span.ensures.1
 
-pub write_blocks-requires-in-At : goal.write_blocks-requires-in-At
-write_blocks-requires-in-At c =
-    let q = found (goal.at.write_blocks-requires-in-At c).In-At in
-    (c.requires.0, c.requires.1, entered_tested _ _ _ (beyond (goal.at.write_blocks-requires-in-At c).Else-u-direct_super_blocks) q.0 q.1 q.2, (behind (goal.at.write_blocks-requires-in-At c).After-put_span).room)
+pub write_blocks-requires-2 : goal.write_blocks-requires-2
+write_blocks-requires-2 c =
+    let q = found (goal.at.write_blocks-requires-2 c).In-Some in
+    (c.requires.0, c.requires.1, entered_tested _ _ _ (beyond (goal.at.write_blocks-requires-2 c).Else-u-direct_super_blocks) q.0 q.1 q.2, (behind (goal.at.write_blocks-requires-2 c).After-put_span).room)
 
-pub returns-in-At : goal.returns-in-At
-returns-in-At c =
-    let e = c.write_blocks-in-At.ensures in
-    let g = behind (goal.at.returns-in-At c).After-put_span in
+pub returns : goal.returns
+returns c =
+    let e = c.write_blocks-2.ensures in
+    let g = behind (goal.at.returns c).After-put_span in
     (e.0 ∙ g.first, e.1 ∙ g.second, e.2 ∙ g.end)

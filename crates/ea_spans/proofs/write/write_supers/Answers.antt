@@ -10,7 +10,7 @@ use Rattle.ea_spans.proofs.write.write_supers.Goals.{In-loop-u}
 use Rattle.ea_spans.proofs.write.write_supers.Goals as goal
 
 pub loop-u-init : goal.loop-u-init
-loop-u-init c = (omega arith, rw (sub-zero, c.super_blocks-supers.ensures) (going_whole c.requires.1))
+loop-u-init c = rw (sub-zero, c.super_blocks-supers.ensures) (going_whole c.requires.1)
 
 -- super block u comes next
 next : (c : In-loop-u)
@@ -18,7 +18,7 @@ next : (c : In-loop-u)
     let supers = c.super_blocks-supers.result in
     Going (supers_from a supers 0) 2 c.args.addresses.now c.args.lengths.now
     (joined (super_spans a c.loop-u.u) (supers_from a (supers - (c.loop-u.u + 1)) (c.loop-u.u + 1))) c.loop-u.n c.loop-u.addresses c.loop-u.lengths
-next c = going_as (supers_next _ _ _ (omega arith)) c.loop-u.invariant.1
+next c = going_as (supers_next _ _ _ (omega arith)) c.loop-u.invariant
 
 pub write_super-n-requires : goal.write_super-n-requires
 write_super-n-requires c =
@@ -28,9 +28,9 @@ write_super-n-requires c =
 pub loop-u-preserved : goal.loop-u-preserved
 loop-u-preserved c =
     let e = c.write_super-n.ensures in
-    (omega arith, going_behind _ _ (next (goal.at.loop-u-preserved c).In-loop-u) e.0 e.1 e.2)
+    going_behind _ _ (next (goal.at.loop-u-preserved c).In-loop-u) e.0 e.1 e.2
 
 pub returns : goal.returns
 returns c =
-    let g = going_none (going_as (supers_none _ _ _ (omega arith)) c.loop-u.invariant.1) in
+    let g = going_none (going_as (supers_none _ _ _ (omega arith)) c.loop-u.invariant) in
     rw (← c.super_blocks-supers.ensures) (g.0, g.1)

@@ -1,6 +1,7 @@
 -- `element_runs::count::count_each_element` meets its contract. Assumes nothing.
 use Prim.Native.Nat.{ℕ, ◌+◌, ◌*◌, ◌≤◌}
 use mathlib.Core.Path.{◌≡◌, sym, ◌∙◌}
+use Rattle.std.proofs.Common.{rules}
 use native.Mathlib.Omega.{arith}
 use lib.ListN.{length}
 use Rattle.chunk_grid.specs.Grid.{Grid}
@@ -11,8 +12,8 @@ use Rattle.elements.specs.Values.{found_of}
 use Rattle.elements.specs.Values.{elements_of, Reads}
 use Rattle.elements.proofs.Turns.{Within, within_first, within_here, within_more, within_pass}
 use Rattle.element_runs.proofs.DefinedRuns.{first_defined}
-use Rattle.element_runs.proofs.Counting.{Counting, counting_first, counting_done, counting_same, counting_refused, counting_absent, counting_chunk, counting_skip, counting_inside}
-use Rattle.element_runs.proofs.count.count_each_element.Goals.{After-count_defined-count, After-reach_from-reach, After-read_defined_element, After-undefined_run-gap, At-loop-i, Joined-read_defined_element, in-Absent, in-Chunk}
+use Rattle.element_runs.proofs.Counting.{Counting, counting_first, counting_done, counting_same, counting_refused, counting_none, counting_some, counting_skip, counting_inside}
+use Rattle.element_runs.proofs.count.count_each_element.Goals.{After-count_defined, After-reach_from-reach, After-read_defined_element, After-undefined_run-gap, At-loop-i, Joined-is_some, then-is_some, else-is_some}
 use Rattle.element_runs.proofs.count.count_each_element.Goals as goal
 
 pub loop-i-init : goal.loop-i-init
@@ -72,27 +73,27 @@ line_passed : (c : After-reach_from-reach)
     × Passed (goal.at.After-reach_from-reach c).At-loop-i (c.loop-i.i + c.reach_from-reach.result.slots) (c.loop-i.at + c.reach_from-reach.result.slots * stride_of c.args.reader.form)
 line_passed c = within_pass c.loop-i.invariant.0 c.reach_from-reach.result.slots (omega (arith, c.reach_from-reach.ensures.0, c.loop-i.invariant.0.passed))
 
-pub count_defined-count-requires : goal.count_defined-count-requires
-count_defined-count-requires c =
+pub count_defined-requires : goal.count_defined-requires
+count_defined-requires c =
     let t = c.requires.1 in
-    rw c.stride-stride.ensures (sized_width _ t, sized-stride _ t, (line_passed (goal.at.count_defined-count-requires c).After-reach_from-reach).0)
+    rw c.stride-stride.ensures (sized_width _ t, sized-stride _ t, (line_passed (goal.at.count_defined-requires c).After-reach_from-reach).0)
 
-line_counted : (c : After-count_defined-count)
-    → CountingAt (goal.at.After-count_defined-count c).At-loop-i (c.loop-i.at + c.reach_from-reach.result.slots * stride_of c.args.reader.form)
-    (c.loop-i.i + c.reach_from-reach.result.slots) (c.loop-i.count + c.count_defined-count.result)
+line_counted : (c : After-count_defined)
+    → CountingAt (goal.at.After-count_defined c).At-loop-i (c.loop-i.at + c.reach_from-reach.result.slots * stride_of c.args.reader.form)
+    (c.loop-i.i + c.reach_from-reach.result.slots) (c.loop-i.count + c.count_defined.result)
 line_counted c grid m q =
     let p = c.requires in
-    let d = c.count_defined-count.ensures in
+    let d = c.count_defined.ensures in
     counting_inside (c.loop-i.invariant.2 grid m q) c.loop-i-test.true p.1 p.2 (λ j. omega (arith, c.type_inv.file j))
-    (sym (c.sizes_fit-fit.ensures grid m q.chunked) ∙ c.reach_from-reach.ensures.1 c.if-m-gt0.true) _ (line_passed (goal.at.After-count_defined-count c).After-reach_from-reach).1.passed
+    (sym (c.sizes_fit-fit.ensures grid m q.chunked) ∙ c.reach_from-reach.ensures.1 c.if-m-gt0.true) _ (line_passed (goal.at.After-count_defined c).After-reach_from-reach).1.passed
     (c.reach_from-reach.ensures.2 grid m q).1 _ (rw c.stride-stride.ensures at d)
 
-line_few : (c : After-count_defined-count)
-    → c.loop-i.count + c.count_defined-count.result ≤ c.loop-i.i + c.reach_from-reach.result.slots
+line_few : (c : After-count_defined)
+    → c.loop-i.count + c.count_defined.result ≤ c.loop-i.i + c.reach_from-reach.result.slots
 line_few c = (line_counted c _ _ c.requires.0.reads).few
 
 pub overflow_add-count : goal.overflow_add-count
-overflow_add-count c = omega (arith, line_few (goal.at.overflow_add-count c).After-count_defined-count, (line_passed (goal.at.overflow_add-count c).After-reach_from-reach).1.passed)
+overflow_add-count c = omega (arith, line_few (goal.at.overflow_add-count c).After-count_defined, (line_passed (goal.at.overflow_add-count c).After-reach_from-reach).1.passed)
 
 pub overflow_mul-at-then-m-gt0 : goal.overflow_mul-at-then-m-gt0
 overflow_mul-at-then-m-gt0 c = let l = (line_passed (goal.at.overflow_mul-at-then-m-gt0 c).After-reach_from-reach).0 in rw c.stride-stride.ensures (omega arith)
@@ -108,7 +109,7 @@ loop-i-smaller-then-m-gt0 c = omega (arith, (line_passed (goal.at.loop-i-smaller
 
 pub loop-i-preserved-then-m-gt0 : goal.loop-i-preserved-then-m-gt0
 loop-i-preserved-then-m-gt0 c =
-    let d = (goal.at.loop-i-preserved-then-m-gt0 c).After-count_defined-count in
+    let d = (goal.at.loop-i-preserved-then-m-gt0 c).After-count_defined in
     rw c.stride-stride.ensures ((line_passed (goal.at.loop-i-preserved-then-m-gt0 c).After-reach_from-reach).1, line_few d, line_counted d)
 
 -- the next element, which is defined
@@ -123,32 +124,34 @@ read_defined_element-requires c =
     let z = c.if-gap-gt0.false in
     (c.requires.1, within_here c.loop-i.invariant.0 t, first_defined _ _ _ _ _ _ c.undefined_run-gap.ensures.0 (omega arith) (omega (arith, t)))
 
-pub overflow_add-count-in-Chunk : goal.overflow_add-count-in-Chunk
-overflow_add-count-in-Chunk c = omega (arith, c.loop-i.invariant.1, c.loop-i.invariant.0.passed)
+pub overflow_add-count-then-is_some : goal.overflow_add-count-then-is_some
+overflow_add-count-then-is_some c = omega (arith, c.loop-i.invariant.1, c.loop-i.invariant.0.passed)
 
-pub returns-in-Refused : goal.returns-in-Refused
-returns-in-Refused c =
+pub returns-in_err-read_defined_element : goal.returns-in_err-read_defined_element
+returns-in_err-read_defined_element c = λ grid m q.
     let t = c.loop-i-test.true in
-    λ grid m q. counting_refused (c.loop-i.invariant.2 grid m q) t (omega (arith, c.requires.2, t)) _ (is_element (goal.at.returns-in-Refused c).After-read_defined_element grid m q) _ c.in-Refused.is
+    let h = counting_refused (c.loop-i.invariant.2 grid m q) t (omega (arith, c.requires.2, t)) _ (is_element (goal.at.returns-in_err-read_defined_element c).After-read_defined_element grid m q) _ c.in_err-read_defined_element.was in
+    search rules
 
 -- behind the element that was read
-inside : (c : Joined-read_defined_element) → Passed (goal.at.Joined-read_defined_element c).At-loop-i (c.loop-i.i + 1) (c.loop-i.at + stride_of c.args.reader.form)
+inside : (c : Joined-is_some) → Passed (goal.at.Joined-is_some c).At-loop-i (c.loop-i.i + 1) (c.loop-i.at + stride_of c.args.reader.form)
 inside c = within_more c.loop-i.invariant.0 c.loop-i-test.true
 
-counted : (c : Joined-read_defined_element)
-    → CountingAt (goal.at.Joined-read_defined_element c).At-loop-i (c.loop-i.at + stride_of c.args.reader.form) (c.loop-i.i + 1) c.match-read_defined_element.count
+counted : (c : Joined-is_some)
+    → CountingAt (goal.at.Joined-is_some c).At-loop-i (c.loop-i.at + stride_of c.args.reader.form) (c.loop-i.i + 1) c.if-is_some.count
 counted c grid m q =
     let t = c.loop-i-test.true in
     let b = c.requires.2 in
     let k = c.loop-i.invariant.2 grid m q in
-    let e = is_element (goal.at.Joined-read_defined_element c).After-read_defined_element grid m q in
-    elim c.match-read_defined_element.branch [
-      | in-Absent w ↦ counting_same (counting_absent k t (omega arith) _ e w.in-Absent.is) _ w.count-is
-      | in-Chunk w ↦ counting_same (counting_chunk k t (omega arith) _ e _ w.in-Chunk.is) _ w.count-is
+    let e = is_element (goal.at.Joined-is_some c).After-read_defined_element grid m q in
+    let v = c.in_ok-read_defined_element.was in
+    elim c.if-is_some.branch [
+      | then-is_some w ↦ counting_same (counting_some k t (omega arith) _ e _ v (sym c.is_some.ensures ∙ w.if-is_some.true)) _ w.count-is
+      | else-is_some w ↦ counting_same (counting_none k t (omega arith) _ e _ v (sym c.is_some.ensures ∙ w.if-is_some.false)) _ w.count-is
     ]
 
 pub overflow_add-at-in-loop-i : goal.overflow_add-at-in-loop-i
-overflow_add-at-in-loop-i c = omega (arith, c.stride-stride.ensures, inside (goal.at.overflow_add-at-in-loop-i c).Joined-read_defined_element)
+overflow_add-at-in-loop-i c = omega (arith, c.stride-stride.ensures, inside (goal.at.overflow_add-at-in-loop-i c).Joined-is_some)
 
 pub overflow_add-i-in-loop-i : goal.overflow_add-i-in-loop-i
 overflow_add-i-in-loop-i c = omega (arith, c.loop-i-test.true)
@@ -158,7 +161,7 @@ loop-i-smaller c = omega (arith, c.loop-i-test.true)
 
 pub loop-i-preserved : goal.loop-i-preserved
 loop-i-preserved c =
-    let m = (goal.at.loop-i-preserved c).Joined-read_defined_element in
+    let m = (goal.at.loop-i-preserved c).Joined-is_some in
     rw c.stride-stride.ensures (inside m, (counted m _ _ c.requires.0.reads).few, counted m)
 
 pub returns : goal.returns

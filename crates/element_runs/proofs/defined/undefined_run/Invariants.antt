@@ -1,10 +1,6 @@
 -- `element_runs::defined::undefined_run` meets its contract. Assumes nothing.
-use Prim.Native.Nat.{◌-◌}
 use Rattle.element_runs.proofs.DefinedRuns.{Stepping}
 use Rattle.element_runs.proofs.defined.undefined_run.Given as goal
 
 abbrev pub invariant-loop-i : goal.invariant-loop-i
 invariant-loop-i l = Stepping l.file l.stride l.width l.pos l.n l.at l.i
-
-abbrev pub decreases-loop-i : goal.decreases-loop-i
-decreases-loop-i l = l.n - l.i

@@ -6,7 +6,6 @@ use native.Mathlib.Omega.{arith}
 use lib.ListN.{length}
 use Rattle.element_form.specs.Form.{filtered, size_bytes}
 use Rattle.element_form.proofs.Forms.{filtered_room}
-use Rattle.elements.specs.declared.Found.TheVariants.{Refused}
 use Rattle.elements.specs.Values.{found_of}
 use Rattle.elements.proofs.Sized.{entry_plain, entry_wide, entry_filtered}
 use Rattle.elements.proofs.read.read_entry.Goals.{Else-not-is_filtered, Else-width-gt8}
@@ -25,7 +24,7 @@ size_bytes-width-requires c = (c.requires.0, is_filtered (goal.at.size_bytes-wid
 pub returns-then-width-gt8 : goal.returns-then-width-gt8
 unfolding found_of
 returns-then-width-gt8 c = λ grid n corner e.
-    ap Refused c.plain.ensures ∙ ap found_of (entry_wide _ _ corner (is_filtered (goal.at.returns-then-width-gt8 c).Else-not-is_filtered) _ c.size_bytes-width.ensures c.if-width-gt8.true)
+    ap found_of (entry_wide _ _ corner (is_filtered (goal.at.returns-then-width-gt8 c).Else-not-is_filtered) _ c.size_bytes-width.ensures c.if-width-gt8.true)
 
 room : (c : Else-width-gt8)
     → (c.args.reader.form.offset_size + c.size_bytes-width.result + 4 ≡ c.args.reader.form.element_size)

@@ -16,10 +16,8 @@ overflow_mul-left c = omega (arith, before c)
 pub overflow_sub-left : goal.overflow_sub-left
 overflow_sub-left c = omega (arith, before (goal.at.overflow_sub-left c).After-page_elements-page)
 
-pub returns-then-page-left : goal.returns-then-page-left
-unfolding page_entries
-returns-then-page-left c = let e = c.page_elements-page.ensures in (rw (sym e.0) (omega arith), e.2)
-
 pub returns : goal.returns
 unfolding page_entries
-returns c = let e = c.page_elements-page.ensures in (rw (sym e.0) (omega arith), omega arith)
+returns c =
+    let e = c.page_elements-page.ensures in
+    (rw (sym e.0) c.min.ensures, omega (arith, c.min.ensures, e.2))

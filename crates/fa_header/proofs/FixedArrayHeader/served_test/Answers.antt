@@ -8,6 +8,6 @@ pub returns-then-is_served : goal.returns-then-is_served
 unfolding fixed_served_test refuse
 returns-then-is_served c = rw (sym c.is_served.ensures ∙ c.if-is_served.true) refl
 
-pub returns : goal.returns
+pub returns-else-is_served : goal.returns-else-is_served
 unfolding fixed_served_test refuse
-returns c = rw (c.plain.ensures, sym c.is_served.ensures ∙ c.if-is_served.false) refl
+returns-else-is_served c = rw (sym c.is_served.ensures ∙ c.if-is_served.false) refl

@@ -1,11 +1,7 @@
 -- `fa_index::count::count_pages` meets its contract: what is counted, and the walk from page p on, are the whole
--- (`Counting`). The measure is the pages that are left. Assumes nothing.
-use Prim.Native.Nat.{◌-◌}
+-- (`Counting`). Assumes nothing.
 use Rattle.fa_index.proofs.Counting.{InPages}
 use Rattle.fa_index.proofs.count.count_pages.Given as goal
 
 abbrev pub invariant-pages : goal.invariant-pages
-invariant-pages l = InPages (record { file = l.file; array = l.array; reader = l.reader; chunk = l.chunk; bound = l.bound; down = l.down; pages = l.pages; page = l.page }) l.refused l.total l.ahead l.p
-
-abbrev pub decreases-pages : goal.decreases-pages
-decreases-pages l = l.pages - l.p
+invariant-pages l = InPages (record { file = l.file; array = l.array; reader = l.reader; chunk = l.chunk; bound = l.bound; down = l.down; pages = l.pages; page = l.page }) l.total l.ahead l.p

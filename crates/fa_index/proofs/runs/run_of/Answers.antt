@@ -4,7 +4,7 @@ use mathlib.Core.Path.{◌≡◌, sym, ◌∙◌}
 use mathlib.Core.Bool.{true, false}
 use native.Mathlib.Omega.{arith}
 use lib.ListN.{length}
-use Rattle.refusal.specs.declared.Checked.TheVariants.{Passed}
+use Rattle.std.specs.Prelude.{Ok}
 use Rattle.fa_geometry.specs.Layout.{is_paged}
 use Rattle.fa_geometry.proofs.Pages.{slot_page}
 use Rattle.fa_blocks.specs.FixedArray.{never_stored}
@@ -81,7 +81,7 @@ pub page_position-requires : goal.page_position-requires
 page_position-requires c = rw c.page_elements-page.ensures.0 (its_page (goal.at.page_position-requires c).After-page_entries)
 
 -- it has passed its test: the element lies in the file
-passed : (c : Else-not-page_set) → fixed_page_test (fixed_of c.args.file.now c.args.array) (page_of c.args.array.header c.args.slot) ≡ Passed
+passed : (c : Else-not-page_set) → fixed_page_test (fixed_of c.args.file.now c.args.array) (page_of c.args.array.header c.args.slot) ≡ Ok tt
 passed c =
     let at = goal.at.Else-not-page_set c in
     page_tested _ _ _ c.requires (stored at.Else-never_stored) (paged at.Else-not-is_paged) (set_is at.After-page_set ∙ c.if-not-page_set.false)

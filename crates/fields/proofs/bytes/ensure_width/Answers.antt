@@ -6,5 +6,5 @@ use Rattle.fields.proofs.bytes.ensure_width.Goals as goal
 pub returns-then-is_width : goal.returns-then-is_width
 returns-then-is_width c = width_passed _ _ (sym c.is_width.ensures ∙ c.if-is_width.true)
 
-pub returns : goal.returns
-returns c = width_refused _ _ (sym c.is_width.ensures ∙ c.if-is_width.false)
+pub returns-else-is_width : goal.returns-else-is_width
+returns-else-is_width c = width_refused _ _ (sym c.is_width.ensures ∙ c.if-is_width.false)

@@ -22,7 +22,7 @@ pub loop-i-preserved : goal.loop-i-preserved
 loop-i-preserved c =
     let l = c.loop-i in
     let g = grown c.args.s.now c.args.pos c.args.width l.i l.v c.requires.0 c.loop-i-test.true l.invariant.0 l.invariant.1 l.invariant.2 (omega (arith, c.shared_slice_known-in-loop-i-1.given (c.args.pos + (l.i - 1)))) in
-    rw c.wide.ensures.0 (omega arith, g.0, g.1)
+    rw c.from.ensures (omega arith, g.0, g.1)
 
 pub returns : goal.returns
 returns c =

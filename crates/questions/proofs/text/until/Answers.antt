@@ -1,4 +1,5 @@
 -- `questions::text::until` meets its contract: what `position` finds is where the first b stands.
+use Rattle.std.specs.Prelude.{None, Some}
 use Rattle.std.proofs.Common.{◌≡◌, ◌≢◌, ◌∙◌, sym, None, Some, length, drop, rules, tests, arith}
 use Rattle.std.proofs.lemmas.Iterator.{IsFirst-from_position, YieldsList-from_slice}
 use Rattle.std.proofs.lemmas.List.{take_all, take_rest}

@@ -2,7 +2,7 @@
 use mathlib.Core.Path.{◌≡◌, sym, ap, ◌∙◌}
 use mathlib.Core.Bool.{false}
 use native.Mathlib.Omega.{arith}
-use Rattle.refusal.specs.declared.Checked.TheVariants.{Passed}
+use Rattle.std.proofs.Common.{rules, Ok, Err}
 use Rattle.refusal.specs.Outcome.{also}
 use Rattle.refusal.specs.Values.{counted_of}
 use Rattle.refusal.proofs.Tests.{then_inv}
@@ -16,7 +16,7 @@ use Rattle.span_walk.specs.Spans.{span_of, spanned_test}
 use Rattle.span_walk.specs.Walk.{supers_from, index_spans}
 use Rattle.span_walk.proofs.Turns.{index_none, index_defined}
 use Rattle.span_count.proofs.Counting.{counted_more, refused_more, supers_bounded}
-use Rattle.span_count.proofs.count.count_index.Goals.{Else-index_undefined, In-Passed}
+use Rattle.span_count.proofs.count.count_index.Goals.{Else-index_undefined, In_ok-test_index}
 use Rattle.span_count.proofs.count.count_index.Goals as goal
 
 pub returns-then-index_undefined : goal.returns-then-index_undefined
@@ -28,31 +28,33 @@ there : (c : Else-index_undefined) → let a = array_of c.args.file.now c.args.a
 there c = sym c.index_undefined.ensures ∙ c.if-index_undefined.false
 
 -- .. and it has passed its tests
-passed : (c : In-Passed) → let a = array_of c.args.file.now c.args.array in
-    (spanned_test a index_block ≡ Passed) × (index_spans a ≡ also (span_of a index_block) (supers_from a (super_blocks a.parameters) 0))
+passed : (c : In_ok-test_index) → let a = array_of c.args.file.now c.args.array in
+    (spanned_test a index_block ≡ Ok tt) × (index_spans a ≡ also (span_of a index_block) (supers_from a (super_blocks a.parameters) 0))
 passed c =
-    let p = sym c.test_index.ensures ∙ c.in-Passed.is in
-    (p, index_defined _ (there (goal.at.In-Passed c).Else-index_undefined) ∙ yields_passed _ _ p)
+    let p = sym c.test_index.ensures ∙ c.in_ok-test_index.was in
+    (p, index_defined _ (there (goal.at.In_ok-test_index c).Else-index_undefined) ∙ yields_passed _ _ p)
 
 pub count_supers-requires : goal.count_supers-requires
 unfolding spanned_test
 count_supers-requires c =
     let p = c.requires in
-    index_in_file _ _ p.0.served p.1 (then_inv _ _ (passed (goal.at.count_supers-requires c).In-Passed).0).1
+    index_in_file _ _ p.0.served p.1 (then_inv _ _ (passed (goal.at.count_supers-requires c).In_ok-test_index).0).1
 
 pub overflow_add-result : goal.overflow_add-result
 overflow_add-result c =
-    omega (arith, supers_bounded (array_of c.args.file.now c.args.array) _ c.requires.0.served (sym c.in-Count.is ∙ c.count_supers.ensures))
+    omega (arith, supers_bounded (array_of c.args.file.now c.args.array) _ c.requires.0.served (sym c.in_ok-count_supers.was ∙ c.count_supers.ensures))
 
-pub returns-in-Count : goal.returns-in-Count
-returns-in-Count c =
-    counted_more _ _ _ (sym c.in-Count.is ∙ c.count_supers.ensures) ∙ ap counted_of (sym (passed (goal.at.returns-in-Count c).In-Passed).1)
-
-pub returns-in-Refused-count_supers : goal.returns-in-Refused-count_supers
-returns-in-Refused-count_supers c =
-    refused_more _ _ _ (sym c.in-Refused-count_supers.is ∙ c.count_supers.ensures) ∙ ap counted_of (sym (passed (goal.at.returns-in-Refused-count_supers c).In-Passed).1)
-
-pub returns-in-Refused : goal.returns-in-Refused
+pub returns-in_err-test_index : goal.returns-in_err-test_index
 unfolding counted_of
-returns-in-Refused c =
-    ap counted_of (sym (index_defined _ (there (goal.at.returns-in-Refused c).Else-index_undefined) ∙ yields_refused _ _ _ (sym c.test_index.ensures ∙ c.in-Refused.is)))
+returns-in_err-test_index c =
+    let z : c.from_residual.result ≡ Err c.in_err-test_index.field-0.0 = search rules in
+    z ∙ ap counted_of (sym (index_defined _ (there (goal.at.returns-in_err-test_index c).Else-index_undefined) ∙ yields_refused _ _ _ (sym c.test_index.ensures ∙ c.in_err-test_index.was)))
+
+pub returns-in_err-count_supers : goal.returns-in_err-count_supers
+returns-in_err-count_supers c =
+    let z : c.from_residual-in_err-count_supers.result ≡ Err c.in_err-count_supers.field-0.0 = search rules in
+    z ∙ refused_more _ _ _ (sym c.in_err-count_supers.was ∙ c.count_supers.ensures) ∙ ap counted_of (sym (passed (goal.at.returns-in_err-count_supers c).In_ok-test_index).1)
+
+pub returns : goal.returns
+returns c =
+    counted_more _ _ _ (sym c.in_ok-count_supers.was ∙ c.count_supers.ensures) ∙ ap counted_of (sym (passed (goal.at.returns c).In_ok-test_index).1)

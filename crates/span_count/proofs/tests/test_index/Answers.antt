@@ -1,7 +1,13 @@
 -- `span_count::tests::test_index` meets its contract. Assumes nothing.
-use mathlib.Core.Path.{◌∙◌}
-use Rattle.span_count.proofs.SpanTests.{spanned_is}
+use mathlib.Core.Path.{◌≡◌, sym, ◌∙◌}
+use Rattle.std.proofs.Common.{rules, Err}
+use Rattle.span_count.proofs.SpanTests.{spanned_passed, spanned_refused}
 use Rattle.span_count.proofs.tests.test_index.Goals as goal
 
+pub returns-in_err-test_span : goal.returns-in_err-test_span
+returns-in_err-test_span c =
+    let e : c.from_residual.result ≡ Err c.in_err-test_span.field-0.0 = search rules in
+    e ∙ spanned_refused _ _ _ _ (c.index_span.ensures _) (sym c.in_err-test_span.was ∙ c.test_span.ensures)
+
 pub returns : goal.returns
-returns c = c.test_span.ensures ∙ spanned_is _ _ _ _ (c.index_span.ensures _) c.test_index_block.ensures
+returns c = c.test_index_block.ensures ∙ spanned_passed _ _ _ (c.index_span.ensures _) (sym c.in_ok-test_span.was ∙ c.test_span.ensures)

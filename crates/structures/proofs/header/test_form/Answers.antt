@@ -1,21 +1,18 @@
 -- `structures::header::test_form` meets its contract. Assumes nothing.
-use mathlib.Core.Path.{refl, sym, ◌∙◌}
 use borrow.Author.Tests.{eq-eqb, ne_eqb}
-use Rattle.refusal.specs.Refusals.{refuse}
-use Rattle.refusal.proofs.Tests.{then_second, then_first}
+use Rattle.std.proofs.Common.{rules}
+use Rattle.refusal.specs.Refusals.{refuse, ◌then◌}
 use Rattle.structures.specs.Header.{form_test}
 use Rattle.structures.proofs.header.test_form.Goals as goal
 
-pub returns-in_default : goal.returns-in_default
-unfolding form_test
-returns-in_default c = c.in_default.is ∙ then_first _ _ (sym c.in_default.is ∙ c.test_signature-signed.ensures)
+pub returns-in_err-test_signature : goal.returns-in_err-test_signature
+unfolding form_test ◌then◌
+returns-in_err-test_signature c = search rules
 
 pub returns-then-version-eq0 : goal.returns-then-version-eq0
-unfolding form_test refuse
-returns-then-version-eq0 c =
-    rw (eq-eqb _ 0 c.if-version-eq0.true) refl ∙ then_second _ _ (sym c.in-Passed.is ∙ c.test_signature-signed.ensures)
+unfolding form_test refuse ◌then◌
+returns-then-version-eq0 c = let e = eq-eqb _ 0 c.if-version-eq0.true in search rules
 
-pub returns : goal.returns
-unfolding form_test refuse
-returns c =
-    rw (ne_eqb _ 0 c.if-version-eq0.false) refl ∙ then_second _ _ (sym c.in-Passed.is ∙ c.test_signature-signed.ensures)
+pub returns-else-version-eq0 : goal.returns-else-version-eq0
+unfolding form_test refuse ◌then◌
+returns-else-version-eq0 c = let e = ne_eqb _ 0 c.if-version-eq0.false in search rules

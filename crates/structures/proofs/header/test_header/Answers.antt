@@ -3,50 +3,49 @@ use Prim.Native.Nat.{ℕ, ◌+◌, ◌-◌, ◌≤◌}
 use mathlib.Core.Path.{◌≡◌, sym, ap, ◌∙◌}
 use native.Mathlib.Omega.{arith}
 use lib.ListN.{length, take, drop}
-use Rattle.refusal.specs.declared.Checked.TheVariants.{Passed}
-use Rattle.refusal.proofs.Tests.{then_second, then_first}
+use Rattle.std.proofs.Common.{rules}
+use Rattle.std.specs.Prelude.{Ok}
+use Rattle.refusal.specs.Refusals.{◌then◌}
+use Rattle.refusal.proofs.Tests.{then_second}
 use Rattle.fields.specs.Fields.{in_file}
 use Rattle.fields.proofs.Fields.{inside}
 use Rattle.checksum.specs.Lookup3.{lookup3}
 use Rattle.checksum.specs.Trailing.{trailing_test}
 use Rattle.structures.specs.Header.{signed_header_test}
-use Rattle.structures.proofs.header.test_header.Goals.{In-Passed}
+use Rattle.structures.proofs.header.test_header.Goals.{In_ok-ensure_len}
 use Rattle.structures.proofs.header.test_header.Goals as goal
 
-pub returns-in_default : goal.returns-in_default
-unfolding signed_header_test
-returns-in_default c = c.in_default.is ∙ then_first _ _ (sym c.in_default.is ∙ c.ensure_len-inside.ensures)
+pub returns-in_err-ensure_len : goal.returns-in_err-ensure_len
+unfolding signed_header_test ◌then◌
+returns-in_err-ensure_len c = search rules
 
 -- past the first test, the header lies in the file
-stands : (c : In-Passed)
+stands : (c : In_ok-ensure_len)
     → let a = c.args in
-    Passed ≡ in_file a.file.now a.address a.size
-stands c = sym c.in-Passed.is ∙ c.ensure_len-inside.ensures
+    Ok tt ≡ in_file a.file.now a.address a.size
+stands c = sym c.in_ok-ensure_len.was ∙ c.ensure_len.ensures
 
-room : (c : In-Passed)
+room : (c : In_ok-ensure_len)
     → let a = c.args in
     a.address + a.size ≤ length a.file.now
 room c = inside _ _ _ (stands c)
 
-pub test_form-form-requires : goal.test_form-form-requires
-test_form-form-requires c = omega (arith, room (goal.at.test_form-form-requires c).In-Passed)
+pub test_form-requires : goal.test_form-requires
+test_form-requires c = omega (arith, room (goal.at.test_form-requires c).In_ok-ensure_len)
 
-pub returns-in_default-form : goal.returns-in_default-form
-unfolding signed_header_test
-returns-in_default-form c =
-    c.in_default-form.is ∙ then_first _ _ (sym c.in_default-form.is ∙ c.test_form-form.ensures) ∙ then_second _ _ (stands (goal.at.returns-in_default-form c).In-Passed)
+pub returns-in_err-test_form : goal.returns-in_err-test_form
+unfolding signed_header_test ◌then◌
+returns-in_err-test_form c = search rules
 
-pub returns-in_default-sizes : goal.returns-in_default-sizes
-unfolding signed_header_test
-returns-in_default-sizes c =
-    c.in_default-sizes.is ∙ then_first _ _ (sym c.in_default-sizes.is ∙ c.test_sizes-sizes.ensures)
-    ∙ then_second _ _ (sym c.in-Passed-form.is ∙ c.test_form-form.ensures) ∙ then_second _ _ (stands (goal.at.returns-in_default-sizes c).In-Passed)
+pub returns-in_err-test_sizes : goal.returns-in_err-test_sizes
+unfolding signed_header_test ◌then◌
+returns-in_err-test_sizes c = search rules
 
 pub overflow_add-end : goal.overflow_add-end
-overflow_add-end c = omega (arith, room (goal.at.overflow_add-end c).In-Passed)
+overflow_add-end c = omega (arith, room (goal.at.overflow_add-end c).In_ok-ensure_len)
 
 pub slice_bounds-verify_trailing-end : goal.slice_bounds-verify_trailing-end
-slice_bounds-verify_trailing-end c = omega (arith, room (goal.at.slice_bounds-verify_trailing-end c).In-Passed)
+slice_bounds-verify_trailing-end c = omega (arith, room (goal.at.slice_bounds-verify_trailing-end c).In_ok-ensure_len)
 
 pub returns : goal.returns
 unfolding signed_header_test
@@ -54,5 +53,5 @@ returns c =
     let a = c.args in
     let e : a.address + a.size - a.address ≡ a.size = omega arith in
     c.verify_trailing.ensures ∙ ap (λ (k : ℕ). trailing_test lookup3 (take k (drop a.address a.file.now))) e
-    ∙ then_second _ _ (sym c.in-Passed-sizes.is ∙ c.test_sizes-sizes.ensures)
-    ∙ then_second _ _ (sym c.in-Passed-form.is ∙ c.test_form-form.ensures) ∙ then_second _ _ (stands (goal.at.returns c).In-Passed)
+    ∙ then_second _ _ (sym c.in_ok-test_sizes.was ∙ c.test_sizes.ensures)
+    ∙ then_second _ _ (sym c.in_ok-test_form.was ∙ c.test_form.ensures) ∙ then_second _ _ (stands (goal.at.returns c).In_ok-ensure_len)

@@ -1,23 +1,35 @@
 -- `walked_index::call::list_at` meets its contract. Assumes nothing.
+use mathlib.Core.Path.{◌≡◌, sym, ◌∙◌}
+use Rattle.std.proofs.Common.{rules}
+use Rattle.std.specs.Prelude.{Err}
+use Rattle.refusal.proofs.Outcomes.{value_is}
 use Rattle.chunk_grid.specs.Grid.{given as grid_as}
 use Rattle.chunk_grid.specs.Values.{grid_of}
 use Rattle.calls.specs.Call.{grid_given}
-use Rattle.walked_index.proofs.Calls.{call_inv, call_refused, listed_refused, listed_passed}
+use Rattle.walked_index.proofs.Calls.{grid_read, header_refused, grid_refused, listed_refused, listed_passed}
 use Rattle.walked_index.proofs.call.list_at.Goals as goal
 
-pub returns-in-Ok : goal.returns-in-Ok
-unfolding grid_given grid_as grid_of
-returns-in-Ok g c =
-    let i = g.I.WalkedIndex in
-    let b = c.read_grid-built.ensures in
-    let k = call_inv _ _ _ c.read_grid-built.result b.0 b.1 c.read_call.ensures c.in-Ok.is in
-    listed_passed i.form i.count i.entry i.walk i.located c.args.file.now c.args.numbers.element_bytes _ _ _ k.0 k.2 k.3 c.args.list.now _ _
-    c.list_chunks.ensures
-
-pub returns-in-Err : goal.returns-in-Err
+pub returns-in_err-index : goal.returns-in_err-index
 unfolding grid_given grid_as
-returns-in-Err g c =
+returns-in_err-index g c =
     let i = g.I.WalkedIndex in
-    let b = c.read_grid-built.ensures in
-    listed_refused i.form i.count i.entry i.walk i.located c.args.file.now c.args.numbers.element_bytes _ _ _ c.args.list.now _
-    (call_refused _ _ _ c.read_grid-built.result b.0 b.1 c.read_call.ensures c.in-Err.is)
+    let r : c.from_residual.result ≡ Err c.in_err-index.field-0.0 = search rules in
+    listed_refused i.form i.count i.entry i.walk i.located c.args.file.now c.args.numbers.element_bytes _ _ _ c.args.list.now _ _ r
+    (header_refused _ _ _ c.read_index.ensures c.in_err-index.was)
+
+pub returns-in_err-grid : goal.returns-in_err-grid
+unfolding grid_given grid_as
+returns-in_err-grid g c =
+    let i = g.I.WalkedIndex in
+    let r : c.from_residual-in_err-grid.result ≡ Err c.in_err-grid.field-0.0 = search rules in
+    listed_refused i.form i.count i.entry i.walk i.located c.args.file.now c.args.numbers.element_bytes _ _ _ c.args.list.now _ _ r
+    (grid_refused _ _ _ c.read_index.ensures c.in_ok-index.was c.in_err-grid.was c.read_grid.ensures)
+
+pub returns : goal.returns
+unfolding grid_given grid_as grid_of
+returns g c =
+    let i = g.I.WalkedIndex in
+    let h = value_is _ _ _ (sym c.in_ok-index.was ∙ c.read_index.ensures) in
+    let k = grid_read _ c.in_ok-grid.was c.read_grid.ensures in
+    listed_passed i.form i.count i.entry i.walk i.located c.args.file.now c.args.numbers.element_bytes _ _ _ (sym h.0) h.1 k.1 c.args.list.now _ _
+    c.list_chunks.ensures

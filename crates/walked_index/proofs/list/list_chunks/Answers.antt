@@ -3,7 +3,8 @@ use Prim.Native.Nat.{ℕ, ◌<◌, ◌≤◌}
 use mathlib.Core.Path.{◌≡◌, refl, sym, ap, ◌∙◌}
 use native.Mathlib.Omega.{arith}
 use lib.ListN.{length, get_or}
-use Rattle.refusal.specs.declared.Checked.TheVariants.{Passed}
+use Rattle.std.proofs.Common.{rules}
+use Rattle.std.specs.Prelude.{Err, Ok}
 use Rattle.refusal.specs.Refusals.{largest64}
 use Rattle.refusal.specs.Values.{counted_of}
 use Rattle.chunk_grid.specs.Grid.{grid_test, given as grid_given}
@@ -16,7 +17,7 @@ use Rattle.walked_index.specs.Walked.{elements_read}
 use Rattle.walked_index.proofs.Walked.{Laws}
 use Rattle.walked_index.proofs.Lists.{list_refused, walk-read, list-exact, refused_count}
 use Rattle.walked_index.proofs.list.list_chunks.Given as given
-use Rattle.walked_index.proofs.list.list_chunks.Goals.{After-new-reader, In_default, Start}
+use Rattle.walked_index.proofs.list.list_chunks.Goals.{After-new-reader, In_ok-test, Start}
 use Rattle.walked_index.proofs.list.list_chunks.Goals as goal
 
 -- the elements that are listed
@@ -26,17 +27,18 @@ elements g c =
     let a = c.args in
     elements_read a.file.now (i.form a.index) (grid_of a.grid) a.element_bytes (i.count a.index)
 
-pub returns-in-Refused : goal.returns-in-Refused
+pub returns-in_err-test : goal.returns-in_err-test
 unfolding grid_of grid_given
-returns-in-Refused g c =
-    let p = list_refused (g.I.WalkedIndex.walk c.args.index c.args.file.now) (elements g (goal.at.returns-in-Refused g c).Start) _ _ _ (sym c.test.ensures ∙ c.in-Refused.is) in
-    (p.0, p.1, λ n h. absurd (refused_count _ n h))
+returns-in_err-test g c =
+    let r : c.from_residual.result ≡ Err c.in_err-test.field-0.0 = search rules in
+    let p = list_refused (g.I.WalkedIndex.walk c.args.index c.args.file.now) (elements g (goal.at.returns-in_err-test g c).Start) _ _ _ (sym c.test.ensures ∙ c.in_err-test.was) in
+    (r ∙ p.0, p.1, λ n h. absurd (refused_count _ n (sym r ∙ h)))
 
-passed : (g : given.Over) (c : In_default g) → grid_test (grid_of c.args.grid) ≡ Passed
-passed g c = sym c.test.ensures ∙ c.in_default.is
+passed : (g : given.Over) (c : In_ok-test g) → grid_test (grid_of c.args.grid) ≡ Ok tt
+passed g c = sym c.test.ensures ∙ c.in_ok-test.was
 
 pub numbering-numbering-requires : goal.numbering-numbering-requires
-numbering-numbering-requires g c = (passed g (goal.at.numbering-numbering-requires g c).In_default, omega arith, omega arith, omega arith)
+numbering-numbering-requires g c = (passed g (goal.at.numbering-numbering-requires g c).In_ok-test, omega arith, omega arith, omega arith)
 
 pub new-reader-requires : goal.new-reader-requires
 new-reader-requires g c = (_, _, c.numbering-numbering.ensures.numbers.0)
@@ -72,7 +74,7 @@ returns g c =
     let r = reads g n in
     let e = c.list_walk.ensures _ _ r in
     let w = walk-read (i.walk a.index a.file.now) a.file.now _ _ c.new-reader.result (grid_of a.grid) a.element_bytes (length a.list.now)
-    (formed g n) (counted g n) r.numbered.ranked (passed g at.In_default) in
+    (formed g n) (counted g n) r.numbered.ranked (passed g at.In_ok-test) in
     -- the file holds bytes, and the count is a 64-bit number
     let bytes : (j : ℕ) → get_or a.file.now j 0 < 256 = λ j. omega (arith, c.type_inv.file j) in
     let fits : i.count a.index ≤ largest64 = omega (arith, c.slot_count-count.ensures) in

@@ -4,7 +4,8 @@ use mathlib.Core.Path.{◌≡◌, sym, ◌∙◌}
 use mathlib.Core.List.{List}
 use native.Mathlib.Omega.{arith}
 use lib.ListN.{length}
-use Rattle.refusal.specs.Outcome.{accepted}
+use Rattle.std.proofs.Common.{rules}
+use Rattle.std.specs.Prelude.{Err, Ok}
 use Rattle.refusal.proofs.Outcomes.{room_refused, room_small, room_fits}
 use Rattle.refusal.proofs.Counts.{counted_inv, refused_inv}
 use Rattle.chunk_grid.specs.Grid.{Grid}
@@ -16,22 +17,22 @@ use Rattle.records.proofs.Contents.{answer_refused, answer_accepted}
 use Rattle.walked_index.specs.Walked.{Walked}
 use Rattle.walked_index.proofs.Walked.{Laws, walked_fits}
 use Rattle.walked_index.proofs.list.list_walk.Given as given
-use Rattle.walked_index.proofs.list.list_walk.Goals.{In-Count}
+use Rattle.walked_index.proofs.list.list_walk.Goals.{In_ok-n}
 use Rattle.walked_index.proofs.list.list_walk.Goals as goal
 
-pub returns-in_default : goal.returns-in_default
-returns-in_default g c =
-    let t = c.in_default.is in
+pub returns-in_err-n : goal.returns-in_err-n
+returns-in_err-n g c =
+    let r : c.from_residual.result ≡ Err c.in_err-n.field-0.0 = search rules in
     λ grid m w.
-    let p = answer_refused _ _ _ (room_refused _ _ _ (refused_inv _ _ (sym t ∙ c.count_walk-counted.ensures grid m w))) in
-    (t ∙ p.0, p.1)
+    let p = answer_refused _ _ _ (room_refused _ _ _ (refused_inv _ _ (sym c.in_err-n.was ∙ c.count_walk.ensures grid m w))) in
+    (r ∙ p.0, p.1)
 
-found : (g : given.Over) (c : In-Count g) (grid : Grid) (m : ℕ)
+found : (g : given.Over) (c : In_ok-n g) (grid : Grid) (m : ℕ)
     → let a = c.args in
     Reads a.reader a.chunk.now a.bound.now a.down.now grid m
-    → (l : List Rec) × (g.I.WalkedIndex.walk a.index a.file.now (elements_of a.file.now a.reader grid m) ≡ accepted l)
-    × (c.in-Count.n ≡ length l)
-found g c grid m w = counted_inv _ _ (sym c.in-Count.is ∙ c.count_walk-counted.ensures grid m w)
+    → (l : List Rec) × (g.I.WalkedIndex.walk a.index a.file.now (elements_of a.file.now a.reader grid m) ≡ Ok l)
+    × (c.in_ok-n.n ≡ length l)
+found g c grid m w = counted_inv _ _ (sym c.in_ok-n.was ∙ c.count_walk.ensures grid m w)
 
 pub overflow_mul-room : goal.overflow_mul-room
 overflow_mul-room g c = omega (arith, reads_rank c.requires.0.reads)
@@ -42,13 +43,13 @@ overflow_add-room g c = omega (arith, reads_rank c.requires.0.reads)
 pub returns-then-room-n : goal.returns-then-room-n
 unfolding record_length
 returns-then-room-n g c =
-    λ grid m w. let f = found g (goal.at.returns-then-room-n g c).In-Count grid m w in answer_refused _ _ _ (room_small _ _ f.0 f.1 _ f.2 c.if-room-n.true)
+    λ grid m w. let f = found g (goal.at.returns-then-room-n g c).In_ok-n grid m w in answer_refused _ _ _ (room_small _ _ f.0 f.1 _ f.2 c.if-room-n.true)
 
 pub write_walk-requires : goal.write_walk-requires
 unfolding record_length
 write_walk-requires g c =
     let p = c.requires.0 in
-    let f = found g (goal.at.write_walk-requires g c).In-Count p.grid p.element_bytes p.reads in
+    let f = found g (goal.at.write_walk-requires g c).In_ok-n p.grid p.element_bytes p.reads in
     let a = c.args in
     let i = g.I.WalkedIndex in
     let m = g.met.I.WalkedIndex in
@@ -62,7 +63,7 @@ pub returns : goal.returns
 unfolding record_length
 returns g c =
     λ grid m w.
-    let f = found g (goal.at.returns g c).In-Count grid m w in
+    let f = found g (goal.at.returns g c).In_ok-n grid m w in
     answer_accepted _ _ f.0 (room_fits _ _ f.0 f.1 _ f.2 c.if-room-n.false ∙ f.1) _ f.2 _
     (c.write_walk.ensures f.0
     (record { by = record { formed = c.requires.0.formed; grid = grid; element_bytes = m; reads = w }; counted = c.requires.1; accepts = f.1 }))
