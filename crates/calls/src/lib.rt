@@ -15,7 +15,8 @@ use shapes::grid_from_bytes;
 pub const CHUNK_NAMES: u64 = 4;
 
 // The numbers that a call is given beside its bytes: the sizes of offsets and lengths, the address of the index's
-// header, the bytes of one element, the grid's order and rank, and whether there are maximum extents (0: none).
+// header, the bytes of one element, the grid's order and rank, and whether there are maximum extents (0: none). (As C
+// gives them; `read_grid` makes a grid of them.)
 #[derive(Clone, Copy)]
 pub struct CallNumbers {
     pub offset_size: u64,

@@ -14,9 +14,9 @@ ghost use Rattle.ea_lookup.specs.Call.{lookup_at};
 ghost use Rattle.fa_calls.specs.Call.{fixed_call_index, fixed_list_at, fixed_lookup_at};
 
 use calls::{CHUNK_NAMES, CallNumbers, counted_number, found_number};
-use ea_list::call::list_at;
-use ea_lookup::call::lookup_at;
+use ea_index::ArrayIndex;
 use fa_index::FixedIndex;
+use walked_index::call::{list_at, lookup_at};
 
 // HDF5's metadata checksum of some bytes.
 #[unsafe(no_mangle)]
@@ -64,7 +64,7 @@ pub extern "C" fn cellumaq_list(
         rank,
         has_maximum,
     };
-    let counted = list_at(file, numbers, chunk, present, maximum, list);
+    let counted = list_at::<ArrayIndex>(file, numbers, chunk, present, maximum, list);
     counted_number(which, counted, CHUNK_NAMES)
 }
 
@@ -108,7 +108,7 @@ pub extern "C" fn cellumaq_lookup(
         rank,
         has_maximum,
     };
-    let found = lookup_at(file, numbers, chunk, present, maximum, corner);
+    let found = lookup_at::<ArrayIndex>(file, numbers, chunk, present, maximum, corner);
     found_number(found, which)
 }
 
@@ -147,9 +147,7 @@ pub extern "C" fn cellumaq_fixed_list(
         rank,
         has_maximum,
     };
-    let listed = walked_index::call::list_at::<FixedIndex>(
-        file, numbers, chunk, present, maximum, list,
-    );
+    let listed = list_at::<FixedIndex>(file, numbers, chunk, present, maximum, list);
     counted_number(which, listed, CHUNK_NAMES)
 }
 
@@ -189,8 +187,6 @@ pub extern "C" fn cellumaq_fixed_lookup(
         rank,
         has_maximum,
     };
-    let chunk_found = walked_index::call::lookup_at::<FixedIndex>(
-        file, numbers, chunk, present, maximum, corner,
-    );
+    let chunk_found = lookup_at::<FixedIndex>(file, numbers, chunk, present, maximum, corner);
     found_number(chunk_found, which)
 }

@@ -41,21 +41,18 @@ fn digit(b: u8) -> u64
 // The number of the digits from `from` on, as far as 64 bits hold it. One byte parts two numbers.
 pub fn number(s: &[u8], from: usize) -> Item {
     let mut value = 0u64;
-    let mut at = from;
-    // `value` is the number of the digits between `from` and `at`.
-    while at < s.len() {
-        let b = s[at];
-        at += 1;
-        if b < b'0' {
-            break;
-        }
+    // `value` is the number of the digits between `from` and i.
+    for (i, &b) in s.iter().enumerate().skip(from) {
         let d = digit(b);
-        if value > (u64::MAX - d) / 10 {
-            break;
+        if b < b'0' || value > (u64::MAX - d) / 10 {
+            return Item { value, at: i + 1 };
         }
         value = value * 10 + d;
     }
-    Item { value, at }
+    Item {
+        value,
+        at: from.max(s.len()),
+    }
 }
 
 // A list of at most as many numbers as `out` has.

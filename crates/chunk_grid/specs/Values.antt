@@ -1,6 +1,7 @@
 -- What the code's values stand for.
 use Rattle.std.specs.Prelude.{Err, None, Ok, Option, Some}
-use Rattle.std.specs.Prelude.{ℕ, zero, suc, ◌≡◌, Bool, true, false, not, cond, List, ltb, take, drop}
+use Rattle.std.specs.Prelude.{ℕ, zero, suc, ◌≡◌, Bool, true, false, not, cond, List, [], ltb, take, drop}
+use Rattle.std.specs.Option.{is_some, unwrap_or}
 use Rattle.refusal.specs.declared.Refusal.TheVariants.{ChunkLength}
 use Rattle.refusal.specs.Refusals.{refuse, ◌then◌, Checked, Outcome}
 use Rattle.refusal.specs.Outcome.{◌yields◌}
@@ -12,8 +13,8 @@ use Rattle.chunk_grid.specs.Grid.{offsets_test, multiplier_test, product_test, g
 -- the grid that a value of the code describes: the first `rank` members of its arrays
 unfoldable pub grid_of : ChunkGrid → Grid
 grid_of k =
-    given k.rank (take k.rank k.chunk) (take k.rank k.present) k.has_maximum
-    (take k.rank k.maximum) k.order
+    given k.rank (take k.rank k.chunk) (take k.rank k.present) (is_some k.maximum)
+    (take k.rank (unwrap_or k.maximum [])) k.order
 
 -- the grid that an answer's value describes
 unfoldable pub grids : Outcome ChunkGrid → Outcome Grid

@@ -1,13 +1,17 @@
 #![tactic(auto)]
 // The chunk grid: which slot of a chunk index is which chunk's.
-ghost use Rattle.std.specs.Prelude.{◌≡◌, false, not, cond, ◌-◌, ◌<◌, ◌≤◌, length, take, drop, Ok};
+ghost use Rattle.std.specs.Prelude.{◌≡◌, ℕ, false, not, cond, ◌-◌, ◌<◌, ◌≤◌, length, take, drop, [], Ok, get_or};
+ghost use Rattle.std.specs.Option.{IfSome, is_some, unwrap_or, option_copied};
+ghost use Rattle.refusal.specs.Refusals.{largest64};
 ghost use Rattle.chunk_grid.specs.Grid.{pairwise, ceil_div, count_of, leading_in, to_front, multipliers, has_zero};
 ghost use Rattle.chunk_grid.specs.Grid.{is_unlimited_first, given};
 ghost use Rattle.chunk_grid.specs.Grid.{shapes_test, multiplier_test, product_test, grid_test};
 ghost use Rattle.chunk_grid.specs.Values.{grid_of, grids, built, dim_at, numbering_test, counts_test, Made};
-ghost use Rattle.chunk_grid.specs.Values.{GridNumbers, GridCounts, Extents};
 
+use numbering::Numbering;
 use refusal::Refusal;
+
+pub mod numbering;
 
 // How a chunk index numbers its slots: dimensions in their order, or the first unlimited one in front.
 #[derive(Clone, Copy)]
@@ -16,24 +20,14 @@ pub enum GridOrder {
     UnlimitedFirst,
 }
 
-// The shapes of a grid: the first `rank` members of each array. Where has_maximum is false there are no maximum
-// extents.
+// The shapes of a grid: the first `rank` members of each array.
 #[derive(Clone, Copy)]
 pub struct ChunkGrid {
     pub rank: u64,
     pub chunk: [u64; 32],
     pub present: [u64; 32],
-    pub has_maximum: bool,
-    pub maximum: [u64; 32],
+    pub maximum: Option<[u64; 32]>,
     pub order: GridOrder,
-}
-
-// What a grid's slots are numbered by, beside the lists of numbers that are lent: the dimension in front, and whether
-// any slot is numbered at all.
-#[derive(Clone, Copy)]
-pub struct Numbering {
-    pub rotated: u64,
-    pub numbers: bool,
 }
 
 impl ChunkGrid {
@@ -42,21 +36,20 @@ impl ChunkGrid {
         rank: u64,
         chunk: &[u64],
         present: &[u64],
-        has_maximum: bool,
-        maximum: &[u64],
+        maximum: Option<&[u64]>,
         order: GridOrder,
     ) -> Result<ChunkGrid, Refusal>
-        ensures { grids result ≡ built (given rank chunk.now present.now has_maximum maximum.now order) }
+        ensures { let m = option_copied maximum.entry in
+            grids result ≡ built (given rank chunk.now present.now (is_some m) (unwrap_or m []) order) }
     {
-        shapes_test(rank, chunk, present, has_maximum, maximum)?;
-        let limits = if has_maximum { maximum } else { present };
+        shapes_test(rank, chunk, present, maximum)?;
+        let limits = maximum.unwrap_or(present);
         numbering_test(limits, chunk, order)?;
         Ok(ChunkGrid {
             rank,
             chunk: padded(chunk),
             present: padded(present),
-            has_maximum,
-            maximum: padded(maximum),
+            maximum: maximum.map(padded),
             order,
         })
     }
@@ -69,50 +62,48 @@ impl ChunkGrid {
             return Err(Refusal::Rank);
         }
         let rank = self.rank as usize;
-        let chunk = self.chunk;
         let limits = self.limits();
-        let order = self.order;
-        numbering_test(&limits[..rank], &chunk[..rank], order)
+        numbering_test(&limits[..rank], &self.chunk[..rank], self.order)
     }
 
-    // What the grid's slots are numbered by: for each dimension its count, and how many chunks its present extent
-    // reaches into; and the multipliers, in the grid's order. The members behind these `rank` numbers are left as
-    // they were.
-    pub fn numbering(self, counts: &mut [u64], bound: &mut [u64], down: &mut [u64]) -> Numbering
-        requires { (grid_test (grid_of self) ≡ Ok tt)
-            × (32 ≤ length counts.old) × (32 ≤ length bound.old) × (32 ≤ length down.old) }
-        ensures numbers { GridNumbers self.rank result.rotated self.chunk down.new (grid_of self)
-            × GridCounts self.rank counts.new (grid_of self)
-            × Extents self.rank result.numbers bound.new (grid_of self) }
-        ensures kept { (drop self.rank counts.new ≡ drop self.rank counts.old)
-            × (drop self.rank bound.new ≡ drop self.rank bound.old)
-            × (drop self.rank down.new ≡ drop self.rank down.old) }
+    // What the slots of a grid that has passed its test are numbered by. (The test is apart: an answer of this size in
+    // a Result is copied once more.)
+    pub fn numbering<'a>(&'a self) -> Numbering<'a>
+        requires { grid_test (grid_of self.now) ≡ Ok tt }
+        ensures { result.grid.now ≡ self.now }
     {
         let rank = self.rank as usize;
-        let chunk = self.chunk;
-        let present = self.present;
         let limits = self.limits();
-        let order = self.order;
-        number(
+        let mut counts = [0u64; 32];
+        let mut bound = [0u64; 32];
+        let mut down = [0u64; 32];
+        let (rotated, numbers) = number(
             &mut counts[..rank],
             &mut bound[..rank],
             &mut down[..rank],
             &limits[..rank],
-            &present[..rank],
-            &chunk[..rank],
-            order,
-        )
+            &self.present[..rank],
+            &self.chunk[..rank],
+            self.order,
+        );
+        Numbering {
+            grid: self,
+            rotated,
+            numbers,
+            counts,
+            bound,
+            down,
+        }
     }
 
-    // The extents that the counts are taken from: the maximum, else the present ones.
+    // The extents that the counts are taken from: the maximum, else the present ones. (And what the type says of
+    // either, for one who has a reference.)
     fn limits(self) -> [u64; 32]
-        ensures { result ≡ cond self.has_maximum self.maximum self.present }
+        ensures { (result ≡ unwrap_or self.maximum self.present)
+            × IfSome self.maximum (λ l. length l ≡ 32)
+            × ((i : ℕ) → get_or self.present i 0 ≤ largest64) }
     {
-        if self.has_maximum {
-            self.maximum
-        } else {
-            self.present
-        }
+        self.maximum.unwrap_or(self.present)
     }
 }
 
@@ -128,27 +119,16 @@ fn count_of(extent: u64, length: u64) -> u64
     }
 }
 
-// Every dimension's chunk count.
-fn counts_of(counts: &mut [u64], limits: &[u64], chunk: &[u64])
-    requires { (length counts.old ≡ length chunk.now) × (length limits.now ≡ length chunk.now)
-        × (has_zero chunk.now ≡ false) }
-    ensures { counts.new ≡ pairwise count_of limits.now chunk.now }
-{
-    // The first i dimensions' counts are stored.
-    for i in 0..chunk.len() {
-        counts[i] = count_of(limits[i], chunk[i]);
-    }
-}
-
-// How many chunks every dimension's present extent reaches into.
-fn bounds_of(bound: &mut [u64], present: &[u64], chunk: &[u64])
-    requires { (length bound.old ≡ length chunk.now) × (length present.now ≡ length chunk.now)
-        × (has_zero chunk.now ≡ false) }
-    ensures { bound.new ≡ pairwise ceil_div present.now chunk.now }
+// A number for each dimension, made of its extent and the chunk's length there.
+fn pairwise_into<F: Fn(u64, u64) -> u64>(out: &mut [u64], extents: &[u64], chunk: &[u64], f: F)
+    requires { (length out.old ≡ length chunk.now) × (length extents.now ≡ length chunk.now)
+        × (has_zero chunk.now ≡ false) × ((a b : ℕ) → 0 < b → F.pre f a b) }
+    ensures { (g : ℕ → ℕ → ℕ) → ((a b r : ℕ) → 0 < b → F.post f a b r → r ≡ g a b)
+        → out.new ≡ pairwise g extents.now chunk.now }
 {
     // The first i dimensions' numbers are stored.
     for i in 0..chunk.len() {
-        bound[i] = present[i].div_ceil(chunk[i]);
+        out[i] = f(extents[i], chunk[i]);
     }
 }
 
@@ -227,7 +207,8 @@ fn product_test(counts: &[u64]) -> Result<(), Refusal>
     Ok(())
 }
 
-// Makes every number of a grid whose shapes have one rank and that passes its tests.
+// Makes every number of a grid whose shapes have one rank and that passes its tests. Answers the dimension in front,
+// and whether any slot is numbered at all.
 fn number(
     counts: &mut [u64],
     bound: &mut [u64],
@@ -236,22 +217,19 @@ fn number(
     present: &[u64],
     chunk: &[u64],
     order: GridOrder,
-) -> Numbering
+) -> (u64, bool)
     requires { (length counts.old ≡ length chunk.now) × (length bound.old ≡ length chunk.now)
         × (length down.old ≡ length chunk.now) × (length limits.now ≡ length chunk.now)
         × (length present.now ≡ length chunk.now)
         × (numbering_test (is_unlimited_first order) limits.now chunk.now ≡ Ok tt) }
     ensures { Made (is_unlimited_first order) limits.now present.now chunk.now
-        result.rotated result.numbers counts.new bound.new down.new }
+        result.0 result.1 counts.new bound.new down.new }
 {
-    counts_of(counts, limits, chunk);
-    bounds_of(bound, present, chunk);
+    pairwise_into(counts, limits, chunk, count_of);
+    pairwise_into(bound, present, chunk, u64::div_ceil);
     let rotated = leading(order, counts);
     let numbers = multipliers_of(down, counts, rotated);
-    Numbering {
-        rotated: rotated as u64,
-        numbers,
-    }
+    (rotated as u64, numbers)
 }
 
 // The dimension at place i of the grid's order: dimension `rotated` is in front, those before it are one place later.
@@ -269,12 +247,10 @@ fn shapes_test(
     rank: u64,
     chunk: &[u64],
     present: &[u64],
-    has_maximum: bool,
-    maximum: &[u64],
+    maximum: Option<&[u64]>,
 ) -> Result<(), Refusal>
-    ensures { (o : GridOrder)
-        → result ≡ shapes_test (given rank chunk.now present.now has_maximum
-        maximum.now o) }
+    ensures { (o : GridOrder) → let m = option_copied maximum.entry in
+        result ≡ shapes_test (given rank chunk.now present.now (is_some m) (unwrap_or m []) o) }
 {
     if 32 < rank {
         return Err(Refusal::Rank);
@@ -285,7 +261,7 @@ fn shapes_test(
     if present.len() as u64 != rank {
         return Err(Refusal::PresentRank);
     }
-    if has_maximum {
+    if let Some(maximum) = maximum {
         if maximum.len() as u64 != rank {
             return Err(Refusal::MaximumRank);
         }
@@ -303,7 +279,7 @@ fn numbering_test(limits: &[u64], chunk: &[u64], order: GridOrder) -> Result<(),
     }
     let mut counts = [0u64; 32];
     let n = chunk.len();
-    counts_of(&mut counts[..n], limits, chunk);
+    pairwise_into(&mut counts[..n], limits, chunk, count_of);
     counts_test(&counts[..n], order)
 }
 

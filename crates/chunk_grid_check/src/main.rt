@@ -2,12 +2,11 @@
 // Prints what the grids of its input answer: refusals, the numbers of a grid, the offsets of slots, and the slot of a
 // corner. The input is numbers in decimal: how many cases, and each case. A case begins with 0 where its shapes are
 // numbers, else they are bytes; a list is its length and its members.
-ghost use Rattle.std.specs.Prelude.{◌≡◌, ◌≤◌, length, Ok};
-ghost use Rattle.chunk_grid.specs.Grid.{Grid, grid_test};
-ghost use Rattle.chunk_grid.specs.Values.{grid_of, GridNumbers, GridCounts, Extents};
+ghost use Rattle.std.specs.Prelude.{◌≤◌, length};
 
 use check_lines::{list, number, print_first, print_numbers, print_refusal};
-use chunk_grid::{ChunkGrid, GridOrder, Numbering};
+use chunk_grid::numbering::Numbering;
+use chunk_grid::{ChunkGrid, GridOrder};
 use chunk_slots::{corner_test, offsets_in_extent, slot_of};
 use refusal::Refusal;
 use shapes::{grid_from_bytes, read_shape};
@@ -15,14 +14,8 @@ use std::io;
 use std::io::Read;
 
 // A grid's numbers, in the grid's order where they are multipliers, in dimension order elsewhere.
-fn print_numbering(
-    rt: &impl Print,
-    rank: u64,
-    numbering: Numbering,
-    counts: &[u64; 32],
-    bound: &[u64; 32],
-    down: &[u64; 32],
-) -> io::Result<()> {
+fn print_numbering(rt: &impl Print, numbering: &Numbering) -> io::Result<()> {
+    let rank = numbering.grid.rank;
     print!(rt; " leads {}", numbering.rotated)?;
     if numbering.numbers {
         print!(rt; " numbers")?;
@@ -30,95 +23,46 @@ fn print_numbering(
         print!(rt; " numbers nothing")?;
     }
     print!(rt; " counts")?;
-    print_first(rt, counts, rank)?;
+    print_first(rt, &numbering.counts, rank)?;
     print!(rt; " bounds")?;
-    print_first(rt, bound, rank)?;
+    print_first(rt, &numbering.bound, rank)?;
     print!(rt; " multipliers")?;
-    print_first(rt, down, rank)?;
+    print_first(rt, &numbering.down, rank)?;
     println!(rt)
 }
 
 // What a slot's offsets come to, and the offsets.
-fn print_slot(
-    rt: &impl Print,
-    slot: u64,
-    rank: u64,
-    numbering: Numbering,
-    chunk: &[u64; 32],
-    bound: &[u64; 32],
-    down: &[u64; 32],
-) -> io::Result<()>
-    requires { (g : Grid) × (GridNumbers rank numbering.rotated chunk.now down.now g)
-        × (Extents rank numbering.numbers bound.now g) }
-{
+fn print_slot(rt: &impl Print, slot: u64, numbering: &Numbering) -> io::Result<()> {
     print!(rt; "  slot {slot}:")?;
-    let places = rank as usize;
-    let rotated = numbering.rotated as usize;
-    let numbers = numbering.numbers;
     let mut offsets = [7u64; 32];
-    let found = offsets_in_extent(
-        &mut offsets,
-        slot,
-        places,
-        rotated,
-        numbers,
-        chunk,
-        bound,
-        down,
-    );
-    match found {
+    match offsets_in_extent(&mut offsets, slot, numbering) {
         Ok(true) => {}
         Ok(false) => print!(rt; " dropped")?,
         Err(r) => print_refusal(rt, r)?,
     }
-    print_first(rt, &offsets, rank)?;
+    print_first(rt, &offsets, numbering.grid.rank)?;
     println!(rt)
 }
 
-fn print_slots(
-    rt: &impl Print,
-    from: u64,
-    to: u64,
-    rank: u64,
-    numbering: Numbering,
-    chunk: &[u64; 32],
-    bound: &[u64; 32],
-    down: &[u64; 32],
-) -> io::Result<()>
-    requires { (g : Grid) × (GridNumbers rank numbering.rotated chunk.now down.now g)
-        × (Extents rank numbering.numbers bound.now g) }
-{
+fn print_slots(rt: &impl Print, from: u64, to: u64, numbering: &Numbering) -> io::Result<()> {
     for slot in from..to {
-        print_slot(rt, slot, rank, numbering, chunk, bound, down)?;
+        print_slot(rt, slot, numbering)?;
     }
     Ok(())
 }
 
 // A corner's refusal, its slot, or none.
-fn print_corner(
-    rt: &impl Print,
-    grid: ChunkGrid,
-    corner: &[u64],
-    numbering: Numbering,
-    counts: &[u64; 32],
-    down: &[u64; 32],
-) -> io::Result<()>
-    requires { (grid_test (grid_of grid) ≡ Ok tt)
-        × (GridNumbers grid.rank numbering.rotated grid.chunk down.now (grid_of grid))
-        × (GridCounts grid.rank counts.now (grid_of grid)) }
-{
+fn print_corner(rt: &impl Print, corner: &[u64], numbering: &Numbering) -> io::Result<()> {
     print!(rt; "  corner")?;
     print_numbers(rt, corner)?;
     print!(rt; ":")?;
-    if let Err(r) = corner_test(grid, corner) {
+    if let Err(r) = corner_test(numbering, corner) {
         return print_refusal(rt, r);
     }
-    if corner.len() as u64 != grid.rank {
+    if corner.len() as u64 != numbering.grid.rank {
         return Ok(());
     }
-    let chunk = grid.chunk;
-    let rotated = numbering.rotated as usize;
-    match slot_of(corner, rotated, &chunk, counts, down) {
+    match slot_of(corner, numbering) {
         Some(slot) => print!(rt; " {slot}"),
         None => print!(rt; " none"),
     }
@@ -142,14 +86,10 @@ fn print_built(
     if let Err(r) = grid.test() {
         return print_refusal(rt, r);
     }
-    let mut counts = [0u64; 32];
-    let mut bound = [0u64; 32];
-    let mut down = [0u64; 32];
-    let numbering = grid.numbering(&mut counts, &mut bound, &mut down);
-    let chunk = grid.chunk;
-    print_numbering(rt, grid.rank, numbering, &counts, &bound, &down)?;
-    print_slots(rt, from, to, grid.rank, numbering, &chunk, &bound, &down)?;
-    print_corner(rt, grid, corner, numbering, &counts, &down)?;
+    let numbering = grid.numbering();
+    print_numbering(rt, &numbering)?;
+    print_slots(rt, from, to, &numbering)?;
+    print_corner(rt, corner, &numbering)?;
     println!(rt)
 }
 
@@ -170,8 +110,7 @@ fn print_bytes(
     rank: u64,
     chunk: &[u64],
     present: &[u64],
-    has_maximum: bool,
-    maximum: &[u64],
+    maximum: Option<&[u64]>,
     corner: &[u64],
 ) -> io::Result<()> {
     let mut lengths = [0u8; 34];
@@ -180,13 +119,13 @@ fn print_bytes(
     let mut place = [0u8; 34];
     let c = bytes_of(&mut lengths, chunk);
     let p = bytes_of(&mut extents, present);
-    let m = bytes_of(&mut limits, maximum);
+    let m = bytes_of(&mut limits, maximum.unwrap_or(&[]));
     let k = bytes_of(&mut place, corner);
     let built = grid_from_bytes(
         rank,
         &lengths[..c],
         &extents[..p],
-        has_maximum,
+        maximum.is_some(),
         &limits[..m],
         GridOrder::UnlimitedFirst,
     );
@@ -230,14 +169,18 @@ fn run_case(rt: &impl Print, s: &[u8], from: usize) -> io::Result<usize> {
     let y = p.value as usize;
     let z = m.value as usize;
     let w = k.value as usize;
+    let limits = if has.value != 0 {
+        Some(&maximum[..z])
+    } else {
+        None
+    };
     print_case(
         rt,
         kind.value,
         rank.value,
         &chunk[..x],
         &present[..y],
-        has.value != 0,
-        &maximum[..z],
+        limits,
         start.value,
         end.value,
         &corner[..w],
@@ -252,23 +195,20 @@ fn print_case(
     rank: u64,
     chunk: &[u64],
     present: &[u64],
-    has_maximum: bool,
-    maximum: &[u64],
+    maximum: Option<&[u64]>,
     from: u64,
     to: u64,
     corner: &[u64],
 ) -> io::Result<()> {
     if kind != 0 {
         print!(rt; "bytes")?;
-        return print_bytes(rt, rank, chunk, present, has_maximum, maximum, corner);
+        return print_bytes(rt, rank, chunk, present, maximum, corner);
     }
     print!(rt; "R")?;
-    let order = GridOrder::RowMajor;
-    let rows = ChunkGrid::new(rank, chunk, present, has_maximum, maximum, order);
+    let rows = ChunkGrid::new(rank, chunk, present, maximum, GridOrder::RowMajor);
     print_built(rt, rows, from, to, corner)?;
     print!(rt; "U")?;
-    let order = GridOrder::UnlimitedFirst;
-    let first = ChunkGrid::new(rank, chunk, present, has_maximum, maximum, order);
+    let first = ChunkGrid::new(rank, chunk, present, maximum, GridOrder::UnlimitedFirst);
     print_built(rt, first, from, to, corner)
 }
 

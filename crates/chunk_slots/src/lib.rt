@@ -1,14 +1,15 @@
 #![tactic(auto)]
 // The slots of a chunk grid: a slot's offsets, the slots in a line, a corner's slot.
-ghost use Rattle.std.specs.Prelude.{◌≡◌, Bool, true, cond, List, ℕ, ◌*◌, ◌/◌, ◌%◌, ◌<◌, ◌≤◌, ltb, length, Ok};
+ghost use Rattle.std.specs.Prelude.{◌≡◌, true, cond, ◌*◌, ◌/◌, ◌%◌, ◌<◌, ◌≤◌, ltb, length, Ok};
 ghost use Rattle.refusal.specs.Refusals.{largest64};
-ghost use Rattle.chunk_grid.specs.Grid.{Grid, corner_test, slot_of, grid_test};
-ghost use Rattle.chunk_grid.specs.Values.{grid_of, GridNumbers, GridCounts, Extents, in_extent, offsets_of};
+ghost use Rattle.chunk_grid.specs.Grid.{corner_test, slot_of};
+ghost use Rattle.chunk_grid.specs.Values.{grid_of, in_extent, offsets_of};
 ghost use Rattle.chunk_slots.specs.Values.{handed};
 ghost use Rattle.chunk_slots.specs.AllInside.{all_inside};
 ghost use Rattle.chunk_slots.specs.Lines.{InLine};
 
-use chunk_grid::{ChunkGrid, dim_at};
+use chunk_grid::dim_at;
+use chunk_grid::numbering::Numbering;
 use refusal::Refusal;
 
 // Slots in a line: how many, the dimension in which their offsets differ, and the first one's quotient there.
@@ -20,21 +21,19 @@ pub struct Line {
 }
 
 // Tests that a corner is a chunk's.
-pub fn corner_test(grid: ChunkGrid, corner: &[u64]) -> Result<(), Refusal>
-    requires { grid_test (grid_of grid) ≡ Ok tt }
-    ensures { result ≡ corner_test (grid_of grid) corner.now }
+pub fn corner_test(numbering: &Numbering, corner: &[u64]) -> Result<(), Refusal>
+    ensures { result ≡ corner_test (grid_of numbering.now.grid.now) corner.now }
 {
+    let grid = numbering.grid;
     if corner.len() as u64 != grid.rank {
         return Err(Refusal::Corner);
     }
-    let chunk = grid.chunk;
-    let present = grid.present;
     // The first i members are multiples of the chunk's lengths, below the present extents.
     for i in 0..corner.len() {
-        if corner[i] % chunk[i] != 0 {
+        if corner[i] % grid.chunk[i] != 0 {
             return Err(Refusal::Corner);
         }
-        if present[i] <= corner[i] {
+        if grid.present[i] <= corner[i] {
             return Err(Refusal::Corner);
         }
     }
@@ -77,27 +76,21 @@ fn offset_overflows(q: u64, length: u64, bound: u64) -> bool
 }
 
 // The offsets of a slot into the lent array, and whether they lie in the present extents: 32 where the grid numbers
-// nothing, 33 where one passes 2^64 - 1. (For every element: arrays are lent, and quotients are compared with bounds
+// nothing, 33 where one passes 2^64 - 1. (For every element: an array is lent, and quotients are compared with bounds
 // that are made once.)
 pub fn offsets_in_extent(
     offsets: &mut [u64; 32],
     slot: u64,
-    rank: usize,
-    rotated: usize,
-    numbers: bool,
-    chunk: &[u64; 32],
-    bound: &[u64; 32],
-    down: &[u64; 32],
+    numbering: &Numbering,
 ) -> Result<bool, Refusal>
-    requires { (g : Grid) × (GridNumbers rank rotated chunk.now down.now g)
-        × (Extents rank numbers bound.now g) }
-    ensures { (g : Grid) → GridNumbers rank rotated chunk.now down.now g
-        → Extents rank numbers bound.now g
-        → (result ≡ offsets_of (in_extent g slot)) × (offsets.new ≡ handed g slot offsets.old) }
+    ensures { let g = grid_of numbering.now.grid.now in
+        (result ≡ offsets_of (in_extent g slot)) × (offsets.new ≡ handed g slot offsets.old) }
 {
-    if !numbers {
+    if !numbering.numbers {
         return Err(Refusal::NumbersNothing);
     }
+    let rank = numbering.grid.rank as usize;
+    let rotated = numbering.rotated as usize;
     let mut rest = slot;
     let mut inside = true;
     let mut over = false;
@@ -105,9 +98,9 @@ pub fn offsets_in_extent(
     // of the slot.
     for i in 0..rank {
         let d = dim_at(i, rotated);
-        let multiplier = down[i];
-        let length = chunk[d];
-        let most = bound[d];
+        let multiplier = numbering.down[i];
+        let length = numbering.grid.chunk[d];
+        let most = numbering.bound[d];
         let q = quotient(rest, multiplier);
         rest = remainder(rest, multiplier);
         offsets[d] = offset_below(q, length, most);
@@ -122,28 +115,21 @@ pub fn offsets_in_extent(
 
 // The line that a slot in the present extents begins. At the first place whose multiplier is 1 the quotient grows
 // from slot to slot, until it comes to its bound or the quotient of a place before it changes.
-pub fn line_from(
-    slot: u64,
-    rank: usize,
-    rotated: usize,
-    bound: &[u64; 32],
-    down: &[u64; 32],
-) -> Line
-    requires { (g : Grid) × (chunk : List ℕ) × (numbers : Bool) × (GridNumbers rank rotated chunk down.now g)
-        × (Extents rank numbers bound.now g) × (offsets_of (in_extent g slot) ≡ Ok true) }
-    ensures { (g : Grid) (chunk : List ℕ) (numbers : Bool)
-        → GridNumbers rank rotated chunk down.now g → Extents rank numbers bound.now g
-        → offsets_of (in_extent g slot) ≡ Ok true → InLine g chunk slot result }
+pub fn line_from(slot: u64, numbering: &Numbering) -> Line
+    requires { offsets_of (in_extent (grid_of numbering.now.grid.now) slot) ≡ Ok true }
+    ensures { InLine (grid_of numbering.now.grid.now) numbering.now.grid.now.chunk slot result }
 {
+    let rank = numbering.grid.rank as usize;
+    let rotated = numbering.rotated as usize;
     let mut slots = u64::MAX;
     let mut rest = slot;
     // The first i places have the same quotients for `slots` slots, and no multiplier 1; `rest` is what is left of
     // the slot.
     for i in 0..rank {
-        let multiplier = down[i];
+        let multiplier = numbering.down[i];
         if multiplier == 1 {
             let d = dim_at(i, rotated);
-            let left = bound[d] - rest;
+            let left = numbering.bound[d] - rest;
             return Line {
                 slots: slots.min(left),
                 dim: d as u64,
@@ -162,29 +148,20 @@ pub fn line_from(
 
 // Whether the first n slots all lie in the present extents, from the largest quotient at each place. (Once for many
 // elements. Where an extent behind the leading one ends before its maximum, the answer is no.)
-pub fn all_inside(
-    n: u64,
-    rank: usize,
-    rotated: usize,
-    numbers: bool,
-    bound: &[u64; 32],
-    down: &[u64; 32],
-) -> bool
-    requires { (g : Grid) × (chunk : List ℕ) × (GridNumbers rank rotated chunk down.now g)
-        × (Extents rank numbers bound.now g) }
-    ensures { (g : Grid) (chunk : List ℕ) → GridNumbers rank rotated chunk down.now g
-        → Extents rank numbers bound.now g
-        → result ≡ all_inside g n }
+pub fn all_inside(n: u64, numbering: &Numbering) -> bool
+    ensures { result ≡ all_inside (grid_of numbering.now.grid.now) n }
 {
-    if !numbers {
+    if !numbering.numbers {
         return false;
     }
+    let rank = numbering.grid.rank as usize;
+    let rotated = numbering.rotated as usize;
     let mut rests = n;
     // At the first i places all quotients lie below their bounds, and the rests that they leave lie below `rests`.
     for i in 0..rank {
         let d = dim_at(i, rotated);
-        let multiplier = down[i];
-        if bound[d] < rests.div_ceil(multiplier) {
+        let multiplier = numbering.down[i];
+        if numbering.bound[d] < rests.div_ceil(multiplier) {
             return false;
         }
         rests = multiplier;
@@ -193,29 +170,20 @@ pub fn all_inside(
 }
 
 // The slot of a corner, where it has one.
-pub fn slot_of(
-    corner: &[u64],
-    rotated: usize,
-    chunk: &[u64; 32],
-    counts: &[u64; 32],
-    down: &[u64; 32],
-) -> Option<u64>
-    requires { (g : Grid) × (GridNumbers (length corner.now) rotated chunk.now down.now g)
-        × (GridCounts (length corner.now) counts.now g) }
-    ensures { (g : Grid)
-        → GridNumbers (length corner.now) rotated chunk.now down.now g
-        → GridCounts (length corner.now) counts.now g
-        → result ≡ slot_of g corner.now }
+pub fn slot_of(corner: &[u64], numbering: &Numbering) -> Option<u64>
+    requires { length corner.now ≡ numbering.now.grid.now.rank }
+    ensures { result ≡ slot_of (grid_of numbering.now.grid.now) corner.now }
 {
+    let rotated = numbering.rotated as usize;
     let mut slot = 0u64;
     // `slot` is the sum over the first i places, whose quotients lie below their counts, the leading one's aside.
     for i in 0..corner.len() {
         let d = dim_at(i, rotated);
-        let q = corner[d] / chunk[d];
-        if (0 < i) & (counts[d] <= q) {
+        let q = corner[d] / numbering.grid.chunk[d];
+        if (0 < i) & (numbering.counts[d] <= q) {
             return None;
         }
-        slot = slot.checked_add(q.checked_mul(down[i])?)?;
+        slot = slot.checked_add(q.checked_mul(numbering.down[i])?)?;
     }
     Some(slot)
 }

@@ -1,15 +1,16 @@
 -- Laws of structures that were stepped into: they lie in the file, with all their parts. Assumes nothing.
 use Prim.Native.Nat.{ℕ, ◌+◌, ◌*◌, ◌^◌, ◌<◌, ◌≤◌}
 use mathlib.Core.Path.{◌≡◌, refl, sym, subst, ◌∙◌}
-use mathlib.Core.Bool.{true, false}
+use mathlib.Core.Bool.{Bool, true, false, cond}
 use mathlib.Core.Logic.{⊎_elim}
 use native.Mathlib.Omega.{arith}
 use native.Mathlib.Nat.{mul-le-mul_right}
 use lib.ListN.{length}
-use Rattle.std.specs.Prelude.{Err, Ok, Option, Some}
-use Rattle.refusal.specs.declared.Refusal.{Refusal}
+use Rattle.std.specs.Prelude.{Err, None, Ok, Option, Some}
 use Rattle.refusal.specs.Refusals.{Checked, Outcome}
 use Rattle.refusal.proofs.Tests.{false_true}
+use Rattle.structures.specs.Entered.{entered}
+use Rattle.structures.proofs.Entering.{entered_where}
 use Rattle.ea_header.specs.declared.Parameters.{Parameters}
 use Rattle.ea_header.specs.Values.{Served}
 use Rattle.ea_geometry.specs.declared.EaGeometry.{EaGeometry}
@@ -20,6 +21,7 @@ use Rattle.ea_geometry.specs.Bounded.{Bounded}
 use Rattle.ea_geometry.proofs.Counts.{pages_fit}
 use Rattle.ea_geometry.proofs.Positions.{page_at_le}
 use Rattle.ea_blocks.specs.Array.{Array}
+use Rattle.ea_blocks.specs.Values.{pointer_of}
 use Rattle.ea_blocks.specs.Structures.{data_block, data_page, test_of, is_direct, super_block_at, block_at, data_page_at, block_undefined, page_set}
 use Rattle.ea_blocks.specs.Entered.{EnteredSuper, EnteredBlock, EnteredPage}
 use Rattle.ea_blocks.proofs.StructureTests.{super_inside, not_direct, block_inside, head_inside, page_inside}
@@ -36,22 +38,22 @@ pub page_fits : (g : EaGeometry) → Bounded g → g.parameters.element_size < 2
 page_fits g b e u p at m lt less =
     omega (arith, page_few g.parameters b.served u p m lt, page_at_le g.parameters g.offset_size b.width e b.served p)
 
--- a structure that is there, by what is made of the result of its test
-by_result : (P : Outcome (Option ℕ) → Type 0) (t : Checked) (x : Outcome (Option ℕ)) (at : ℕ) → (t ≡ Ok tt → x ≡ Ok (Some at)) → ((r : Refusal) → t ≡ Err r → x ≡ Err r)
-    → (t ≡ Ok tt → P (Ok (Some at))) → ((r : Refusal) → t ≡ Err r → P (Err r)) → P x
-by_result P (Ok tt) x at o f p q = subst P (sym (o refl)) (p refl)
-by_result P (Err r) x at o f p q = subst P (sym (f r refl)) (q r refl)
+-- what a data block comes to where it is stepped into
+pub block_entered : (a : Array) (u k : ℕ) (x : Outcome (Option ℕ)) → x ≡ entered (pointer_of (block_undefined a u k) (block_at a u k)) (test_of a (data_block u k))
+    → EnteredBlock a u k x
+unfolding pointer_of entered
+block_entered a u k x = go (block_undefined a u k) (test_of a (data_block u k)) refl refl
+  where
+    go : (b : Bool) (t : Checked) → block_undefined a u k ≡ b → test_of a (data_block u k) ≡ t → x ≡ entered (pointer_of b (block_at a u k)) t → EnteredBlock a u k x
+    go true t d e w = subst (EnteredBlock a u k) (sym w) d
+    go false (Ok o) d e w = subst (EnteredBlock a u k) (sym w) (d, e, refl)
+    go false (Err r) d e w = subst (EnteredBlock a u k) (sym w) (d, e)
 
-module _ (a : Array) (t : Checked) (x : Outcome (Option ℕ)) (at : ℕ) (passed : t ≡ Ok tt → x ≡ Ok (Some at)) (refused : (r : Refusal) → t ≡ Err r → x ≡ Err r) where
-  pub block_by_result : (u k : ℕ) → block_undefined a u k ≡ false → t ≡ test_of a (data_block u k) → at ≡ block_at a u k
-      → EnteredBlock a u k x
-  block_by_result u k d e w =
-      by_result (EnteredBlock a u k) t x at passed refused (λ z. (d, sym e ∙ z, w)) (λ r z. (d, sym e ∙ z))
-
-  pub page_by_result : (u k p : ℕ) → page_set a u k p ≡ true → t ≡ test_of a (data_page u k p) → at ≡ data_page_at a u k p
-      → EnteredPage a u k p x
-  page_by_result u k p d e w =
-      by_result (EnteredPage a u k p) t x at passed refused (λ z. (d, sym e ∙ z, w)) (λ r z. (d, sym e ∙ z))
+-- .. and a page
+pub page_entered : (a : Array) (u k p : ℕ) (x : Outcome (Option ℕ))
+    → x ≡ entered (cond (page_set a u k p) (Some (data_page_at a u k p)) None) (test_of a (data_page u k p)) → EnteredPage a u k p x
+page_entered a u k p x e =
+    entered_where (EnteredPage a u k p) _ _ _ x e (λ s. s) (λ s t. (s, t, refl)) (λ r s t. (s, t))
 
 module _ (a : Array) (u at : ℕ) where
   -- a super block that was stepped into lies where its pointer says

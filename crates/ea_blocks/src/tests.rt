@@ -1,12 +1,12 @@
 // The tests of an array's structures.
-ghost use Rattle.std.specs.Prelude.{◌≡◌, false, ℕ, ◌+◌, ◌<◌, ◌≤◌, length};
+ghost use Rattle.std.specs.Prelude.{◌≡◌, false, ℕ, ◌<◌};
 ghost use Rattle.ea_header.specs.Values.{Served};
 ghost use Rattle.ea_geometry.specs.Bounded.{Bounded};
-ghost use Rattle.ea_geometry.specs.Sizes.{super_blocks, pages};
+ghost use Rattle.ea_geometry.specs.Sizes.{super_blocks};
 ghost use Rattle.ea_geometry.specs.Place.{in_pages};
 ghost use Rattle.ea_blocks.specs.Values.{array_of};
 ghost use Rattle.ea_blocks.specs.Structures.{index_block, array_test, super_block, data_block, data_page, test_of};
-ghost use Rattle.ea_blocks.specs.Structures.{super_block_at, block_at};
+ghost use Rattle.ea_blocks.specs.Structures.{super_block_at, block_at, data_page_at};
 
 use crate::ExtensibleArray;
 use checksum::TwoChecked;
@@ -89,27 +89,21 @@ pub fn test_two_blocks(
     test_two_structures(file, DATA_BLOCK, at, other, array.geometry.data_extent(u))
 }
 
-// Tests page p of a data block that lies at `at`.
-pub fn test_page(file: &[u8], array: ExtensibleArray, at: u64, p: u64) -> Result<(), Refusal>
-    requires { ((u : ℕ) × (u < super_blocks array.geometry.parameters)
-        × (p < pages array.geometry.parameters u)) × Bounded array.geometry
-        × (at ≤ length file.now) }
-    ensures { (u k : ℕ) → let a = array_of file.now array in at ≡ block_at a u k
+// Tests a page, which lies at `at`.
+pub fn test_page(file: &[u8], array: ExtensibleArray, at: u64) -> Result<(), Refusal>
+    requires { Bounded array.geometry }
+    ensures { (u k p : ℕ) → let a = array_of file.now array in at ≡ data_page_at a u k p
         → result ≡ test_of a (data_page u k p) }
 {
-    let pos = at + array.geometry.page_at(p);
-    test_structure(file, Kind::Page, pos, array.geometry.page_extent())
+    test_structure(file, Kind::Page, at, array.geometry.page_extent())
 }
 
-// Tests pages p and p + 1 of it.
-pub fn test_two_pages(file: &[u8], array: ExtensibleArray, at: u64, p: u64) -> TwoChecked
-    requires { ((u : ℕ) × (u < super_blocks array.geometry.parameters)
-        × (p + 1 < pages array.geometry.parameters u)) × Bounded array.geometry
-        × (at ≤ length file.now) }
-    ensures { (u k : ℕ) → let a = array_of file.now array in at ≡ block_at a u k
-        → (result.first ≡ test_of a (data_page u k p)) × (result.second ≡ test_of a (data_page u k (p + 1))) }
+// Tests two pages, which lie at `at` and `other`.
+pub fn test_two_pages(file: &[u8], array: ExtensibleArray, at: u64, other: u64) -> TwoChecked
+    requires { Bounded array.geometry }
+    ensures { (u k p n : ℕ) → let a = array_of file.now array in at ≡ data_page_at a u k p
+        → other ≡ data_page_at a u k n
+        → (result.first ≡ test_of a (data_page u k p)) × (result.second ≡ test_of a (data_page u k n)) }
 {
-    let pos = at + array.geometry.page_at(p);
-    let other = at + array.geometry.page_at(p + 1);
-    test_two_structures(file, Kind::Page, pos, other, array.geometry.page_extent())
+    test_two_structures(file, Kind::Page, at, other, array.geometry.page_extent())
 }

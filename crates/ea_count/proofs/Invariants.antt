@@ -13,7 +13,6 @@ use Rattle.refusal.specs.declared.Refusal.{Refusal}
 use Rattle.element_form.specs.Form.{stride}
 use Rattle.elements.specs.declared.ElementReader.{ElementReader}
 use Rattle.elements.specs.Values.{elements_of}
-use Rattle.element_runs.specs.Values.{RunInFile}
 use Rattle.ea_header.specs.declared.Parameters.{Parameters}
 use Rattle.ea_header.specs.Values.{Served}
 use Rattle.ea_geometry.specs.Sizes as sizes
@@ -46,9 +45,6 @@ pub record Setting : Type 0 where
   pub first : ℕ
   pub begin : ℕ
   pub end : ℕ
-  pub chunk : List ℕ
-  pub bound : List ℕ
-  pub down : List ℕ
   pub count : ℕ
   pub directs : ℕ
   pub page : ℕ
@@ -61,26 +57,26 @@ a_of w = array_of w.file w.array
 
 -- the walk's states, and what it ends with
 abbrev SuperAt : Setting → ℕ → ℕ → ℕ → Type 0
-SuperAt w = AtSuper w.file w.array w.reader w.first w.begin w.end w.chunk w.bound w.down
+SuperAt w = AtSuper w.file w.array w.reader w.first w.begin w.end
 
 abbrev BlockAt : Setting → ℕ → ℕ → ℕ → ℕ → ℕ → Type 0
-BlockAt w = AtBlock w.file w.array w.reader w.first w.begin w.end w.chunk w.bound w.down
+BlockAt w = AtBlock w.file w.array w.reader w.first w.begin w.end
 
 abbrev PageAt : Setting → ℕ → ℕ → ℕ → ℕ → ℕ → ℕ → ℕ → ℕ → Type 0
-PageAt w = AtPage w.file w.array w.reader w.first w.begin w.end w.chunk w.bound w.down
+PageAt w = AtPage w.file w.array w.reader w.first w.begin w.end
 
 abbrev Behind : Setting → ℕ → ℕ → ℕ → ℕ → ℕ → Type 0
-Behind w = BehindBlock w.file w.array w.reader w.first w.begin w.end w.chunk w.bound w.down
+Behind w = BehindBlock w.file w.array w.reader w.first w.begin w.end
 
 abbrev pub Ends : Setting → Outcome ℕ → Type 0
-Ends w = Done w.file w.array w.reader w.first w.begin w.end w.chunk w.bound w.down
+Ends w = Done w.file w.array w.reader w.first w.begin w.end
 
 abbrev pub Run : Setting → ℕ → ℕ → ℕ → Outcome ℕ → Type 0
-Run w = Counts w.file w.array w.reader w.first w.begin w.end w.chunk w.bound w.down
+Run w = Counts w.file w.array w.reader w.first w.begin w.end
 
 -- what doesn't change in the walk
 pub record Fixed (w : Setting) : Type 0 where
-  pub walk : WalkFrom w.file w.array w.reader w.chunk w.bound w.down w.first w.begin w.end
+  pub walk : WalkFrom w.file w.array w.reader w.first w.begin w.end
   pub counts : w.count ≡ w.reader.count
   pub direct_ones : w.directs ≡ direct_super_blocks (h_of w)
   pub page_size : w.page ≡ page_elements (h_of w)
@@ -122,34 +118,28 @@ module _ {w : Setting} where
 
   run_few : Fixed w → (pos j s m : ℕ) → Run w pos j s (Ok m) → m ≤ j
   run_few x pos j s m c =
-      let b = x.walk.by in
-      count_few (elements_of w.file w.reader b.grid b.element_bytes) pos j s m (c b.grid b.element_bytes b.reads)
+      count_few (elements_of w.file w.reader) pos j s m c
 
   own_stride : Fixed w → element_stride (h_of w) (a_of w).offset_size ≡ stride w.reader.form
-  own_stride x = ap stride x.walk.by.formed
+  own_stride x = ap stride x.walk.formed
 
-  run_in_file : Fixed w → (pos n : ℕ) → pos + n * element_stride (h_of w) (a_of w).offset_size ≤ length w.file → RunInFile w.file w.reader w.chunk w.bound w.down pos n
-  run_in_file x pos n le = record {
-    grid = x.walk.by.grid;
-    element_bytes = x.walk.by.element_bytes;
-    reads = x.walk.by.reads;
-    inside = subst (λ (z : ℕ). pos + n * z ≤ length w.file) (own_stride x) le;
-  }
+  run_in_file : Fixed w → (pos n : ℕ) → pos + n * element_stride (h_of w) (a_of w).offset_size ≤ length w.file → pos + n * stride w.reader.form ≤ length w.file
+  run_in_file x pos n le = subst (λ (z : ℕ). pos + n * z ≤ length w.file) (own_stride x) le
 
   pub supers_first : (slot : ℕ) → Fixed w → slot ≡ first_slot (h_of w) w.begin → InSupers w w.first slot w.begin
   supers_first slot x e = record {
     fixed = x;
     upto = x.walk.ordered;
-    state = subst (λ (s : ℕ). SuperAt w w.first s w.begin) (sym e) (at_first _ _ _ _ _ _ _ _ _ x.walk.few);
+    state = subst (λ (s : ℕ). SuperAt w w.first s w.begin) (sym e) (at_first _ _ _ _ _ _ x.walk.few);
   }
 
   -- at a super block
   module _ {total slot u : ℕ} (i : InSupers w total slot u) where
     pub supers_ends : w.end ≤ u → Ends w (Ok total)
-    supers_ends le = supers_done _ _ _ _ _ _ _ _ _ _ _ _ i.state le
+    supers_ends le = supers_done _ _ _ _ _ _ _ _ _ i.state le
 
     pub count_ends : w.count ≤ slot → Ends w (Ok total)
-    count_ends le = super_ended _ _ _ _ _ _ _ _ _ _ _ _ i.state (let e = i.fixed.counts in omega arith)
+    count_ends le = super_ended _ _ _ _ _ _ _ _ _ i.state (let e = i.fixed.counts in omega arith)
 
     module _ (lt : u < w.end) where
       super_of_lem : u < super_blocks (h_of w)
@@ -175,10 +165,10 @@ module _ {w : Setting} where
         pub super_absent : {blocks elements : ℕ} → blocks ≡ sizes.blocks u → elements ≡ block_elements (h_of w) u → EnteredSuper (a_of w) u (Ok None)
             → InSupers w total (slot + blocks * elements) (u + 1)
         super_absent b e x =
-            rw (b, e) (record { fixed = i.fixed; upto = omega arith; state = super_skip _ _ _ _ _ _ _ _ _ _ _ _ i.state lt open_here x })
+            rw (b, e) (record { fixed = i.fixed; upto = omega arith; state = super_skip _ _ _ _ _ _ _ _ _ i.state lt open_here x })
 
         pub super_ends : (x : Refusal) → EnteredSuper (a_of w) u (Err x) → Ends w (Err x)
-        super_ends x e = super_refused _ _ _ _ _ _ _ _ _ _ _ _ i.state lt open_here x e
+        super_ends x e = super_refused _ _ _ _ _ _ _ _ _ i.state lt open_here x e
 
         pub blocks-first : {blocks elements super : ℕ} → blocks ≡ sizes.blocks u → elements ≡ block_elements (h_of w) u → EnteredSuper (a_of w) u (Ok (Some super))
             → InBlocks w u blocks elements super total slot None 0
@@ -188,7 +178,7 @@ module _ {w : Setting} where
           blocks_are = b;
           elements_are = e;
           upto = omega arith;
-          state = super_in _ _ _ _ _ _ _ _ _ _ _ _ i.state lt open_here _ x;
+          state = super_in _ _ _ _ _ _ _ _ _ i.state lt open_here _ x;
           ahead_is = tt;
         }
 
@@ -207,7 +197,7 @@ module _ {w : Setting} where
         let l = i.upto in
         let z : k ≡ sizes.blocks u = omega arith in
         let m = i.super_lt in
-        record { fixed = i.fixed; upto = omega arith; state = blocks_done _ _ _ _ _ _ _ _ _ _ _ _ _ _ i.state z }
+        record { fixed = i.fixed; upto = omega arith; state = blocks_done _ _ _ _ _ _ _ _ _ _ _ i.state z }
 
     module _ (lt : k < blocks) where
       abbrev block_of : k < sizes.blocks u
@@ -237,7 +227,7 @@ module _ {w : Setting} where
       direct_ends d le =
           let c = i.fixed.counts in
           let e = i.fixed.direct_ones in
-          block_ended _ _ _ _ _ _ _ _ _ _ _ _ _ _ i.state block_of (omega arith) (omega arith)
+          block_ended _ _ _ _ _ _ _ _ _ _ _ i.state block_of (omega arith) (omega arith)
 
       -- behind it, whichever way
       pub blocks_next : {total' n : ℕ} {next : Option Ahead} → total' ≡ n → Behind w n slot u super k → TestedAhead (a_of w) (data_block u) next
@@ -248,7 +238,7 @@ module _ {w : Setting} where
         blocks_are = i.blocks_are;
         elements_are = refl;
         upto = omega arith;
-        state = block-behind _ _ _ _ _ _ _ _ _ _ _ _ _ _ b;
+        state = block-behind _ _ _ _ _ _ _ _ _ _ _ b;
         ahead_is = t;
       })
 
@@ -260,10 +250,10 @@ module _ {w : Setting} where
             ⊎_elim (λ q. let y = q.1 in let z = q.0 in ((λ d. omega arith), inl (omega arith))) (λ q. ((λ d. absurd (omega arith)), inr (omega arith))) o
 
         pub block_absent : EnteredBlock (a_of w) u k (Ok None) → Behind w total slot u super k
-        block_absent e = block_skip _ _ _ _ _ _ _ _ _ _ _ _ _ _ i.state block_of opens.0 opens.1 e
+        block_absent e = block_skip _ _ _ _ _ _ _ _ _ _ _ i.state block_of opens.0 opens.1 e
 
         pub block_ends : (x : Refusal) → EnteredBlock (a_of w) u k (Err x) → Ends w (Err x)
-        block_ends x e = block_refused _ _ _ _ _ _ _ _ _ _ _ _ _ _ i.state block_of opens.0 opens.1 x e
+        block_ends x e = block_refused _ _ _ _ _ _ _ _ _ _ _ i.state block_of opens.0 opens.1 x e
 
         module _ {at : ℕ} (e : EnteredBlock (a_of w) u k (Ok (Some at))) where
           pub pages-first : {pages : ℕ} → in_pages (h_of w) u ≡ true → pages ≡ sizes.pages (h_of w) u → InPages w u blocks elements super k at pages slot total slot None 0
@@ -276,7 +266,7 @@ module _ {w : Setting} where
             pages_are = n;
             paged = q;
             upto = omega arith;
-            state = block-pages _ _ _ _ _ _ _ _ _ _ _ _ _ _ i.state block_of opens.0 opens.1 _ e q;
+            state = block-pages _ _ _ _ _ _ _ _ _ _ _ i.state block_of opens.0 opens.1 _ e q;
             ahead_is = tt;
           }
 
@@ -288,7 +278,7 @@ module _ {w : Setting} where
             pub unpaged_begins : at + in_block < 2 ^ 63
             unpaged_begins = let n = unpaged_inside in let l = i.fixed.small in omega arith
 
-            pub unpaged_run : RunInFile w.file w.reader w.chunk w.bound w.down (at + in_block) elements
+            pub unpaged_run : (at + in_block) + elements * stride w.reader.form ≤ length w.file
             unpaged_run = run_in_file i.fixed _ _ unpaged_inside
 
             begins : at + in_block ≡ block_at (a_of w) u k + block_element_at (h_of w) (a_of w).offset_size 0
@@ -298,7 +288,7 @@ module _ {w : Setting} where
             counted x c = subst (λ (n : ℕ). Run w (at + in_block) n slot x) i.elements_are c
 
             pub unpaged_ends : (x : Refusal) → Run w (at + in_block) elements slot (Err x) → Ends w (Err x)
-            unpaged_ends x c = block_run_refused _ _ _ _ _ _ _ _ _ _ _ _ _ _ i.state block_of opens.0 opens.1 _ e q _ begins x (counted (Err x) c)
+            unpaged_ends x c = block_run_refused _ _ _ _ _ _ _ _ _ _ _ i.state block_of opens.0 opens.1 _ e q _ begins x (counted (Err x) c)
 
             module _ {m : ℕ} (c : Run w (at + in_block) elements slot (Ok m)) where
               pub unpaged_fits : total + m ≤ 2 ^ 63 + 255
@@ -310,7 +300,7 @@ module _ {w : Setting} where
 
               pub unpaged_behind : Behind w (total + m) slot u super k
               unpaged_behind =
-                  block_run _ _ _ _ _ _ _ _ _ _ _ _ _ _ i.state block_of opens.0 opens.1 _ e q _ begins m (run_few i.fixed _ _ _ m (counted (Ok m) c)) (counted (Ok m) c)
+                  block_run _ _ _ _ _ _ _ _ _ _ _ i.state block_of opens.0 opens.1 _ e q _ begins m (run_few i.fixed _ _ _ m (counted (Ok m) c)) (counted (Ok m) c)
 
   -- at a page
   module _ {u blocks elements super k at pages slot total from : ℕ} {ahead : Option Ahead} {p : ℕ}
@@ -328,7 +318,7 @@ module _ {w : Setting} where
     pages-behind le =
         let n = i.pages_are in
         let l = i.upto in
-        pages_done _ _ _ _ _ _ _ _ _ _ _ _ _ _ _ _ _ i.state (omega arith) exact (omega arith)
+        pages_done _ _ _ _ _ _ _ _ _ _ _ _ _ _ i.state (omega arith) exact (omega arith)
 
     module _ (lt : p < pages) where
       abbrev page_of_lem : p < sizes.pages (h_of w) u
@@ -380,20 +370,20 @@ module _ {w : Setting} where
 
       pub pages_clear : {next : Option Ahead} → EnteredPage (a_of w) u k p (Ok None) → TestedAhead (a_of w) (data_page u k) next
           → InPages w u blocks elements super k at pages slot total (from + w.page) next (p + 1)
-      pages_clear e t = next_page_lem (page_skip _ _ _ _ _ _ _ _ _ _ _ _ _ _ _ _ _ i.state page_of_lem e) t
+      pages_clear e t = next_page_lem (page_skip _ _ _ _ _ _ _ _ _ _ _ _ _ _ i.state page_of_lem e) t
 
       pub page_ends_walk : (x : Refusal) → EnteredPage (a_of w) u k p (Err x) → Ends w (Err x)
-      page_ends_walk x e = page_refused _ _ _ _ _ _ _ _ _ _ _ _ _ _ _ _ _ i.state page_of_lem x e
+      page_ends_walk x e = page_refused _ _ _ _ _ _ _ _ _ _ _ _ _ _ i.state page_of_lem x e
 
       module _ {pos : ℕ} (e : EnteredPage (a_of w) u k p (Ok (Some pos))) where
-        pub page_run : RunInFile w.file w.reader w.chunk w.bound w.down pos w.page
+        pub page_run : pos + w.page * stride w.reader.form ≤ length w.file
         page_run = run_in_file i.fixed pos w.page (rw i.fixed.page_size (entered_page_room (a_of w) u pos k p e))
 
         counted_page : (x : Outcome ℕ) → Run w pos w.page from x → Run w pos (page_elements (h_of w)) from x
         counted_page x c = subst (λ (n : ℕ). Run w pos n from x) i.fixed.page_size c
 
         pub page_run_ends : (x : Refusal) → Run w pos w.page from (Err x) → Ends w (Err x)
-        page_run_ends x c = page_run_refused _ _ _ _ _ _ _ _ _ _ _ _ _ _ _ _ _ i.state page_of_lem pos e x (counted_page (Err x) c)
+        page_run_ends x c = page_run_refused _ _ _ _ _ _ _ _ _ _ _ _ _ _ i.state page_of_lem pos e x (counted_page (Err x) c)
 
         module _ {m : ℕ} (c : Run w pos w.page from (Ok m)) where
           few : m ≤ page_elements (h_of w)
@@ -412,11 +402,11 @@ module _ {w : Setting} where
           page_last past =
               let y = i.fixed.page_size in
               let d = i.fixed.counts in
-              page_run_last _ _ _ _ _ _ _ _ _ _ _ _ _ _ _ _ _ i.state page_of_lem pos e m few (counted_page (Ok m) c) (omega arith) exact
+              page_run_last _ _ _ _ _ _ _ _ _ _ _ _ _ _ i.state page_of_lem pos e m few (counted_page (Ok m) c) (omega arith) exact
 
           pub pages_on : {next : Option Ahead} → from + w.page ≤ w.count → TestedAhead (a_of w) (data_page u k) next
               → InPages w u blocks elements super k at pages slot (total + m) (from + w.page) next (p + 1)
           pages_on le t =
               let y = i.fixed.page_size in
               let d = i.fixed.counts in
-              next_page_lem (page_run_on _ _ _ _ _ _ _ _ _ _ _ _ _ _ _ _ _ i.state page_of_lem pos e m few (counted_page (Ok m) c) (omega arith)) t
+              next_page_lem (page_run_on _ _ _ _ _ _ _ _ _ _ _ _ _ _ i.state page_of_lem pos e m few (counted_page (Ok m) c) (omega arith)) t

@@ -14,12 +14,11 @@ use Rattle.refusal.specs.declared.Refusal.{Refusal}
 use Rattle.refusal.specs.Values.{plus, counted_of}
 use Rattle.refusal.proofs.Tests.{lt_or_ge, both}
 use Rattle.refusal.proofs.Counts.{plus_none, counted_inv}
-use Rattle.chunk_grid.specs.Grid.{Grid}
 use Rattle.index.specs.Index.{Listing}
 use Rattle.elements.specs.declared.ElementReader.{ElementReader}
 use Rattle.elements.specs.Elements.{Elements}
 use Rattle.elements.specs.Runs.{elements_from, pages_from}
-use Rattle.elements.specs.Values.{elements_of, Reads}
+use Rattle.elements.specs.Values.{elements_of}
 use Rattle.elements.proofs.Runs.{run_count, run_refused, run_length}
 use Rattle.elements.proofs.Pages as page_turns
 use Rattle.ea_header.specs.declared.Parameters.{Parameters}
@@ -39,55 +38,51 @@ use Rattle.ea_blocks.proofs.StructureTests.{is_direct_lem, not_direct}
 use Rattle.ea_walk.specs.Walk.{blocks_from, supers_from}
 use Rattle.ea_walk.proofs.Turns as turns
 
-module _ (f : List ℕ) (array : ExtensibleArray) (r : ElementReader) (first begin end : ℕ) (chunk bound down : List ℕ) where
+module _ (f : List ℕ) (array : ExtensibleArray) (r : ElementReader) (first begin end : ℕ) where
   abbrev h : Parameters
   h = array.geometry.parameters
 
   abbrev a : Array
   a = array_of f array
 
-  -- for every grid and element size that the reader is made of
-  abbrev pub Made : Grid → ℕ → Type 0
-  Made g n = Reads r chunk bound down g n
-
-  abbrev es : Grid → ℕ → Elements
-  es g n = elements_of f r g n
+  abbrev es : Elements
+  es = elements_of f r
 
   -- the whole
-  abbrev whole : Grid → ℕ → Outcome ℕ
-  whole g n = plus first (supers_from a (es g n) (end - begin) begin (first_slot h begin) (Ok []))
+  abbrev whole : Outcome ℕ
+  whole = plus first (supers_from a es (end - begin) begin (first_slot h begin) (Ok []))
 
   -- what is left behind super block u, and behind its data block k
-  abbrev behind_super : Grid → ℕ → ℕ → Listing
-  behind_super g n u = supers_from a (es g n) (end - (u + 1)) (u + 1) (first_slot h (u + 1)) (Ok [])
+  abbrev behind_super : ℕ → Listing
+  behind_super u = supers_from a es (end - (u + 1)) (u + 1) (first_slot h (u + 1)) (Ok [])
 
-  abbrev behind_block : Grid → ℕ → ℕ → ℕ → Listing
-  behind_block g n u k = blocks_from a (es g n) u (blocks u - (k + 1)) (k + 1) (first_slot h u + (k + 1) * block_elements h u) (behind_super g n u)
+  abbrev behind_block : ℕ → ℕ → Listing
+  behind_block u k = blocks_from a es u (blocks u - (k + 1)) (k + 1) (first_slot h u + (k + 1) * block_elements h u) (behind_super u)
 
   -- with what is counted, this is the whole
-  abbrev Left : ℕ → (Grid → ℕ → Listing) → Type 0
-  Left total rest = (g : Grid) (n : ℕ) → Made g n → plus total (rest g n) ≡ whole g n
+  abbrev Left : ℕ → Listing → Type 0
+  Left total rest = plus total rest ≡ whole
 
   -- done, with this count or refusal
   abbrev pub Done : Outcome ℕ → Type 0
-  Done answer = (g : Grid) (n : ℕ) → Made g n → answer ≡ whole g n
+  Done answer = answer ≡ whole
 
   -- n elements from pos on, of the slots from s on, are counted, or refused
   abbrev pub Counts : ℕ → ℕ → ℕ → Outcome ℕ → Type 0
-  Counts pos j s x = (g : Grid) (n : ℕ) → Made g n → x ≡ counted_of (elements_from (es g n) pos j s (Ok []))
+  Counts pos j s x = x ≡ counted_of (elements_from es pos j s (Ok []))
 
   -- at super block u, `total` records counted
   pub record AtSuper (total slot u : ℕ) : Type 0 where
     pub few : total ≤ slot
     pub at : slot ≡ first_slot h u
-    pub rest : Left total (λ (g : Grid) (n : ℕ). supers_from a (es g n) (end - u) u slot (Ok []))
+    pub rest : Left total (supers_from a es (end - u) u slot (Ok []))
 
   -- at its data block k
   pub record AtBlock (total slot u super k : ℕ) : Type 0 where
     pub few : total ≤ slot
     pub at : slot ≡ first_slot h u + k * block_elements h u
     pub entered : EnteredSuper a u (Ok (Some super))
-    pub rest : Left total (λ (g : Grid) (n : ℕ). blocks_from a (es g n) u (blocks u - k) k slot (behind_super g n u))
+    pub rest : Left total (blocks_from a es u (blocks u - k) k slot (behind_super u))
 
   -- at page p of it, which begins at slot `from`
   pub record AtPage (total from slot u super k block p : ℕ) : Type 0 where
@@ -96,24 +91,24 @@ module _ (f : List ℕ) (array : ExtensibleArray) (r : ElementReader) (first beg
     pub begins : slot ≡ first_slot h u + k * block_elements h u
     pub entered : EnteredSuper a u (Ok (Some super))
     pub inside : EnteredBlock a u k (Ok (Some block))
-    pub rest : Left total (λ (g : Grid) (n : ℕ). pages_from (es g n) (pages_of a u k) (pages h u - p) p from (behind_block g n u k))
+    pub rest : Left total (pages_from es (pages_of a u k) (pages h u - p) p from (behind_block u k))
 
   -- behind data block k
   pub record BehindBlock (total slot u super k : ℕ) : Type 0 where
     pub few : total ≤ slot + block_elements h u
     pub at : slot ≡ first_slot h u + k * block_elements h u
     pub entered : EnteredSuper a u (Ok (Some super))
-    pub rest : Left total (λ (g : Grid) (n : ℕ). behind_block g n u k)
+    pub rest : Left total (behind_block u k)
 
   pub at_first : first ≤ first_slot h begin → AtSuper first (first_slot h begin) begin
-  at_first le = record { few = le; at = refl; rest = λ g n w. refl }
+  at_first le = record { few = le; at = refl; rest = refl }
 
   module _ (total slot u : ℕ) (s : AtSuper total slot u) where
     pub supers_done : end ≤ u → Done (Ok total)
-    supers_done le g n w = sym (plus_none total _ (turns.supers_none a (es g n) end u slot (Ok []) le)) ∙ s.rest g n w
+    supers_done le = sym (plus_none total _ (turns.supers_none a es end u slot (Ok []) le)) ∙ s.rest
 
     pub super_ended : r.count ≤ slot → Done (Ok total)
-    super_ended le g n w = sym (plus_none total _ (turns.supers_past a (es g n) (end - u) u slot (Ok []) le)) ∙ s.rest g n w
+    super_ended le = sym (plus_none total _ (turns.supers_past a es (end - u) u slot (Ok []) le)) ∙ s.rest
 
     module _ (lt : u < end) (b : slot < r.count) where
       next_at : slot + blocks u * block_elements h u ≡ first_slot h (u + 1)
@@ -123,29 +118,29 @@ module _ (f : List ℕ) (array : ExtensibleArray) (r : ElementReader) (first beg
       super_skip e = record {
         few = let x = s.few in omega arith;
         at = next_at;
-        rest = λ g n w. ap (plus total) (sym (turns.supers_undefined a (es g n) end u slot (Ok []) lt b e.0 e.1)) ∙ s.rest g n w;
+        rest = ap (plus total) (sym (turns.supers_undefined a es end u slot (Ok []) lt b e.0 e.1)) ∙ s.rest;
       }
 
       pub super_refused : (x : Refusal) → EnteredSuper a u (Err x) → Done (Err x)
       unfolding plus
-      super_refused x e g n w =
-          ap (plus total) (sym (turns.supers_refused a (es g n) end u slot (Ok []) lt b e.0 e.1 x e.2)) ∙ s.rest g n w
+      super_refused x e =
+          ap (plus total) (sym (turns.supers_refused a es end u slot (Ok []) lt b e.0 e.1 x e.2)) ∙ s.rest
 
       pub super_in : (super : ℕ) → EnteredSuper a u (Ok (Some super)) → AtBlock total slot u super 0
       super_in super e = record {
         few = s.few;
         at = let x = s.at in omega arith;
         entered = e;
-        rest = λ g n w.
-            subst (λ (x : ℕ). plus total (blocks_from a (es g n) u (blocks u - 0) 0 slot (supers_from a (es g n) (end - (u + 1)) (u + 1) x (Ok []))) ≡ whole g n) next_at
-            (ap (plus total) (sym (into g n)) ∙ s.rest g n w);
+        rest =
+            subst (λ (x : ℕ). plus total (blocks_from a es u (blocks u - 0) 0 slot (supers_from a es (end - (u + 1)) (u + 1) x (Ok []))) ≡ whole) next_at
+            (ap (plus total) (sym into) ∙ s.rest);
       }
         where
-          into : (g : Grid) (n : ℕ) → supers_from a (es g n) (end - u) u slot (Ok [])
-              ≡ blocks_from a (es g n) u (blocks u - 0) 0 slot (supers_from a (es g n) (end - (u + 1)) (u + 1) (slot + blocks u * block_elements h u) (Ok []))
-          into g n =
-              ⊎_elim (λ (d : (is_direct a u ≡ true) × (super ≡ 0)). turns.supers_direct a (es g n) end u slot (Ok []) lt b d.0)
-              (λ d. turns.supers_tested a (es g n) end u slot (Ok []) lt b d.0 d.1 d.2) e
+          into : supers_from a es (end - u) u slot (Ok [])
+              ≡ blocks_from a es u (blocks u - 0) 0 slot (supers_from a es (end - (u + 1)) (u + 1) (slot + blocks u * block_elements h u) (Ok []))
+          into =
+              ⊎_elim (λ (d : (is_direct a u ≡ true) × (super ≡ 0)). turns.supers_direct a es end u slot (Ok []) lt b d.0)
+              (λ d. turns.supers_tested a es end u slot (Ok []) lt b d.0 d.1 d.2) e
 
   -- behind the last data block
   pub blocks_done : (total slot u super k : ℕ) → AtBlock total slot u super k → k ≡ blocks u → AtSuper total slot (u + 1)
@@ -154,9 +149,9 @@ module _ (f : List ℕ) (array : ExtensibleArray) (r : ElementReader) (first beg
       record {
         few = s.few;
         at = last;
-        rest = λ g n w.
-            subst (λ (x : ℕ). plus total (supers_from a (es g n) (end - (u + 1)) (u + 1) x (Ok [])) ≡ whole g n) (sym last)
-            (ap (plus total) (sym (turns.blocks_none a (es g n) u (blocks u) k slot (behind_super g n u) (let z : blocks u ≤ k = omega arith in z))) ∙ s.rest g n w);
+        rest =
+            subst (λ (x : ℕ). plus total (supers_from a es (end - (u + 1)) (u + 1) x (Ok [])) ≡ whole) (sym last)
+            (ap (plus total) (sym (turns.blocks_none a es u (blocks u) k slot (behind_super u) (let z : blocks u ≤ k = omega arith in z))) ∙ s.rest);
       }
 
   -- behind data block k comes the next
@@ -165,8 +160,8 @@ module _ (f : List ℕ) (array : ExtensibleArray) (r : ElementReader) (first beg
     few = s.few;
     at = next s.at;
     entered = s.entered;
-    rest = λ g n w.
-        subst (λ (x : ℕ). plus total (blocks_from a (es g n) u (blocks u - (k + 1)) (k + 1) x (behind_super g n u)) ≡ whole g n) (sym (next s.at)) (s.rest g n w);
+    rest =
+        subst (λ (x : ℕ). plus total (blocks_from a es u (blocks u - (k + 1)) (k + 1) x (behind_super u)) ≡ whole) (sym (next s.at)) (s.rest);
   }
     where
       next : slot ≡ first_slot h u + k * block_elements h u → slot + block_elements h u ≡ first_slot h u + (k + 1) * block_elements h u
@@ -174,17 +169,17 @@ module _ (f : List ℕ) (array : ExtensibleArray) (r : ElementReader) (first beg
 
   module _ (total slot u super k : ℕ) (s : AtBlock total slot u super k) (lt : k < blocks u) where
     -- what is left behind this block, as the turn's law has it
-    behind_is : (g : Grid) (n : ℕ) → blocks_from a (es g n) u (blocks u - (k + 1)) (k + 1) (slot + block_elements h u) (behind_super g n u) ≡ behind_block g n u k
-    behind_is g n =
+    behind_is : blocks_from a es u (blocks u - (k + 1)) (k + 1) (slot + block_elements h u) (behind_super u) ≡ behind_block u k
+    behind_is =
         let e = s.at in
         let z : slot + block_elements h u ≡ first_slot h u + (k + 1) * block_elements h u = omega arith in
-        ap (λ (x : ℕ). blocks_from a (es g n) u (blocks u - (k + 1)) (k + 1) x (behind_super g n u)) z
+        ap (λ (x : ℕ). blocks_from a es u (blocks u - (k + 1)) (k + 1) x (behind_super u)) z
 
     -- the count ends the data blocks that the index block names, and with them the walk
     pub block_ended : u < direct_super_blocks h → r.count ≤ slot → Done (Ok total)
-    block_ended d le g n w =
-        sym (plus_none total _ (turns.blocks_ended a (es g n) u (blocks u) k slot (behind_super g n u) lt (is_direct_lem a u d) le ∙ turns.supers_past a (es g n) _ (u + 1) _ (Ok []) past))
-        ∙ s.rest g n w
+    block_ended d le =
+        sym (plus_none total _ (turns.blocks_ended a es u (blocks u) k slot (behind_super u) lt (is_direct_lem a u d) le ∙ turns.supers_past a es _ (u + 1) _ (Ok []) past))
+        ∙ s.rest
       where
         past : r.count ≤ first_slot h (u + 1)
         past =
@@ -194,45 +189,45 @@ module _ (f : List ℕ) (array : ExtensibleArray) (r : ElementReader) (first beg
 
     -- the count doesn't end it
     module _ (open' : (u < direct_super_blocks h → slot < r.count)) (side : (u < direct_super_blocks h) ⊎ (direct_super_blocks h ≤ u)) where
-      goes : (g : Grid) (n : ℕ) → is_direct a u && leb (es g n).count slot ≡ false
-      goes g n =
-          ⊎_elim (λ (d : u < direct_super_blocks h). turns.below_count a (es g n) u slot (is_direct_lem a u d) (open' d))
-          (λ (d : direct_super_blocks h ≤ u). turns.not_direct a (es g n) u slot (not_direct a u d)) side
+      goes : is_direct a u && leb es.count slot ≡ false
+      goes =
+          ⊎_elim (λ (d : u < direct_super_blocks h). turns.below_count a es u slot (is_direct_lem a u d) (open' d))
+          (λ (d : direct_super_blocks h ≤ u). turns.not_direct a es u slot (not_direct a u d)) side
 
       pub block_skip : EnteredBlock a u k (Ok None) → BehindBlock total slot u super k
       block_skip e = record {
         few = let x = s.few in omega arith;
         at = s.at;
         entered = s.entered;
-        rest = λ g n w. ap (plus total) (sym (behind_is g n) ∙ sym (turns.blocks-undefined a (es g n) u (blocks u) k slot (behind_super g n u) lt (goes g n) e)) ∙ s.rest g n w;
+        rest = ap (plus total) (sym behind_is ∙ sym (turns.blocks-undefined a es u (blocks u) k slot (behind_super u) lt goes e)) ∙ s.rest;
       }
 
       pub block_refused : (x : Refusal) → EnteredBlock a u k (Err x) → Done (Err x)
       unfolding plus
-      block_refused x e g n w =
-          ap (plus total) (sym (turns.blocks_refused a (es g n) u (blocks u) k slot (behind_super g n u) lt (goes g n) e.0 x e.1)) ∙ s.rest g n w
+      block_refused x e =
+          ap (plus total) (sym (turns.blocks_refused a es u (blocks u) k slot (behind_super u) lt goes e.0 x e.1)) ∙ s.rest
 
       module _ (block : ℕ) (e : EnteredBlock a u k (Ok (Some block))) where
         -- read unpaged
         module _ (q : in_pages h u ≡ false) (pos : ℕ) (p : pos ≡ block_at a u k + block_element_at h a.offset_size 0) where
-          turn : Left total (λ (g : Grid) (n : ℕ). elements_from (es g n) pos (block_elements h u) slot (behind_block g n u k))
-          turn g n w =
+          turn : Left total (elements_from es pos (block_elements h u) slot (behind_block u k))
+          turn =
               ap (plus total)
-              (ap (λ (x : ℕ). elements_from (es g n) x (block_elements h u) slot (behind_block g n u k)) p
-              ∙ ap (elements_from (es g n) (block_at a u k + block_element_at h a.offset_size 0) (block_elements h u) slot) (sym (behind_is g n))
-              ∙ sym (turns.blocks_unpaged a (es g n) u (blocks u) k slot (behind_super g n u) lt (goes g n) e.0 e.1 q))
-              ∙ s.rest g n w
+              (ap (λ (x : ℕ). elements_from es x (block_elements h u) slot (behind_block u k)) p
+              ∙ ap (elements_from es (block_at a u k + block_element_at h a.offset_size 0) (block_elements h u) slot) (sym behind_is)
+              ∙ sym (turns.blocks_unpaged a es u (blocks u) k slot (behind_super u) lt goes e.0 e.1 q))
+              ∙ s.rest
 
           pub block_run : (m : ℕ) → m ≤ block_elements h u → Counts pos (block_elements h u) slot (Ok m) → BehindBlock (total + m) slot u super k
           block_run m le c = record {
             few = let x = s.few in omega arith;
             at = s.at;
             entered = s.entered;
-            rest = λ g n w. sym (run_count (es g n) pos (block_elements h u) slot m (sym (c g n w)) total (behind_block g n u k)) ∙ turn g n w;
+            rest = sym (run_count es pos (block_elements h u) slot m (sym c) total (behind_block u k)) ∙ turn;
           }
 
           pub block_run_refused : (x : Refusal) → Counts pos (block_elements h u) slot (Err x) → Done (Err x)
-          block_run_refused x c g n w = sym (run_refused (es g n) pos (block_elements h u) slot x (sym (c g n w)) total (behind_block g n u k)) ∙ turn g n w
+          block_run_refused x c = sym (run_refused es pos (block_elements h u) slot x (sym c) total (behind_block u k)) ∙ turn
 
         -- read by pages
         pub block-pages : in_pages h u ≡ true → AtPage total slot slot u super k block 0
@@ -242,11 +237,11 @@ module _ (f : List ℕ) (array : ExtensibleArray) (r : ElementReader) (first beg
           begins = s.at;
           entered = s.entered;
           inside = e;
-          rest = λ g n w.
+          rest =
               ap (plus total)
-              (ap (pages_from (es g n) (pages_of a u k) (pages h u - 0) 0 slot) (sym (behind_is g n))
-              ∙ sym (turns.blocks_paged a (es g n) u (blocks u) k slot (behind_super g n u) lt (goes g n) e.0 e.1 q))
-              ∙ s.rest g n w;
+              (ap (pages_from es (pages_of a u k) (pages h u - 0) 0 slot) (sym behind_is)
+              ∙ sym (turns.blocks_paged a es u (blocks u) k slot (behind_super u) lt goes e.0 e.1 q))
+              ∙ s.rest;
         }
 
   module _ (total from slot u super k block p : ℕ) (s : AtPage total from slot u super k block p) where
@@ -259,7 +254,7 @@ module _ (f : List ℕ) (array : ExtensibleArray) (r : ElementReader) (first beg
           few = let x = s.few in omega arith;
           at = s.begins;
           entered = s.entered;
-          rest = λ g n w. ap (plus total) (sym (page_turns.pages_none (es g n) (pages_of a u k) (pages h u) p from (behind_block g n u k) le)) ∙ s.rest g n w;
+          rest = ap (plus total) (sym (page_turns.pages_none es (pages_of a u k) (pages h u) p from (behind_block u k) le)) ∙ s.rest;
         }
 
     module _ (lt : p < pages h u) where
@@ -267,8 +262,8 @@ module _ (f : List ℕ) (array : ExtensibleArray) (r : ElementReader) (first beg
       next_from = let e = s.at in omega arith
 
       -- what is left behind this page
-      behind_page : Grid → ℕ → Listing
-      behind_page g n = pages_from (es g n) (pages_of a u k) (pages h u - (p + 1)) (p + 1) (from + page_elements h) (behind_block g n u k)
+      behind_page : Listing
+      behind_page = pages_from es (pages_of a u k) (pages h u - (p + 1)) (p + 1) (from + page_elements h) (behind_block u k)
 
       pub page_skip : EnteredPage a u k p (Ok None) → AtPage total (from + page_elements h) slot u super k block (p + 1)
       page_skip e = record {
@@ -277,35 +272,35 @@ module _ (f : List ℕ) (array : ExtensibleArray) (r : ElementReader) (first beg
         begins = s.begins;
         entered = s.entered;
         inside = s.inside;
-        rest = λ g n w. ap (plus total) (sym (page_turns.pages_clear (es g n) (pages_of a u k) (pages h u) p from (behind_block g n u k) lt e)) ∙ s.rest g n w;
+        rest = ap (plus total) (sym (page_turns.pages_clear es (pages_of a u k) (pages h u) p from (behind_block u k) lt e)) ∙ s.rest;
       }
 
       pub page_refused : (x : Refusal) → EnteredPage a u k p (Err x) → Done (Err x)
       unfolding plus
-      page_refused x e g n w =
-          ap (plus total) (sym (page_turns.pages_refused (es g n) (pages_of a u k) (pages h u) p from (behind_block g n u k) lt e.0 x e.1)) ∙ s.rest g n w
+      page_refused x e =
+          ap (plus total) (sym (page_turns.pages_refused es (pages_of a u k) (pages h u) p from (behind_block u k) lt e.0 x e.1)) ∙ s.rest
 
       module _ (pos : ℕ) (e : EnteredPage a u k p (Ok (Some pos))) where
         -- the page's elements in front of what is left, where the count ends in it and where it doesn't
-        run_last : r.count < from + page_elements h → Left total (λ (g : Grid) (n : ℕ). elements_from (es g n) pos (page_elements h) from (behind_block g n u k))
-        run_last past g n w =
+        run_last : r.count < from + page_elements h → Left total (elements_from es pos (page_elements h) from (behind_block u k))
+        run_last past =
             ap (plus total)
-            (ap (λ (x : ℕ). elements_from (es g n) x (page_elements h) from (behind_block g n u k)) e.2
-            ∙ sym (page_turns.pages_last (es g n) (pages_of a u k) (pages h u) p from (behind_block g n u k) lt e.0 e.1 past))
-            ∙ s.rest g n w
+            (ap (λ (x : ℕ). elements_from es x (page_elements h) from (behind_block u k)) e.2
+            ∙ sym (page_turns.pages_last es (pages_of a u k) (pages h u) p from (behind_block u k) lt e.0 e.1 past))
+            ∙ s.rest
 
-        run_on : from + page_elements h ≤ r.count → Left total (λ (g : Grid) (n : ℕ). elements_from (es g n) pos (page_elements h) from (behind_page g n))
+        run_on : from + page_elements h ≤ r.count → Left total (elements_from es pos (page_elements h) from (behind_page))
         unfolding behind_page
-        run_on le g n w =
+        run_on le =
             ap (plus total)
-            (ap (λ (x : ℕ). elements_from (es g n) x (page_elements h) from (behind_page g n)) e.2
-            ∙ sym (page_turns.pages_set (es g n) (pages_of a u k) (pages h u) p from (behind_block g n u k) lt e.0 e.1 le))
-            ∙ s.rest g n w
+            (ap (λ (x : ℕ). elements_from es x (page_elements h) from (behind_page)) e.2
+            ∙ sym (page_turns.pages_set es (pages_of a u k) (pages h u) p from (behind_block u k) lt e.0 e.1 le))
+            ∙ s.rest
 
         pub page_run_refused : (x : Refusal) → Counts pos (page_elements h) from (Err x) → Done (Err x)
-        page_run_refused x c g n w =
-            ⊎_elim (λ (past : r.count < from + page_elements h). sym (run_refused (es g n) pos (page_elements h) from x (sym (c g n w)) total _) ∙ run_last past g n w)
-            (λ (le : from + page_elements h ≤ r.count). sym (run_refused (es g n) pos (page_elements h) from x (sym (c g n w)) total _) ∙ run_on le g n w)
+        page_run_refused x c =
+            ⊎_elim (λ (past : r.count < from + page_elements h). sym (run_refused es pos (page_elements h) from x (sym c) total _) ∙ run_last past)
+            (λ (le : from + page_elements h ≤ r.count). sym (run_refused es pos (page_elements h) from x (sym c) total _) ∙ run_on le)
             (lt_or_ge r.count (from + page_elements h))
 
         module _ (m : ℕ) (le : m ≤ page_elements h) (c : Counts pos (page_elements h) from (Ok m)) where
@@ -318,7 +313,7 @@ module _ (f : List ℕ) (array : ExtensibleArray) (r : ElementReader) (first beg
                 few = omega arith;
                 at = s.begins;
                 entered = s.entered;
-                rest = λ g n w. sym (run_count (es g n) pos (page_elements h) from m (sym (c g n w)) total (behind_block g n u k)) ∙ run_last past g n w;
+                rest = sym (run_count es pos (page_elements h) from m (sym c) total (behind_block u k)) ∙ run_last past;
               }
 
           pub page_run_on : from + page_elements h ≤ r.count → AtPage (total + m) (from + page_elements h) slot u super k block (p + 1)
@@ -329,7 +324,7 @@ module _ (f : List ℕ) (array : ExtensibleArray) (r : ElementReader) (first beg
             begins = s.begins;
             entered = s.entered;
             inside = s.inside;
-            rest = λ g n w. sym (run_count (es g n) pos (page_elements h) from m (sym (c g n w)) total _) ∙ run_on on g n w;
+            rest = sym (run_count es pos (page_elements h) from m (sym c) total _) ∙ run_on on;
           }
 
 -- slots fit 64 bits

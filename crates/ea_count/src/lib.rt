@@ -3,7 +3,7 @@
 ghost use Rattle.std.specs.Prelude.{◌≡◌, [], ℕ, ◌-◌, Ok};
 ghost use Rattle.refusal.specs.Values.{plus};
 ghost use Rattle.chunk_grid.specs.Grid.{Grid};
-ghost use Rattle.elements.specs.Values.{elements_of, Reads};
+ghost use Rattle.elements.specs.Values.{elements_of};
 ghost use Rattle.ea_geometry.specs.Slots.{first_slot};
 ghost use Rattle.ea_blocks.specs.Values.{array_of};
 ghost use Rattle.ea_walk.specs.Walk.{supers_from};
@@ -22,18 +22,13 @@ pub mod walk;
 pub fn count_blocks(
     file: &[u8],
     array: ExtensibleArray,
-    reader: ElementReader,
+    reader: &ElementReader,
     first: u64,
     begin: u64,
     end: u64,
-    chunk: &[u64; 32],
-    bound: &[u64; 32],
-    down: &[u64; 32],
 ) -> Result<u64, Refusal>
-    requires { WalkFrom file.now array reader chunk.now bound.now down.now first begin end }
-    ensures { (grid : Grid) (n : ℕ)
-        → Reads reader chunk.now bound.now down.now grid n
-        → result ≡ plus first (supers_from (array_of file.now array) (elements_of file.now reader grid n)
+    requires { WalkFrom file.now array reader.now first begin end }
+    ensures { result ≡ plus first (supers_from (array_of file.now array) (elements_of file.now reader.now)
         (end - begin) begin (first_slot array.geometry.parameters begin) (Ok [])) }
 {
     let geometry = array.geometry;
@@ -79,7 +74,7 @@ pub fn count_blocks(
                         from += page;
                         continue 'pages;
                     };
-                    total += count_elements(file, pos, page, from, reader, chunk, bound, down)?;
+                    total += count_elements(file, pos, page, from, reader)?;
                     if count < from + page {
                         break 'pages;
                     }
@@ -87,7 +82,7 @@ pub fn count_blocks(
                 }
             } else {
                 let pos = at + geometry.block_element_at(0);
-                total += count_elements(file, pos, elements, slot, reader, chunk, bound, down)?;
+                total += count_elements(file, pos, elements, slot, reader)?;
             }
             slot += elements;
         }

@@ -3,8 +3,7 @@ ghost use Rattle.std.specs.Prelude.{◌≡◌, false, List, ℕ};
 ghost use Rattle.refusal.specs.Values.{counted_of};
 ghost use Rattle.fields.specs.Fields.{is_width};
 ghost use Rattle.chunk_grid.specs.Grid.{Grid};
-ghost use Rattle.elements.specs.Values.{elements_of, Reads};
-ghost use Rattle.walked_index.specs.Walked.{ReadBy};
+ghost use Rattle.elements.specs.Values.{elements_of};
 ghost use Rattle.ea_geometry.specs.Extents.{form_of};
 ghost use Rattle.ea_blocks.specs.Values.{array_of};
 ghost use Rattle.ea_walk.specs.Walk.{from_inline, walk};
@@ -21,16 +20,10 @@ use refusal::Refusal;
 pub fn count_walk(
     file: &[u8],
     array: ExtensibleArray,
-    reader: ElementReader,
-    chunk: &[u64; 32],
-    bound: &[u64; 32],
-    down: &[u64; 32],
+    reader: &ElementReader,
 ) -> Result<u64, Refusal>
-    requires { ReadBy (form_of array.geometry.parameters array.geometry.offset_size) reader
-        chunk.now bound.now down.now }
-    ensures { (grid : Grid) (n : ℕ)
-        → Reads reader chunk.now bound.now down.now grid n
-        → result ≡ counted_of (walk (array_of file.now array) (elements_of file.now reader grid n)) }
+    requires { form_of array.geometry.parameters array.geometry.offset_size ≡ reader.now.form }
+    ensures { result ≡ counted_of (walk (array_of file.now array) (elements_of file.now reader.now)) }
 {
     test_array(file, array)?;
     let geometry = array.geometry;
@@ -39,18 +32,17 @@ pub fn count_walk(
     }
     let pos = array.index_at + geometry.inline_element_at(0);
     let inline = geometry.parameters.idx_blk_elmts as u64;
-    let n = count_elements(file, pos, inline, 0, reader, chunk, bound, down)?;
+    let n = count_elements(file, pos, inline, 0, reader)?;
     let supers = geometry.super_blocks();
-    count_blocks(file, array, reader, n, 0, supers, chunk, bound, down)
+    count_blocks(file, array, reader, n, 0, supers)
 }
 
 // What is behind the index block's test where the offset size isn't a width: the refusal of the first element, or of
 // the first pointer where there are no inline elements; nothing where the count is 0.
-fn count_unreadable(array: ExtensibleArray, reader: ElementReader) -> Result<u64, Refusal>
-    requires { (form_of array.geometry.parameters array.geometry.offset_size ≡ reader.form)
+fn count_unreadable(array: ExtensibleArray, reader: &ElementReader) -> Result<u64, Refusal>
+    requires { (form_of array.geometry.parameters array.geometry.offset_size ≡ reader.now.form)
         × (is_width array.geometry.offset_size ≡ false) }
-    ensures { (file : List ℕ) (grid : Grid) (n : ℕ)
-        → result ≡ counted_of (from_inline (array_of file array) (elements_of file reader grid n)) }
+    ensures { (file : List ℕ) → result ≡ counted_of (from_inline (array_of file array) (elements_of file reader.now)) }
 {
     if reader.count == 0 {
         return Ok(0);

@@ -1,16 +1,16 @@
 #![tactic(auto)]
 // The header of an extensible array.
-ghost use Rattle.std.specs.Prelude.{◌≡◌, true, ◌+◌, ◌≤◌, length};
-ghost use Rattle.refusal.specs.Refusals.{figure};
-ghost use Rattle.fields.specs.Fields.{is_width};
+ghost use Rattle.std.specs.Prelude.{◌≡◌, ◌+◌, ◌≤◌, length, Ok};
+ghost use Rattle.std.proofs.Common.{arith};
+ghost use Rattle.refusal.specs.Outcome.{◌yields◌};
+ghost use Rattle.refusal.specs.declared.Refusal.TheVariants.{HeaderSignature};
 ghost use Rattle.checksum.specs.Lookup3.{lookup3};
 ghost use Rattle.ea_header.specs.Header.{header_bytes, parameters_at, header_at, header_test};
-ghost use Rattle.ea_header.specs.Values.{parsed_at};
 ghost use Rattle.ea_header.specs.Served.{served, served_test};
 
 use fields::bytes::{read_address, read_le};
 use refusal::Refusal;
-use structures::header::test_header;
+use structures::header::{self, IndexHeader};
 
 // The parameters of an extensible array: sizes, extents and places of its structures follow from them and the offset
 // size alone.
@@ -42,35 +42,53 @@ pub struct ExtensibleArrayHeader {
 }
 
 impl ExtensibleArrayHeader {
-    // "EAHD"
-    pub const SIGNATURE: u32 = 0x4448_4145;
-
     // Reads the header at an address of a file. In this order it is refused: 20 where it does not lie in the file
     // with the sizes as given, 21 and 22 for its signature and version, 2 and 1 for the sizes, 26 for its checksum.
+    #[tactic(auto, unfolding(crate::specs::Header::header_test))]
     pub fn parse(
         file: &[u8],
         address: u64,
         offset_size: u64,
         length_size: u64,
     ) -> Result<Self, Refusal>
-        ensures { result ≡ parsed_at lookup3 file.now address offset_size length_size }
+        ensures { result ≡ (header_test lookup3 file.now address offset_size length_size
+            yields Ok (header_at file.now address offset_size length_size)) }
     {
-        header_test(file, address, offset_size, length_size)?;
-        Ok(read_header(
-            file,
-            address as usize,
-            offset_size as usize,
-            length_size as usize,
-        ))
+        header::parse(file, address, offset_size, length_size)
     }
+}
 
-    // The bytes of a header; past 2^64 - 1 it is 2^64 - 1.
-    pub fn serialized_size(offset_size: u64, length_size: u64) -> u64
-        ensures { result ≡ figure (header_bytes offset_size length_size) }
-    {
+impl IndexHeader for ExtensibleArrayHeader {
+    // "EAHD"
+    const SIGNATURE: u32 = 0x4448_4145;
+
+    const WRONG_SIGNATURE: Refusal = Refusal::HeaderSignature;
+
+    ghost SIGNATURE = { 0x4448_4145 };
+
+    ghost WRONG_SIGNATURE = { HeaderSignature };
+
+    ghost bytes = { header_bytes };
+
+    ghost at = { header_at };
+
+    #[tactic(auto, unfolding(refusal::specs::Refusals::figure))]
+    fn serialized_size(offset_size: u64, length_size: u64) -> u64 {
         let statistics = length_size.saturating_mul(6);
         statistics.saturating_add(16).saturating_add(offset_size)
     }
+
+    fn read_at(file: &[u8], pos: usize, offset_size: usize, length_size: usize) -> Self {
+        let count = read_le(file, pos + 12 + 4 * length_size, length_size);
+        let index = read_address(file, pos + 12 + 6 * length_size, offset_size);
+        Self {
+            parameters: read_parameters(file, pos),
+            num_elements: count,
+            index_block_address: index.value,
+        }
+    }
+
+    ghost has_form = { λ o l. omega arith };
 }
 
 impl Parameters {
@@ -91,6 +109,7 @@ impl Parameters {
     }
 
     // 27 where the header is not served.
+    #[tactic(auto, unfolding(crate::specs::Served::served_test, refusal::specs::Refusals::refuse))]
     pub fn served_test(self) -> Result<(), Refusal>
         ensures { result ≡ served_test self }
     {
@@ -102,43 +121,8 @@ impl Parameters {
     }
 }
 
-// Tests the header at an address.
-fn header_test(file: &[u8], address: u64, offset_size: u64, length_size: u64) -> Result<(), Refusal>
-    ensures { result ≡ header_test lookup3 file.now address offset_size length_size }
-{
-    let size = ExtensibleArrayHeader::serialized_size(offset_size, length_size);
-    test_header(
-        file,
-        Refusal::HeaderSignature,
-        ExtensibleArrayHeader::SIGNATURE,
-        address,
-        size,
-        offset_size,
-        length_size,
-    )
-}
-
-// The fields of the header at pos.
-fn read_header(
-    file: &[u8],
-    pos: usize,
-    offset_size: usize,
-    length_size: usize,
-) -> ExtensibleArrayHeader
-    requires { (pos + header_bytes offset_size length_size ≤ length file.now) × (is_width offset_size ≡ true)
-        × (is_width length_size ≡ true) }
-    ensures { result ≡ header_at file.now pos offset_size length_size }
-{
-    let count = read_le(file, pos + 12 + 4 * length_size, length_size);
-    let index = read_address(file, pos + 12 + 6 * length_size, offset_size);
-    ExtensibleArrayHeader {
-        parameters: read_parameters(file, pos),
-        num_elements: count,
-        index_block_address: index.value,
-    }
-}
-
 // The parameters of the header at pos.
+#[tactic(auto, unfolding(crate::specs::Header::parameters_at))]
 fn read_parameters(file: &[u8], pos: usize) -> Parameters
     requires { pos + 12 ≤ length file.now }
     ensures { result ≡ parameters_at file.now pos }

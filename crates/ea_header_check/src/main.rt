@@ -6,6 +6,7 @@ ghost use Rattle.std.specs.Prelude.{◌<◌};
 use ea_header::{ExtensibleArrayHeader, Parameters};
 use refusal::Refusal;
 use std::io;
+use structures::header::IndexHeader;
 
 fn print_parameters(rt: &impl Print, p: Parameters) -> io::Result<()> {
     print!(rt;

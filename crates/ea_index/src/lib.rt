@@ -3,7 +3,7 @@
 ghost use Rattle.std.specs.Prelude.{◌≡◌, ℕ, refl, Err, Ok};
 ghost use Rattle.checksum.specs.Lookup3.{lookup3};
 ghost use Rattle.chunk_grid.specs.Grid.{Grid};
-ghost use Rattle.elements.specs.Values.{elements_of, Reads};
+ghost use Rattle.elements.specs.Values.{elements_of};
 ghost use Rattle.ea_header.specs.Header.{header_at, header_test};
 ghost use Rattle.ea_geometry.specs.Extents.{form_of};
 ghost use Rattle.ea_blocks.specs.Values.{array_of};
@@ -67,15 +67,8 @@ impl WalkedIndex for ArrayIndex {
         test_array(file, self.array)
     }
 
-    fn count_walk(
-        self,
-        file: &[u8],
-        reader: ElementReader,
-        chunk: &[u64; 32],
-        bound: &[u64; 32],
-        down: &[u64; 32],
-    ) -> Result<u64, Refusal> {
-        ea_count::walk::count_walk(file, self.array, reader, chunk, bound, down)
+    fn count_walk(self, file: &[u8], reader: &ElementReader) -> Result<u64, Refusal> {
+        ea_count::walk::count_walk(file, self.array, reader)
     }
 
     fn run_of(self, file: &[u8], slot: u64) -> Run {

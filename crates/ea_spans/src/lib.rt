@@ -17,12 +17,13 @@ use refusal::Refusal;
 use span_count::count::count_index;
 use span_count::tests::parse_served;
 use span_walk::Span;
+use structures::header::IndexHeader;
 
 mod write;
 
 // Lists the spans of the index whose header lies at an address: their addresses and their lengths, from number 0 on.
 // The answer is how many they are. After a refusal both lists are as they were; 9 tells how many numbers each list
-// must hold.
+// must hold. (Two lists, as C lends them.)
 pub fn extensible_array_index_spans(
     file: &[u8],
     address: u64,

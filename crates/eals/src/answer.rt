@@ -7,10 +7,11 @@ ghost use Rattle.list_text.specs.Printed.{Put};
 ghost use Rattle.eals.specs.Program.{listing_of, counted_text, records_counted, program_text};
 
 use calls::CallNumbers;
-use ea_list::call::list_at;
+use ea_index::ArrayIndex;
 use list_text::{put_list, put_refusal, put_text};
 use questions::{Question, file_of, parse};
 use refusal::Refusal;
+use walked_index::call::list_at;
 
 // Lists the chunks that a question asks for.
 fn list_chunks(
@@ -38,7 +39,7 @@ fn list_chunks(
         rank: question.rank,
         has_maximum: 1,
     };
-    list_at(
+    list_at::<ArrayIndex>(
         file,
         asked,
         &numbers[48..chunk_end],

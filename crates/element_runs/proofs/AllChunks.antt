@@ -18,16 +18,14 @@ use Rattle.fields.specs.LittleEndian.{le_at}
 use Rattle.fields.specs.Fields.{size_test}
 use Rattle.fields.proofs.LittleEndian.{le_small}
 use Rattle.chunk_grid.specs.Grid.{Grid}
-use Rattle.chunk_grid.specs.Values.{in_extent, offsets_of}
+use Rattle.chunk_grid.specs.Values.{GridNumbers, Extents, in_extent, offsets_of}
 use Rattle.chunk_slots.specs.AllInside.{all_inside}
 use Rattle.chunk_slots.proofs.AllInside.{all_inside_lem}
 use Rattle.element_form.specs.declared.Form.{Form}
 use Rattle.element_form.specs.Form.{filtered, stride, size_bytes, element_size_test}
 use Rattle.index.specs.Index.{Listing}
-use Rattle.elements.specs.declared.ElementReader.{ElementReader}
 use Rattle.elements.specs.Elements.{Elements, chunk_bytes, undefined_element, size_at, entry_test, element}
 use Rattle.elements.specs.Runs.{also_element, elements_from}
-use Rattle.elements.specs.Values.{Reads}
 use Rattle.elements.proofs.Elements.{record_here, chunk_here}
 use Rattle.element_runs.specs.Defined.{defined_count, sizes_fit, all_chunks}
 use Rattle.element_runs.proofs.Skipping.{skip_one}
@@ -98,12 +96,12 @@ module _ (es : Elements) (bytes : (i : ℕ) → get_or es.file i 0 < 256) (t : e
           (λ u. defined_one pos j s k here (omega arith) u ∙ later (k + 1) ∙ ap (λ (m : ℕ). plus m rest) (omega arith))
 
   -- the first n slots
-  pub all_counted : {r : ElementReader} {chunk bound down : List ℕ} → Reads r chunk bound down es.grid es.element_bytes
+  pub all_counted : {rank u : ℕ} {chunk bound down : List ℕ} {numbers : Bool} → GridNumbers rank u chunk down es.grid → Extents rank numbers bound es.grid
       → (n : ℕ) → all_chunks es.form es.grid es.element_bytes n ≡ true → (pos j s : ℕ) → s + j ≤ n → s + j ≤ es.count
       → Ok (defined_count es.file pos j (stride es.form) es.form.offset_size) ≡ counted_of (elements_from es pos j s (Ok []))
   unfolding all_chunks
-  all_counted q n all pos j s h l =
+  all_counted g x n all pos j s h l =
       let parts = both (sizes_fit es.form es.grid es.element_bytes) (all_inside es.grid n) all in
-      let reached = all_inside_lem es.grid _ _ _ _ q.numbered _ _ q.extended n parts.1 in
+      let reached = all_inside_lem es.grid _ _ _ _ g _ _ x n parts.1 in
       let e = inside_counted parts.0 (Ok []) pos j s 0 (λ i b. reached (s + i) (omega arith)) l in
       ap Ok (omega arith) ∙ sym (e ∙ plus_none _ _ refl) ∙ plus_zero _

@@ -1,16 +1,13 @@
 // A run of elements tested, and its records counted.
-ghost use Rattle.std.specs.Prelude.{◌≡◌, true, List, [], ℕ, ◌+◌, ◌-◌, ◌<◌, ◌≤◌, min, Ok};
-ghost use Rattle.refusal.specs.Refusals.{figure};
+ghost use Rattle.std.specs.Prelude.{◌≡◌, true, [], ℕ, ◌+◌, ◌-◌, ◌*◌, ◌<◌, ◌≤◌, min, length, Ok};
+ghost use Rattle.refusal.specs.Refusals.{largest64};
 ghost use Rattle.refusal.specs.Values.{counted_of};
-ghost use Rattle.chunk_grid.specs.Grid.{Grid};
-ghost use Rattle.chunk_grid.specs.Values.{in_extent, offsets_of};
-ghost use Rattle.element_form.specs.Form.{element_size_test};
+ghost use Rattle.chunk_grid.specs.Values.{grid_of, in_extent, offsets_of};
 ghost use Rattle.chunk_slots.specs.Values.{handed};
-ghost use Rattle.elements.specs.Elements.{chunk_bytes};
+ghost use Rattle.element_form.specs.Form.{stride, element_size_test};
 ghost use Rattle.elements.specs.Runs.{elements_from};
-ghost use Rattle.elements.specs.Values.{elements_of, Reads};
+ghost use Rattle.elements.specs.Values.{elements_of};
 ghost use Rattle.element_runs.specs.Defined.{sizes_fit, all_chunks};
-ghost use Rattle.element_runs.specs.Values.{RunInFile};
 
 use crate::defined::{count_defined, undefined_run};
 use chunk_slots::{all_inside, line_from};
@@ -31,15 +28,10 @@ pub fn count_elements(
     pos: u64,
     n: u64,
     slot: u64,
-    reader: ElementReader,
-    chunk: &[u64; 32],
-    bound: &[u64; 32],
-    down: &[u64; 32],
+    reader: &ElementReader,
 ) -> Result<u64, Refusal>
-    requires { RunInFile file.now reader chunk.now bound.now down.now pos n }
-    ensures { (grid : Grid) (m : ℕ)
-        → Reads reader chunk.now bound.now down.now grid m
-        → result ≡ counted_of (elements_from (elements_of file.now reader grid m) pos n slot (Ok [])) }
+    requires { pos + n * stride reader.now.form ≤ length file.now }
+    ensures { result ≡ counted_of (elements_from (elements_of file.now reader.now) pos n slot (Ok [])) }
 {
     let left = below_count(n, slot, reader.count);
     if left == 0 {
@@ -47,11 +39,11 @@ pub fn count_elements(
     }
     reader.form.test()?;
     let start = pos as usize;
-    if all_chunks(slot + left, reader, bound, down) {
+    if all_chunks(slot + left, reader) {
         let stride = reader.form.stride() as usize;
         return Ok(count_defined(file, start, left, stride, reader.form.offset_size));
     }
-    count_each_element(file, start, left, slot, reader, chunk, bound, down)
+    count_each_element(file, start, left, slot, reader)
 }
 
 // How many of n slots from `slot` on lie below the count.
@@ -62,26 +54,20 @@ pub fn below_count(n: u64, slot: u64, count: u64) -> u64
 }
 
 // Whether every defined element of the first n slots is a chunk's.
-fn all_chunks(n: u64, reader: ElementReader, bound: &[u64; 32], down: &[u64; 32]) -> bool
-    requires { (element_size_test reader.form ≡ Ok tt)
-        × ((grid : Grid) × (m : ℕ) × (chunk : List ℕ) × Reads reader chunk bound.now down.now grid m) }
-    ensures { (grid : Grid) (m : ℕ) (chunk : List ℕ)
-        → Reads reader chunk bound.now down.now grid m
-        → result ≡ all_chunks reader.form grid m n }
+fn all_chunks(n: u64, reader: &ElementReader) -> bool
+    requires { element_size_test reader.now.form ≡ Ok tt }
+    ensures { let r = reader.now in result ≡ all_chunks r.form (grid_of r.numbering.now.grid.now) r.element_bytes n }
 {
     if !sizes_fit(reader) {
         return false;
     }
-    let rank = reader.rank as usize;
-    let rotated = reader.rotated as usize;
-    all_inside(n, rank, rotated, reader.numbers, bound, down)
+    all_inside(n, reader.numbering)
 }
 
 // Whether no size passes 2^32 - 1.
-fn sizes_fit(reader: ElementReader) -> bool
-    requires { element_size_test reader.form ≡ Ok tt }
-    ensures { (grid : Grid) (m : ℕ) → reader.chunk_bytes ≡ figure (chunk_bytes grid m)
-        → result ≡ sizes_fit reader.form grid m }
+fn sizes_fit(reader: &ElementReader) -> bool
+    requires { element_size_test reader.now.form ≡ Ok tt }
+    ensures { let r = reader.now in result ≡ sizes_fit r.form (grid_of r.numbering.now.grid.now) r.element_bytes }
 {
     let form = reader.form;
     if form.is_filtered() {
@@ -97,24 +83,19 @@ fn reach_from(
     slot: u64,
     n: u64,
     lines: bool,
-    reader: ElementReader,
-    chunk: &[u64; 32],
-    bound: &[u64; 32],
-    down: &[u64; 32],
+    reader: &ElementReader,
 ) -> Reach
-    requires { (grid : Grid) × (m : ℕ) × Reads reader chunk.now bound.now down.now grid m }
-    ensures { (result.slots ≤ n) × (0 < result.slots → lines ≡ true)
-        × ((grid : Grid) (m : ℕ) → Reads reader chunk.now bound.now down.now grid m
-        → (result.reached ≡ offsets_of (in_extent grid slot))
+    ensures { let grid = grid_of reader.now.numbering.now.grid.now in
+        (result.slots ≤ n) × (0 < result.slots → lines ≡ true)
+        × (result.reached ≡ offsets_of (in_extent grid slot))
         × ((j : ℕ) → j < result.slots → offsets_of (in_extent grid (slot + j)) ≡ Ok true)
-        × (offsets.new ≡ handed grid slot offsets.old)) }
+        × (offsets.new ≡ handed grid slot offsets.old) }
 {
-    let reached = reader.reach(offsets, slot, chunk, bound, down);
+    let reached = reader.reach(offsets, slot);
     let mut slots = 0;
     if lines {
         if let Ok(true) = reached {
-            let rank = reader.rank as usize;
-            let line = line_from(slot, rank, reader.rotated as usize, bound, down);
+            let line = line_from(slot, reader.numbering);
             slots = below_count(line.slots, 0, n);
         }
     }
@@ -128,16 +109,11 @@ fn count_each_element(
     pos: usize,
     n: u64,
     slot: u64,
-    reader: ElementReader,
-    chunk: &[u64; 32],
-    bound: &[u64; 32],
-    down: &[u64; 32],
+    reader: &ElementReader,
 ) -> Result<u64, Refusal>
-    requires { RunInFile file.now reader chunk.now bound.now down.now pos n
-        × (element_size_test reader.form ≡ Ok tt) × (slot + n ≤ reader.count) }
-    ensures { (grid : Grid) (m : ℕ)
-        → Reads reader chunk.now bound.now down.now grid m
-        → result ≡ counted_of (elements_from (elements_of file.now reader grid m) pos n slot (Ok [])) }
+    requires { (pos + n * stride reader.now.form ≤ length file.now)
+        × (element_size_test reader.now.form ≡ Ok tt) × (slot + n ≤ reader.now.count) × (slot + n ≤ largest64) }
+    ensures { result ≡ counted_of (elements_from (elements_of file.now reader.now) pos n slot (Ok [])) }
 {
     let stride = reader.form.stride() as usize;
     let width = reader.form.offset_size;
@@ -146,7 +122,8 @@ fn count_each_element(
     let mut count = 0;
     let mut at = pos;
     let mut i = 0;
-    // The first i elements are passed, `count` of them chunks', and the next is at `at`.
+    // The first i elements are passed, `count` of them chunks', and the next is at `at`. (By index: a step is a whole
+    // line or gap.)
     while i < n {
         let gap = undefined_run(file, at, n - i, stride, width);
         if 0 < gap {
@@ -154,16 +131,7 @@ fn count_each_element(
             i += gap;
             continue;
         }
-        let reach = reach_from(
-            &mut offsets,
-            slot + i,
-            n - i,
-            fit,
-            reader,
-            chunk,
-            bound,
-            down,
-        );
+        let reach = reach_from(&mut offsets, slot + i, n - i, fit, reader);
         let m = reach.slots;
         if 0 < m {
             count += count_defined(file, at, m, stride, width);

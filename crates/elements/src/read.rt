@@ -1,13 +1,11 @@
 // One element of an index: its tests, and what it holds.
 ghost use Rattle.std.specs.Prelude.{◌≡◌, false, List, ℕ, ◌+◌, ◌≤◌, length, Ok, true};
-ghost use Rattle.refusal.specs.Refusals.{figure};
 ghost use Rattle.refusal.specs.Outcome.{◌yields◌};
 ghost use Rattle.fields.specs.Fields.{address_at, undefined_at, size_test};
-ghost use Rattle.chunk_grid.specs.Grid.{Grid};
-ghost use Rattle.chunk_grid.specs.Values.{in_extent, offsets_of};
+ghost use Rattle.chunk_grid.specs.Values.{grid_of, in_extent, offsets_of};
 ghost use Rattle.element_form.specs.Form.{stride, element_size_test};
-ghost use Rattle.elements.specs.Elements.{chunk_bytes, entry_at, entry_test, element};
-ghost use Rattle.elements.specs.Values.{found_of, recorded, elements_of, Reads};
+ghost use Rattle.elements.specs.Elements.{entry_at, entry_test, element};
+ghost use Rattle.elements.specs.Values.{found_of, recorded, elements_of};
 
 use crate::ElementReader;
 use fields::address::is_undefined_addr;
@@ -21,16 +19,10 @@ pub fn read_element(
     file: &[u8],
     pos: usize,
     slot: u64,
-    reader: ElementReader,
-    chunk: &[u64; 32],
-    bound: &[u64; 32],
-    down: &[u64; 32],
+    reader: &ElementReader,
 ) -> Result<Option<Entry>, Refusal>
-    requires { ((grid : Grid) × (n : ℕ) × Reads reader chunk.now bound.now down.now grid n)
-        × (pos + stride reader.form ≤ length file.now) }
-    ensures { (grid : Grid) (n : ℕ)
-        → Reads reader chunk.now bound.now down.now grid n
-        → result ≡ found_of (element (elements_of file.now reader grid n) pos slot) }
+    requires { pos + stride reader.now.form ≤ length file.now }
+    ensures { result ≡ found_of (element (elements_of file.now reader.now) pos slot) }
 {
     reader.form.test()?;
     let width = reader.form.offset_size;
@@ -39,7 +31,7 @@ pub fn read_element(
         return Ok(None);
     }
     let mut offsets = [0u64; 32];
-    let reached = reader.reach(&mut offsets, slot, chunk, bound, down);
+    let reached = reader.reach(&mut offsets, slot);
     read_defined_element(file, pos, reader, reached)
 }
 
@@ -48,14 +40,13 @@ pub fn read_element(
 pub fn read_defined_element(
     file: &[u8],
     pos: usize,
-    reader: ElementReader,
+    reader: &ElementReader,
     reached: Result<bool, Refusal>,
 ) -> Result<Option<Entry>, Refusal>
-    requires { (element_size_test reader.form ≡ Ok tt) × (pos + stride reader.form ≤ length file.now)
-        × (undefined_at file.now pos reader.form.offset_size ≡ false) }
-    ensures { (grid : Grid) (n s : ℕ) → reader.chunk_bytes ≡ figure (chunk_bytes grid n)
-        → reached ≡ offsets_of (in_extent grid s)
-        → result ≡ found_of (element (elements_of file.now reader grid n) pos s) }
+    requires { (element_size_test reader.now.form ≡ Ok tt) × (pos + stride reader.now.form ≤ length file.now)
+        × (undefined_at file.now pos reader.now.form.offset_size ≡ false) }
+    ensures { (s : ℕ) → reached ≡ offsets_of (in_extent (grid_of reader.now.numbering.now.grid.now) s)
+        → result ≡ found_of (element (elements_of file.now reader.now) pos s) }
 {
     if reached? {
         read_inside_element(file, pos, reader)
@@ -69,12 +60,11 @@ pub fn read_defined_element(
 pub fn read_inside_element(
     file: &[u8],
     pos: usize,
-    reader: ElementReader,
+    reader: &ElementReader,
 ) -> Result<Option<Entry>, Refusal>
-    requires { (element_size_test reader.form ≡ Ok tt) × (pos + stride reader.form ≤ length file.now) }
-    ensures { (grid : Grid) (n s : ℕ) → reader.chunk_bytes ≡ figure (chunk_bytes grid n)
-        → offsets_of (in_extent grid s) ≡ Ok true
-        → result ≡ found_of (element (elements_of file.now reader grid n) pos s) }
+    requires { (element_size_test reader.now.form ≡ Ok tt) × (pos + stride reader.now.form ≤ length file.now) }
+    ensures { (s : ℕ) → offsets_of (in_extent (grid_of reader.now.numbering.now.grid.now) s) ≡ Ok true
+        → result ≡ found_of (element (elements_of file.now reader.now) pos s) }
 {
     let width = reader.form.offset_size;
     let address = read_address(file, pos, width as usize);
@@ -88,13 +78,12 @@ pub fn read_inside_element(
 fn read_entry(
     file: &[u8],
     pos: usize,
-    reader: ElementReader,
+    reader: &ElementReader,
     address: u64,
 ) -> Result<Option<Entry>, Refusal>
-    requires { (element_size_test reader.form ≡ Ok tt) × (pos + stride reader.form ≤ length file.now)
-        × (address ≡ address_at file.now pos reader.form.offset_size) }
-    ensures { (grid : Grid) (n : ℕ) (corner : List ℕ) → reader.chunk_bytes ≡ figure (chunk_bytes grid n)
-        → (let e = elements_of file.now reader grid n in
+    requires { (element_size_test reader.now.form ≡ Ok tt) × (pos + stride reader.now.form ≤ length file.now)
+        × (address ≡ address_at file.now pos reader.now.form.offset_size) }
+    ensures { (corner : List ℕ) → (let e = elements_of file.now reader.now in
         result ≡ found_of (entry_test e pos yields recorded corner (entry_at e pos))) }
 {
     let form = reader.form;

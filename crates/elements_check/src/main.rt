@@ -35,17 +35,10 @@ fn print_read(
     if let Err(r) = grid.test() {
         return print_refusal(rt, r);
     }
-    let mut counts = [0u64; 32];
-    let mut bound = [0u64; 32];
-    let mut down = [0u64; 32];
-    let numbering = grid.numbering(&mut counts, &mut bound, &mut down);
-    let chunk = grid.chunk;
-    let reader = ElementReader::new(form, 3, grid.rank, &chunk, numbering, element_bytes);
+    let numbering = grid.numbering();
+    let reader = ElementReader::new(form, 3, &numbering, element_bytes);
     if form.stride() <= file.len() as u64 {
-        print_found(
-            rt,
-            read_element(file, 0, slot, reader, &chunk, &bound, &down),
-        )?;
+        print_found(rt, read_element(file, 0, slot, &reader))?;
     }
     Ok(())
 }
@@ -82,8 +75,7 @@ fn line() -> Result<ChunkGrid, Refusal> {
         1,
         &[10u64],
         &[25u64],
-        true,
-        &[u64::MAX],
+        Some(&[u64::MAX]),
         GridOrder::UnlimitedFirst,
     )
 }
@@ -94,8 +86,7 @@ fn tall(count: u64) -> Result<ChunkGrid, Refusal> {
         2,
         &[0x8000_0000_0000_0000u64, 1],
         &[1u64, 1],
-        true,
-        &[u64::MAX, count],
+        Some(&[u64::MAX, count]),
         GridOrder::UnlimitedFirst,
     )
 }

@@ -1,18 +1,20 @@
 -- Laws of a fixed array's structures and their tests: a structure that has passed lies in the file. Assumes nothing.
 use Prim.Native.Nat.{ℕ, ◌+◌, ◌*◌, ◌^◌, ◌<◌, ◌≤◌}
-use mathlib.Core.Path.{◌≡◌, sym, ◌∙◌}
-use mathlib.Core.Bool.{true}
+use mathlib.Core.Path.{◌≡◌, ◌∙◌}
+use mathlib.Core.Bool.{cond}
 use mathlib.Core.List.{List}
 use native.Mathlib.Omega.{arith}
 use lib.ListN.{length}
 use borrow.Author.Tests.{lt-ltb, le-ltb}
-use Rattle.std.specs.Prelude.{Err, Ok, Some}
+use Rattle.std.specs.Prelude.{Err, None, Ok, Option, Some}
 use Rattle.refusal.specs.declared.Refusal.TheVariants.{SpanOverflow}
-use Rattle.refusal.specs.Refusals.{figure, largest64}
+use Rattle.refusal.specs.Refusals.{figure, largest64, Outcome}
 use Rattle.refusal.proofs.Tests.{refuse_false, refuse_true, then_first, then_second, then_inv}
 use Rattle.structures.specs.declared.Kind.TheVariants.{Page}
 use Rattle.structures.specs.Structures.{structure_test}
 use Rattle.structures.specs.PageBits.{bit_bytes}
+use Rattle.structures.specs.Entered.{entered}
+use Rattle.structures.proofs.Entering.{entered_where}
 use Rattle.structures.proofs.StructureTests.{structure_inside, figures_structure}
 use Rattle.element_form.specs.Form.{room_test}
 use Rattle.fa_geometry.specs.declared.FixedArray.{FixedArray as ArrayValue}
@@ -56,10 +58,11 @@ module _ (a : FixedArray) where
     unfolding fixed_page_test
     page_tested short le = figures_structure _ _ _ _ _ short ∙ then_second _ _ (refuse_false _ _ (le-ltb largest64 _ le))
 
-    -- a page that is set and has passed its test, by its position as it is given
-    pub page_passed : (at : ℕ) → length a.file < 2 ^ 63 → fixed_page_set a p ≡ true → Ok tt ≡ fixed_page_test a p
-        → at ≡ figure (fixed_page_position a p) → EnteredFixedPage a p (Ok (Some at))
-    page_passed at short s e w = (s, sym e, rw (← page_figure short (sym e)) w)
+    -- what a page comes to where it is stepped into, by its position as it is given
+    pub page_entered : (x : Outcome (Option ℕ)) → length a.file < 2 ^ 63
+        → x ≡ entered (cond (fixed_page_set a p) (Some (figure (fixed_page_position a p))) None) (fixed_page_test a p) → EnteredFixedPage a p x
+    page_entered x short e =
+        entered_where (EnteredFixedPage a p) _ _ _ x e (λ s. s) (λ s t. (s, t, page_figure short t)) (λ r s t. (s, t))
 
     -- a page that was stepped into lies in the file
     pub entered_inside : (at : ℕ) → EnteredFixedPage a p (Ok (Some at)) → at + fixed_page_extent a.header a.offset_size p ≤ length a.file

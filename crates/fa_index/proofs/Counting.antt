@@ -7,6 +7,7 @@ use mathlib.Core.Bool.{true}
 use mathlib.Core.List.{List, []}
 use mathlib.Core.Logic.{⊎_elim}
 use native.Mathlib.Omega.{arith}
+use lib.ListN.{length}
 use Rattle.std.specs.Prelude.{Err, None, Ok, Option, Some}
 use Rattle.refusal.specs.Refusals.{Outcome}
 use Rattle.refusal.specs.declared.Refusal.{Refusal}
@@ -15,15 +16,14 @@ use Rattle.refusal.proofs.Tests.{lt_or_ge}
 use Rattle.refusal.proofs.Counts.{plus_none, plus_zero, counted_inv}
 use Rattle.structures.specs.declared.enter.Ahead.{Ahead}
 use Rattle.structures.specs.Entered.{TestedBy}
-use Rattle.chunk_grid.specs.Grid.{Grid}
 use Rattle.index.specs.Index.{Listing}
 use Rattle.elements.specs.declared.ElementReader.{ElementReader}
+use Rattle.element_form.specs.Form.{stride}
 use Rattle.elements.specs.Elements.{Elements}
 use Rattle.elements.specs.Runs.{elements_from, pages_from}
-use Rattle.elements.specs.Values.{elements_of, Reads}
+use Rattle.elements.specs.Values.{elements_of}
 use Rattle.elements.proofs.Runs.{run_count, run_refused, run_clamp, run_length}
 use Rattle.elements.proofs.Pages.{pages_none, pages_clear, pages_refused, pages_last, pages_set}
-use Rattle.element_runs.specs.Values.{RunInFile}
 use Rattle.fa_header.specs.declared.FixedArrayHeader.{FixedArrayHeader}
 use Rattle.fa_geometry.specs.declared.FixedArray.{FixedArray as ArrayValue}
 use Rattle.fa_geometry.specs.Layout.{fixed_page_elements, is_paged, fixed_pages, page_entries}
@@ -43,9 +43,6 @@ pub record Setting : Type 0 where
   pub file : List ℕ
   pub array : ArrayValue
   pub reader : ElementReader
-  pub chunk : List ℕ
-  pub bound : List ℕ
-  pub down : List ℕ
   pub pages : ℕ
   pub page : ℕ
 
@@ -56,31 +53,27 @@ module _ (w : Setting) where
   abbrev h : FixedArrayHeader
   h = w.array.header
 
-  abbrev es : Grid → ℕ → Elements
-  es g n = elements_of w.file w.reader g n
+  abbrev es : Elements
+  es = elements_of w.file w.reader
 
   -- the walk from page p on, and the whole
-  abbrev left : Grid → ℕ → ℕ → Listing
-  left g n p = pages_from (es g n) (fixed_pages_of a) (fixed_pages h - p) p (p * fixed_page_elements h) (Ok [])
+  abbrev left : ℕ → Listing
+  left p = pages_from es (fixed_pages_of a) (fixed_pages h - p) p (p * fixed_page_elements h) (Ok [])
 
-  abbrev whole : Grid → ℕ → Outcome ℕ
-  whole g n = counted_of (pages_from (es g n) (fixed_pages_of a) (fixed_pages h) 0 0 (Ok []))
+  abbrev whole : Outcome ℕ
+  whole = counted_of (pages_from es (fixed_pages_of a) (fixed_pages h) 0 0 (Ok []))
 
-  -- an answer is the whole's, for every grid and element size that the reader is made of
-  abbrev pub Is : (Grid → ℕ → Outcome ℕ) → Type 0
-  Is x = (g : Grid) (n : ℕ) → Reads w.reader w.chunk w.bound w.down g n → x g n ≡ whole g n
-
-  -- done, with this answer
+  -- this answer is the whole's
   abbrev pub Done : Outcome ℕ → Type 0
-  Done x = Is (λ (g : Grid) (n : ℕ). x)
+  Done x = x ≡ whole
 
   -- n elements from pos on, of the slots from s on, are counted, or refused
   abbrev pub Run : ℕ → ℕ → ℕ → Outcome ℕ → Type 0
-  Run pos j s x = (g : Grid) (n : ℕ) → Reads w.reader w.chunk w.bound w.down g n → x ≡ counted_of (elements_from (es g n) pos j s (Ok []))
+  Run pos j s x = x ≡ counted_of (elements_from es pos j s (Ok []))
 
   -- what doesn't change
   pub record Fixed : Type 0 where
-    pub by : ReadsAll w.array w.reader w.chunk w.bound w.down
+    pub by : ReadsAll w.array w.reader
     pub block : BlockInFile w.file w.array
     pub paged : is_paged h ≡ true
     pub pages_are : w.pages ≡ fixed_pages h
@@ -91,18 +84,18 @@ module _ (w : Setting) where
     pub fixed : Fixed
     pub few : total ≤ p * w.page
     pub ahead_is : TestedBy (fixed_page_test a) ahead
-    pub rest : Is (λ (g : Grid) (n : ℕ). plus total (left g n p))
+    pub rest : Done (plus total (left p))
 
   pub pages-first : Fixed → InPages 0 None 0
   pages-first x = record {
     fixed = x;
     few = omega arith;
     ahead_is = tt;
-    rest = λ g n r. plus_zero _ ∙ ap counted_of (first g n);
+    rest = plus_zero _ ∙ ap counted_of first;
   }
     where
-      first : (g : Grid) (n : ℕ) → left g n 0 ≡ pages_from (es g n) (fixed_pages_of a) (fixed_pages h) 0 0 (Ok [])
-      first g n =
+      first : left 0 ≡ pages_from es (fixed_pages_of a) (fixed_pages h) 0 0 (Ok [])
+      first =
           let y : fixed_pages h - 0 ≡ fixed_pages h = omega arith in
           let z : 0 * fixed_page_elements h ≡ 0 = omega arith in
           rw (y, z) refl
@@ -110,9 +103,9 @@ module _ (w : Setting) where
   module _ {total : ℕ} {ahead : Option Ahead} {p : ℕ} (i : InPages total ahead p) where
     -- behind the last page
     pub pages_end : w.pages ≤ p → Done (Ok total)
-    pages_end le g n r =
+    pages_end le =
         let e = i.fixed.pages_are in
-        sym (plus_none total _ (pages_none (es g n) (fixed_pages_of a) (fixed_pages h) p _ (Ok []) (omega arith))) ∙ i.rest g n r
+        sym (plus_none total _ (pages_none es (fixed_pages_of a) (fixed_pages h) p _ (Ok []) (omega arith))) ∙ i.rest
 
     module _ (lt : p < w.pages) where
       page_of_lem : p < fixed_pages h
@@ -125,8 +118,8 @@ module _ (w : Setting) where
       next_slot : (p + 1) * fixed_page_elements h ≡ p * fixed_page_elements h + fixed_page_elements h
       next_slot = omega arith
 
-      next_left : (g : Grid) (n : ℕ) → pages_from (es g n) (fixed_pages_of a) (fixed_pages h - (p + 1)) (p + 1) (p * fixed_page_elements h + fixed_page_elements h) (Ok []) ≡ left g n (p + 1)
-      next_left g n = rw next_slot refl
+      next_left : pages_from es (fixed_pages_of a) (fixed_pages h - (p + 1)) (p + 1) (p * fixed_page_elements h + fixed_page_elements h) (Ok []) ≡ left (p + 1)
+      next_left = rw next_slot refl
 
       -- its bit is clear
       pub page_clear : {next : Option Ahead} → EnteredFixedPage a p (Ok None) → TestedBy (fixed_page_test a) next → InPages total next (p + 1)
@@ -134,27 +127,20 @@ module _ (w : Setting) where
         fixed = i.fixed;
         few = let x = i.few in omega arith;
         ahead_is = t;
-        rest = λ g n r.
-            ap (plus total) (sym (pages_clear (es g n) (fixed_pages_of a) (fixed_pages h) p _ (Ok []) page_of_lem e ∙ next_left g n)) ∙ i.rest g n r;
+        rest =
+            ap (plus total) (sym (pages_clear es (fixed_pages_of a) (fixed_pages h) p _ (Ok []) page_of_lem e ∙ next_left)) ∙ i.rest;
       }
 
       -- it is refused
       pub page_refused : (x : Refusal) → EnteredFixedPage a p (Err x) → Done (Err x)
       unfolding plus
-      page_refused x e g n r =
-          ap (plus total) (sym (pages_refused (es g n) (fixed_pages_of a) (fixed_pages h) p _ (Ok []) page_of_lem e.0 x e.1)) ∙ i.rest g n r
+      page_refused x e =
+          ap (plus total) (sym (pages_refused es (fixed_pages_of a) (fixed_pages h) p _ (Ok []) page_of_lem e.0 x e.1)) ∙ i.rest
 
       -- it has passed its test
       module _ {pos entries : ℕ} (e : EnteredFixedPage a p (Ok (Some pos))) (are : entries ≡ page_entries h p) where
-        pub page_run : RunInFile w.file w.reader w.chunk w.bound w.down pos entries
-        page_run =
-            let b = i.fixed.by.by in
-            record {
-              grid = b.grid;
-              element_bytes = b.element_bytes;
-              reads = b.reads;
-              inside = rw (← b.formed, are, e.2) (entries_inside a p e.1);
-            }
+        pub page_run : pos + entries * stride w.reader.form ≤ length w.file
+        page_run = rw (← i.fixed.by.formed, are, e.2) (entries_inside a p e.1)
 
         -- where the count ends in it, it is the last
         last : h.num_elements < p * fixed_page_elements h + fixed_page_elements h → fixed_pages h ≤ p + 1
@@ -163,32 +149,32 @@ module _ (w : Setting) where
             (lt_or_ge (p + 1) (fixed_pages h))
 
         -- its elements in front of what is left: those of a full page, ..
-        full : (g : Grid) (n : ℕ) → left g n p ≡ elements_from (es g n) (fixed_page_position a p) (fixed_page_elements h) (p * fixed_page_elements h) (left g n (p + 1))
-        full g n =
-            let run = elements_from (es g n) (fixed_page_position a p) (fixed_page_elements h) (p * fixed_page_elements h) in
+        full : left p ≡ elements_from es (fixed_page_position a p) (fixed_page_elements h) (p * fixed_page_elements h) (left (p + 1))
+        full =
+            let run = elements_from es (fixed_page_position a p) (fixed_page_elements h) (p * fixed_page_elements h) in
             let c = i.fixed.by.entries in
             ⊎_elim
             (λ (past : w.reader.count < p * fixed_page_elements h + fixed_page_elements h).
-            pages_last (es g n) (fixed_pages_of a) (fixed_pages h) p _ (Ok []) page_of_lem e.0 e.1 past
-            ∙ ap run (sym (pages_none (es g n) (fixed_pages_of a) (fixed_pages h) (p + 1) _ (Ok []) (last (omega arith)))))
+            pages_last es (fixed_pages_of a) (fixed_pages h) p _ (Ok []) page_of_lem e.0 e.1 past
+            ∙ ap run (sym (pages_none es (fixed_pages_of a) (fixed_pages h) (p + 1) _ (Ok []) (last (omega arith)))))
             (λ (le : p * fixed_page_elements h + fixed_page_elements h ≤ w.reader.count).
-            pages_set (es g n) (fixed_pages_of a) (fixed_pages h) p _ (Ok []) page_of_lem e.0 e.1 le ∙ ap run (next_left g n))
+            pages_set es (fixed_pages_of a) (fixed_pages h) p _ (Ok []) page_of_lem e.0 e.1 le ∙ ap run next_left)
             (lt_or_ge w.reader.count (p * fixed_page_elements h + fixed_page_elements h))
 
         -- .. of which only its own lie below the count
-        turn : (g : Grid) (n : ℕ) → left g n p ≡ elements_from (es g n) pos entries (p * w.page) (left g n (p + 1))
+        turn : left p ≡ elements_from es pos entries (p * w.page) (left (p + 1))
         unfolding page_entries
-        turn g n =
+        turn =
             let y : min (fixed_page_elements h) (w.reader.count - p * fixed_page_elements h) ≡ entries = rw i.fixed.by.entries (sym are) in
-            full g n ∙ run_clamp (es g n) _ _ _ _ ∙ rw (y, e.2, i.fixed.page_is) refl
+            full ∙ run_clamp es _ _ _ _ ∙ rw (y, e.2, i.fixed.page_is) refl
 
         pub run_ends : (x : Refusal) → Run pos entries (p * w.page) (Err x) → Done (Err x)
-        run_ends x c g n r =
-            sym (run_refused (es g n) pos entries (p * w.page) x (sym (c g n r)) total (left g n (p + 1))) ∙ ap (plus total) (sym (turn g n)) ∙ i.rest g n r
+        run_ends x c =
+            sym (run_refused es pos entries (p * w.page) x (sym c) total (left (p + 1))) ∙ ap (plus total) (sym turn) ∙ i.rest
 
         module _ {m : ℕ} (c : Run pos entries (p * w.page) (Ok m)) where
           few : m ≤ entries
-          few = let b = i.fixed.by.by in count_few (es b.grid b.element_bytes) pos entries (p * w.page) m (c b.grid b.element_bytes b.reads)
+          few = count_few es pos entries (p * w.page) m c
 
           pub total-fits : total + m ≤ h.num_elements
           unfolding page_entries
@@ -200,6 +186,6 @@ module _ (w : Setting) where
             fixed = i.fixed;
             few = let x = few in let y = i.few in let z = i.fixed.page_is in omega arith;
             ahead_is = t;
-            rest = λ g n r.
-                sym (run_count (es g n) pos entries (p * w.page) m (sym (c g n r)) total (left g n (p + 1))) ∙ ap (plus total) (sym (turn g n)) ∙ i.rest g n r;
+            rest =
+                sym (run_count es pos entries (p * w.page) m (sym c) total (left (p + 1))) ∙ ap (plus total) (sym turn) ∙ i.rest;
           }

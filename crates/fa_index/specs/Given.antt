@@ -8,7 +8,6 @@ use Rattle.fa_geometry.specs.Layout.{fixed_form}
 use Rattle.fa_blocks.specs.FixedArray.{never_stored}
 use Rattle.fa_blocks.specs.Blocks.{fixed_block_test, fixed_path_test}
 use Rattle.fa_blocks.specs.Values.{fixed_of}
-use Rattle.walked_index.specs.Walked.{ReadBy}
 use Rattle.fa_index.specs.declared.FixedIndex.{FixedIndex}
 
 -- the index that an array is, as a header with this offset size heads it
@@ -16,8 +15,8 @@ abbrev pub indexed : FixedArrayHeader → ℕ → FixedIndex
 indexed h o = record { array = record { header = h; offset_size = o } }
 
 -- A reader of all of its entries.
-pub record ReadsAll (a : FixedArray) (r : ElementReader) (chunk bound down : List ℕ) : Type 0 where
-  pub by : ReadBy (fixed_form a.header a.offset_size) r chunk bound down
+pub record ReadsAll (a : FixedArray) (r : ElementReader) : Type 0 where
+  pub formed : fixed_form a.header a.offset_size ≡ r.form
   pub entries : r.count ≡ a.header.num_elements
 
 -- The data block has passed its test.

@@ -3,7 +3,7 @@ ghost use Rattle.std.specs.Prelude.{◌≡◌, true, [], ℕ, Ok};
 ghost use Rattle.refusal.specs.Values.{counted_of};
 ghost use Rattle.chunk_grid.specs.Grid.{Grid};
 ghost use Rattle.elements.specs.Runs.{pages_from};
-ghost use Rattle.elements.specs.Values.{elements_of, Reads};
+ghost use Rattle.elements.specs.Values.{elements_of};
 ghost use Rattle.fa_geometry.specs.Layout.{is_paged, fixed_pages};
 ghost use Rattle.fa_blocks.specs.Blocks.{fixed_pages_of};
 ghost use Rattle.fa_blocks.specs.Values.{fixed_of, BlockInFile};
@@ -18,18 +18,9 @@ use fa_geometry::FixedArray;
 use refusal::Refusal;
 
 // Tests the structures of an array in slot order, and counts the records of its elements.
-pub fn count_walk(
-    file: &[u8],
-    array: FixedArray,
-    reader: ElementReader,
-    chunk: &[u64; 32],
-    bound: &[u64; 32],
-    down: &[u64; 32],
-) -> Result<u64, Refusal>
-    requires { ReadsAll array reader chunk.now bound.now down.now }
-    ensures { (grid : Grid) (n : ℕ)
-        → Reads reader chunk.now bound.now down.now grid n
-        → result ≡ counted_of (fixed_walk (fixed_of file.now array) (elements_of file.now reader grid n)) }
+pub fn count_walk(file: &[u8], array: FixedArray, reader: &ElementReader) -> Result<u64, Refusal>
+    requires { ReadsAll array reader.now }
+    ensures { result ≡ counted_of (fixed_walk (fixed_of file.now array) (elements_of file.now reader.now)) }
 {
     array.header.served_test()?;
     if never_stored(array) {
@@ -37,27 +28,17 @@ pub fn count_walk(
     }
     test_block(file, array)?;
     if array.is_paged() {
-        return count_pages(file, array, reader, chunk, bound, down);
+        return count_pages(file, array, reader);
     }
     let pos = array.header.data_block_address + array.prefix();
     let entries = array.header.num_elements;
-    count_elements(file, pos, entries, 0, reader, chunk, bound, down)
+    count_elements(file, pos, entries, 0, reader)
 }
 
 // The same of the pages of a data block that is tested.
-fn count_pages(
-    file: &[u8],
-    array: FixedArray,
-    reader: ElementReader,
-    chunk: &[u64; 32],
-    bound: &[u64; 32],
-    down: &[u64; 32],
-) -> Result<u64, Refusal>
-    requires { ReadsAll array reader chunk.now bound.now down.now × BlockInFile file.now array
-        × (is_paged array.header ≡ true) }
-    ensures { (grid : Grid) (n : ℕ)
-        → Reads reader chunk.now bound.now down.now grid n
-        → result ≡ counted_of (pages_from (elements_of file.now reader grid n)
+fn count_pages(file: &[u8], array: FixedArray, reader: &ElementReader) -> Result<u64, Refusal>
+    requires { ReadsAll array reader.now × BlockInFile file.now array × (is_paged array.header ≡ true) }
+    ensures { result ≡ counted_of (pages_from (elements_of file.now reader.now)
         (fixed_pages_of (fixed_of file.now array)) (fixed_pages array.header) 0 0 (Ok [])) }
 {
     let pages = array.pages();
@@ -72,7 +53,7 @@ fn count_pages(
             continue 'pages;
         };
         let entries = array.page_entries(p);
-        total += count_elements(file, pos, entries, p * page, reader, chunk, bound, down)?;
+        total += count_elements(file, pos, entries, p * page, reader)?;
     }
     Ok(total)
 }

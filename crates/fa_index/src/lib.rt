@@ -4,7 +4,7 @@ ghost use Rattle.std.specs.Prelude.{◌≡◌, ℕ, refl};
 ghost use Rattle.std.proofs.Common.{sym};
 ghost use Rattle.checksum.specs.Lookup3.{lookup3};
 ghost use Rattle.chunk_grid.specs.Grid.{Grid};
-ghost use Rattle.elements.specs.Values.{elements_of, Reads};
+ghost use Rattle.elements.specs.Values.{elements_of};
 ghost use Rattle.fa_header.specs.Header.{fixed_header_at, fixed_header_test};
 ghost use Rattle.fa_header.specs.Served.{fixed_served_test};
 ghost use Rattle.fa_geometry.specs.Layout.{fixed_form};
@@ -69,15 +69,8 @@ impl WalkedIndex for FixedIndex {
         self.array.header.served_test()
     }
 
-    fn count_walk(
-        self,
-        file: &[u8],
-        reader: ElementReader,
-        chunk: &[u64; 32],
-        bound: &[u64; 32],
-        down: &[u64; 32],
-    ) -> Result<u64, Refusal> {
-        count::count_walk(file, self.array, reader, chunk, bound, down)
+    fn count_walk(self, file: &[u8], reader: &ElementReader) -> Result<u64, Refusal> {
+        count::count_walk(file, self.array, reader)
     }
 
     fn run_of(self, file: &[u8], slot: u64) -> Run {

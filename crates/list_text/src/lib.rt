@@ -1,5 +1,6 @@
 #![tactic(auto)]
-// The text of a list and of a refusal, put into a buffer. The program `eals` prints it.
+// The text of a list and of a refusal, put into a buffer. (Not into a String: these calls can't fail, and memory can.)
+// The program `eals` prints it.
 ghost use Rattle.std.specs.Prelude.{◌≡◌, ◌∷◌, ◌+◌, ◌*◌, ◌≤◌, length, drop};
 ghost use Rattle.shapes.specs.Shapes.{numbers_in};
 ghost use Rattle.records.specs.Records.{record_length, record_in, records_in};

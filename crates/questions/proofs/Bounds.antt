@@ -1,5 +1,5 @@
 -- How much room a line's numbers take. Assumes nothing.
-use mathlib.Core.Path.{◌≡◌, refl, ap}
+use mathlib.Core.Path.{◌≡◌, ap}
 use mathlib.Core.List.{List, [], ◌∷◌}
 use Prim.Native.Nat.{ℕ, suc, ◌+◌, ◌*◌, ◌≤◌}
 use native.Mathlib.Omega.{arith}
@@ -8,27 +8,13 @@ use lib.ListN.{length}
 use borrow.Author.Tests.{eqb-true}
 use Rattle.std.specs.Prelude.{None, Option, Some}
 use Rattle.refusal.proofs.Tests.{by_cond}
-use Rattle.questions.specs.Text.{words, on_first}
+use Rattle.questions.specs.Text.{words}
 use Rattle.questions.specs.Line.{line_of, fits, word_number, if_number, no_question, with_number, question_from, line_question, question_of}
 use Rattle.questions.specs.declared.Question.{Question}
+use Rattle.questions.proofs.Words.{words_few}
 use Rattle.questions.proofs.Inputs.{line_short}
 
--- a line has at most one word more than bytes
-on_first_length : (x : ℕ) (ws : List (List ℕ)) → length (on_first x ws) ≡ length ws
-unfolding on_first
-on_first_length x [] = refl
-on_first_length x (w ∷ ws) = refl
-
-words_few : (s : List ℕ) → length (words s) ≤ suc (length s)
-unfolding words
-words_few [] = omega arith
-words_few (x ∷ s) =
-    let few = words_few s in
-    by_cond (λ (ws : List (List ℕ)). length ws ≤ suc (suc (length s))) (eqb x 32)
-    (λ _. omega arith)
-    (λ _. omega (arith, on_first_length x (words s)))
-
--- so a question's numbers have room in 32,768 bytes
+-- a question's numbers have room in 32,768 bytes
 none_asked : {A : Type 0} (q : Question) → None ≡ Some q → A
 none_asked q h = let z : ◌≡◌ {A = ℕ} 0 1 = cc in absurd (omega arith)
 

@@ -1,14 +1,18 @@
 -- Laws of finding a byte and of a line's words. Assumes nothing.
-use mathlib.Core.Path.{◌≡◌, refl, ap}
+use mathlib.Core.Path.{◌≡◌, refl, ap, ◌∙◌}
 use mathlib.Core.Logic.{◌≢◌}
 use mathlib.Core.Bool.{Bool, true, false, cond}
 use mathlib.Core.List.{List, [], ◌∷◌}
-use Prim.Native.Nat.{ℕ, zero, suc, ◌+◌, ◌≤◌, ◌<◌}
+use Prim.Native.Nat.{ℕ, zero, suc, ◌≤◌, ◌<◌}
 use native.Mathlib.Omega.{arith}
-use lib.ListN.{length, take, drop}
+use lib.ListN.{length, get_or, take}
 use lib.Dec.{eqb}
 use borrow.Author.Tests.{eq-eqb, ne_eqb}
-use Rattle.std.specs.List.{AllWithin, HoldsAt}
+use Rattle.refusal.proofs.Tests.{by_cond}
+use Rattle.std.specs.List.{AllWithin, HoldsAt, slice_split, onto_first, enumerate_from}
+use Rattle.std.proofs.lemmas.List.{get_or_default}
+use Rattle.std.proofs.lemmas.List.Splits.{length-slice_split}
+use Rattle.std.proofs.lemmas.List.FromFn.{get_or-enumerate_from, length-enumerate_from}
 use Rattle.questions.specs.Text.{before, on_first, words}
 
 pub take-before : (b : ℕ) (s : List ℕ) → take (length (before b s)) s ≡ before b s
@@ -31,36 +35,39 @@ before_from b (x ∷ s) (suc i) h none here =
     (ap (λ (l : List ℕ). x ∷ l)
     (before_from b s i (omega arith) (λ k d low high. none (suc k) d (omega arith) (omega arith)) (λ high. here (omega arith))))
 
--- the words that begin at this place or behind it; none behind the line's end
-unfoldable pub words_from : List ℕ → ℕ → List (List ℕ)
-words_from s zero = words s
-words_from [] (suc at) = []
-words_from (x ∷ s) (suc at) = words_from s at
+-- a line's words are what std's `split` makes of it
+onto_first_is : (x : ℕ) (ws : List (List ℕ)) → 0 < length ws → onto_first x ws ≡ on_first x ws
+unfolding on_first
+onto_first_is x [] h = absurd (omega arith)
+onto_first_is x (w ∷ ws) h = refl
 
--- the first word, and the others
-words_split : (s : List ℕ) → words s ≡ before 32 s ∷ words_from s (suc (length (before 32 s)))
-unfolding words before on_first words_from
+pub words_split : (s : List ℕ) → slice_split (λ b. eqb b 32) s ≡ words s
+unfolding words
 words_split [] = refl
-words_split (x ∷ s) = go (eqb x 32) (words_split s)
-  where
-    go : (t : Bool) → words s ≡ before 32 s ∷ words_from s (suc (length (before 32 s)))
-        → cond t ([] ∷ words s) (on_first x (words s)) ≡ cond t [] (x ∷ before 32 s) ∷ words_from s (length (cond t [] (x ∷ before 32 s)))
-    go true h = refl
-    go false h = rw h refl
+words_split (x ∷ s) =
+    let some = onto_first_is x (slice_split (λ b. eqb b 32) s) (omega (arith, length-slice_split (λ b. eqb b 32) s)) in
+    rw (some, words_split s) refl
 
--- the word at this place, and those behind it
-pub words_at : (s : List ℕ) (at : ℕ) → at ≤ length s → words_from s at ≡ before 32 (drop at s) ∷ words_from s (at + length (before 32 (drop at s)) + 1)
-unfolding words_from
-words_at s zero h =
-    let next : 0 + length (before 32 s) + 1 ≡ suc (length (before 32 s)) = omega arith in
-    rw next (words_split s)
-words_at [] (suc at) h = absurd (omega arith)
-words_at (x ∷ s) (suc at) h =
-    let next : suc at + length (before 32 (drop at s)) + 1 ≡ suc (at + length (before 32 (drop at s)) + 1) = omega arith in
-    rw next (words_at s at (omega arith))
+-- the word at hand, with its number
+pub word_at : (s : List ℕ) (k i : ℕ) (w : List ℕ) → let all = enumerate_from 0 (slice_split (λ b. eqb b 32) s) in
+    (k < length all) × ((i, w) ≡ get_or all k (i, w)) → (i ≡ k) × (k < length (words s)) × (w ≡ get_or (words s) k [])
+word_at s k i w h =
+    let t = rw (words_split s, length-enumerate_from 0 (words s)) at h in
+    let e = t.1 ∙ get_or-enumerate_from 0 (words s) k (i, w) t.0 in
+    let number = ap (λ (p : ℕ × List ℕ). p.0) e in
+    (omega arith, t.0, ap (λ (p : ℕ × List ℕ). p.1) e ∙ get_or_default (words s) k w [] t.0)
 
-pub no_words : (s : List ℕ) (at : ℕ) → length s < at → words_from s at ≡ []
-unfolding words_from
-no_words s zero h = absurd (omega arith)
-no_words [] (suc at) h = refl
-no_words (x ∷ s) (suc at) h = no_words s at (omega arith)
+-- a line has at most one word more than bytes
+on_first_length : (x : ℕ) (ws : List (List ℕ)) → length (on_first x ws) ≡ length ws
+unfolding on_first
+on_first_length x [] = refl
+on_first_length x (w ∷ ws) = refl
+
+pub words_few : (s : List ℕ) → length (words s) ≤ suc (length s)
+unfolding words
+words_few [] = omega arith
+words_few (x ∷ s) =
+    let few = words_few s in
+    by_cond (λ (ws : List (List ℕ)). length ws ≤ suc (suc (length s))) (eqb x 32)
+    (λ _. omega arith)
+    (λ _. omega (arith, on_first_length x (words s)))

@@ -10,7 +10,7 @@ use text::{is_only, parse_number, until};
 
 mod text;
 
-// What a line asks for, but for the lengths, which are stored beside it.
+// What a line asks for, but for the lengths, which are stored beside it. (The order as C gives it.)
 #[derive(Clone, Copy)]
 pub struct Question {
     pub offset_size: u64,
@@ -96,20 +96,17 @@ fn parse_line(numbers: &mut [u8], line: &[u8]) -> Option<Question>
     ensures numbers_after { numbers.new ≡ line_stored (words line.now) numbers.old }
 {
     let mut question = Question::none();
-    let mut at = 0;
-    let mut i = 0;
-    // Word i begins at `at`; the numbers of the words before it are stored, and in the question.
-    while at <= line.len() {
-        let word = until(line, at, b' ');
+    let mut count = 0;
+    // The numbers of the first `count` words are stored, and in the question.
+    for (i, word) in line.split(|b| *b == b' ').enumerate() {
         let n = parse_word(word, i, question.rank)?;
         put_le(numbers, 8 * i, 8, n);
         question = question.with(i, n);
-        at = at + word.len() + 1;
-        i += 1;
+        count = i + 1;
     }
     let rank = question.rank;
     if rank <= 4096 {
-        if i as u64 == 6 + 3 * rank {
+        if count as u64 == 6 + 3 * rank {
             return Some(question);
         }
     }
@@ -120,7 +117,7 @@ fn parse_line(numbers: &mut [u8], line: &[u8]) -> Option<Question>
 pub fn file_of(input: &[u8]) -> &[u8]
     ensures { result.now ≡ file_of input.now }
 {
-    let end = until(input, 0, b'\n').len();
+    let end = until(input, b'\n').len();
     if end == input.len() {
         return &input[end..];
     }
@@ -134,7 +131,7 @@ pub fn parse(numbers: &mut [u8], input: &[u8]) -> Option<Question>
     ensures value { result ≡ question_of input.now }
     ensures numbers_after { numbers.new ≡ numbers_stored input.now numbers.old }
 {
-    let line = until(input, 0, b'\n');
+    let line = until(input, b'\n');
     let file = file_of(input);
     if line.len() == input.len() {
         return None;

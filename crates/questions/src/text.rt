@@ -1,17 +1,15 @@
 // Words and numbers of a text.
-ghost use Rattle.std.specs.Prelude.{◌≡◌, ◌+◌, ◌≤◌, length, drop};
+ghost use Rattle.std.specs.Prelude.{◌≡◌, ◌≤◌, length};
 ghost use Rattle.questions.specs.Text.{before, is_only, number_of};
 
-// The part from `from` on up to the first b, or up to the end where there is none.
-pub fn until(s: &[u8], from: usize, b: u8) -> &[u8]
-    requires { from ≤ length s.now }
-    ensures result_value { result.now ≡ before b (drop from s.now) }
-    ensures result_in_bounds { from + length result.now ≤ length s.now }
+// The part up to the first b, or all where there is none.
+pub fn until(s: &[u8], b: u8) -> &[u8]
+    ensures result_value { result.now ≡ before b s.now }
+    ensures result_in_bounds { length result.now ≤ length s.now }
 {
-    let rest = &s[from..];
-    match rest.iter().position(|x| *x == b) {
-        Some(end) => &rest[..end],
-        None => rest,
+    match s.iter().position(|x| *x == b) {
+        Some(end) => &s[..end],
+        None => s,
     }
 }
 
@@ -30,13 +28,12 @@ pub fn parse_number(word: &[u8], largest: u64) -> Option<u64>
         return None;
     }
     let mut value = 0u64;
-    // `value` is the value of the first i bytes, which are digits.
-    for i in 0..word.len() {
-        let b = word[i];
+    // `value` is the value of the bytes so far, which are digits.
+    for b in word {
         if !b.is_ascii_digit() {
             return None;
         }
-        value = value.checked_mul(10)?.checked_add((b - b'0') as u64)?;
+        value = value.checked_mul(10)?.checked_add((*b - b'0') as u64)?;
     }
     if largest < value { None } else { Some(value) }
 }

@@ -2,11 +2,10 @@
 // Records written into a lent list.
 ghost use Rattle.std.specs.Prelude.{◌≡◌, List, [], ℕ, ◌+◌, ◌*◌, ◌≤◌, length, take, set, Ok};
 ghost use Rattle.std.proofs.lemmas.List.Edits.{sets};
-ghost use Rattle.chunk_grid.specs.Grid.{Grid};
 ghost use Rattle.element_form.specs.Form.{stride};
 ghost use Rattle.index.specs.Index.{Rec};
 ghost use Rattle.elements.specs.Runs.{elements_from};
-ghost use Rattle.elements.specs.Values.{elements_of, Reads};
+ghost use Rattle.elements.specs.Values.{elements_of};
 ghost use Rattle.records.specs.Records.{record_length, offset_bytes, record_bytes, list_bytes};
 ghost use Rattle.records.specs.Values.{ReadsLine};
 
@@ -62,32 +61,31 @@ fn write_line(
     file: &[u8],
     pos: usize,
     n: u64,
-    reader: ElementReader,
+    reader: &ElementReader,
     offsets: &[u64; 32],
     line: Line,
-    chunk: &[u64; 32],
 ) -> usize
-    requires { ((grid : Grid) × (m : ℕ) × (s : ℕ) × (l : List Rec)
-        × ReadsLine reader offsets.now line chunk.now grid m s
-        × (elements_from (elements_of file.now reader grid m) pos n s (Ok []) ≡ Ok l)
-        × (at + length (list_bytes l) ≤ length out.old) × (s + n ≤ reader.count))
-        × (n ≤ line.slots) × (pos + n * stride reader.form ≤ length file.now) }
-    ensures { (grid : Grid) (m s : ℕ) (l : List Rec)
-        → ReadsLine reader offsets.now line chunk.now grid m s
-        → elements_from (elements_of file.now reader grid m) pos n s (Ok []) ≡ Ok l
-        → s + n ≤ reader.count
+    requires { ((s : ℕ) × (l : List Rec) × ReadsLine reader.now offsets.now line s
+        × (elements_from (elements_of file.now reader.now) pos n s (Ok []) ≡ Ok l)
+        × (at + length (list_bytes l) ≤ length out.old) × (s + n ≤ reader.now.count))
+        × (n ≤ line.slots) × (pos + n * stride reader.now.form ≤ length file.now) }
+    ensures { (s : ℕ) (l : List Rec) → ReadsLine reader.now offsets.now line s
+        → elements_from (elements_of file.now reader.now) pos n s (Ok []) ≡ Ok l
+        → s + n ≤ reader.now.count
         → (out.new ≡ sets out.old at (list_bytes l)) × (result ≡ at + length (list_bytes l)) }
 {
-    let stride = reader.form.stride() as usize;
-    let rank = reader.rank as usize;
+    // (A copy: behind a reference its fields would be loaded anew for every record.)
+    let own = *reader;
+    let stride = own.form.stride() as usize;
+    let rank = own.numbering.grid.rank as usize;
     let dim = line.dim as usize;
-    let step = chunk[dim];
+    let step = own.numbering.grid.chunk[dim];
     let first = line.first * step;
     let mut to = at;
     let mut from = pos;
     // The first i elements are passed, their records written up to `to`, and the next element is at `from`.
     for i in 0..n {
-        if let Ok(Some(entry)) = read_inside_element(file, from, reader) {
+        if let Ok(Some(entry)) = read_inside_element(file, from, &own) {
             put_record(out, to, entry, rank, offsets, dim, first + i * step);
             to += 16 + 8 * rank;
         }
@@ -105,30 +103,23 @@ pub fn write_elements(
     pos: u64,
     n: u64,
     slot: u64,
-    reader: ElementReader,
-    chunk: &[u64; 32],
-    bound: &[u64; 32],
-    down: &[u64; 32],
+    reader: &ElementReader,
 ) -> usize
-    requires { ((grid : Grid) × (m : ℕ) × (l : List Rec) × Reads reader chunk.now bound.now down.now grid m
-        × (elements_from (elements_of file.now reader grid m) pos n slot (Ok []) ≡ Ok l)
+    requires { ((l : List Rec) × (elements_from (elements_of file.now reader.now) pos n slot (Ok []) ≡ Ok l)
         × (at + length (list_bytes l) ≤ length out.old))
-        × (pos + n * stride reader.form ≤ length file.now) }
-    ensures { (grid : Grid) (m : ℕ) (l : List Rec)
-        → Reads reader chunk.now bound.now down.now grid m
-        → elements_from (elements_of file.now reader grid m) pos n slot (Ok []) ≡ Ok l
+        × (pos + n * stride reader.now.form ≤ length file.now) }
+    ensures { (l : List Rec) → elements_from (elements_of file.now reader.now) pos n slot (Ok []) ≡ Ok l
         → (out.new ≡ sets out.old at (list_bytes l)) × (result ≡ at + length (list_bytes l)) }
 {
     let left = below_count(n, slot, reader.count);
     let stride = reader.form.stride() as usize;
     let width = reader.form.offset_size;
-    let rank = reader.rank as usize;
-    let rotated = reader.rotated as usize;
     let mut offsets = [0u64; 32];
     let mut to = at;
     let mut from = pos as usize;
     let mut i = 0;
-    // The first i elements are passed, their records written up to `to`, and the next element is at `from`.
+    // The first i elements are passed, their records written up to `to`, and the next element is at `from`. (By index:
+    // a step is a whole line or gap.)
     while i < left {
         let gap = undefined_run(file, from, left - i, stride, width);
         if 0 < gap {
@@ -137,11 +128,11 @@ pub fn write_elements(
             continue;
         }
         let here = slot + i;
-        let reached = reader.reach(&mut offsets, here, chunk, bound, down);
+        let reached = reader.reach(&mut offsets, here);
         let passed = if let Ok(true) = reached {
-            let line = line_from(here, rank, rotated, bound, down);
+            let line = line_from(here, reader.numbering);
             let n = below_count(line.slots, i, left);
-            to = write_line(out, to, file, from, n, reader, &offsets, line, chunk);
+            to = write_line(out, to, file, from, n, reader, &offsets, line);
             n
         } else {
             1

@@ -8,6 +8,11 @@ use borrow.Author.Tests.{eq-eqb, ne_eqb}
 use lib.Dec.{eqb}
 use lib.ListN.{length, get_or, take, drop, set, drop_of_length-le}
 use lib.Seq.{drop-cons, drop-drop, sets, sets-eq, length-sets, take_at}
+use Rattle.std.proofs.Common.{Bool, true, false, Bor}
+use Rattle.std.specs.Bool.{then_some}
+use Rattle.std.specs.Option.{is_some, unwrap_or, option_copied}
+use Rattle.chunk_grid.specs.Grid.{given}
+use Rattle.chunk_grid.specs.declared.GridOrder.{GridOrder}
 use Rattle.fields.specs.LittleEndian.{le_at}
 use Rattle.shapes.specs.Shapes.{numbers_in, other_rank, shape_of}
 use Rattle.refusal.proofs.Tests.{by_cond}
@@ -70,3 +75,10 @@ stored_shape rank s l out n small room e f =
     let long : length out ≡ length l = ap length f ∙ length-sets l 0 vs in
     let t : take n out ≡ vs = rw (e, f) (ap (take (length vs)) (sets-eq vs l 0 (omega arith)) ∙ take_at vs _ (length vs) refl) in
     (omega arith, t, e ∙ ap length (sym t))
+
+-- a maximum that isn't given is no part of a grid
+pub where_given : (rank : ℕ) (c p : List ℕ) (has : Bool) (m : Bor (List ℕ)) (o : GridOrder)
+    → given rank c p (is_some (option_copied (then_some has m))) (unwrap_or (option_copied (then_some has m)) []) o ≡ given rank c p has m.now o
+unfolding given
+where_given rank c p true m o = refl
+where_given rank c p false m o = refl

@@ -32,14 +32,8 @@ pub fn grid_from_bytes(
     let n = read_shape(&mut lengths, rank, chunk) as usize;
     let p = read_shape(&mut extents, rank, present) as usize;
     let m = read_shape(&mut limits, rank, maximum) as usize;
-    ChunkGrid::new(
-        rank,
-        &lengths[..n],
-        &extents[..p],
-        has_maximum,
-        &limits[..m],
-        order,
-    )
+    let maximum = has_maximum.then_some(&limits[..m]);
+    ChunkGrid::new(rank, &lengths[..n], &extents[..p], maximum, order)
 }
 
 // Reads a shape or corner, 8 bytes a dimension, and answers its rank: another one where there aren't 8 * rank bytes.

@@ -15,6 +15,7 @@ use ea_blocks::tests::{test_index_block, test_super_block};
 use ea_header::ExtensibleArrayHeader;
 use refusal::Refusal;
 use span_walk::Span;
+use structures::header::IndexHeader;
 
 // The header's 31. Its length may be past 2^64 - 1 itself, so what is looked at is the address of its last byte: the
 // end is past 2^64 - 1 where that is 2^64 - 1 or more.

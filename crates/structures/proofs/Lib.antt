@@ -1,3 +1,4 @@
 pub mod StructureTests
 pub mod HeaderTests
 pub mod Masks
+pub mod Entering

@@ -1,5 +1,7 @@
-// Tests of structures that are made ahead of their turn.
-ghost use Rattle.std.specs.Prelude.{◌≡◌, Some};
+// Stepping into structures that stand in a row: each is looked for, then tested, alone or ahead of its turn.
+ghost use Rattle.std.specs.Prelude.{◌≡◌, ◌+◌, ◌<◌, List, ℕ, Option, Some, IfSome};
+ghost use Rattle.refusal.specs.Refusals.{largest64, Checked};
+ghost use Rattle.structures.specs.Entered.{TestedBy, entered};
 
 use checksum::TwoChecked;
 use refusal::Refusal;
@@ -11,13 +13,6 @@ pub struct Ahead {
     pub checked: Result<(), Refusal>,
 }
 
-// The result of a structure's test, and of the next one's where both were tested.
-#[derive(Clone, Copy)]
-pub struct Tested {
-    pub checked: Result<(), Refusal>,
-    pub ahead: Option<Ahead>,
-}
-
 // What the walk finds where it steps into a structure (none, or where it lies, tested), and the result of the next
 // one's test where both were tested.
 #[derive(Clone, Copy)]
@@ -26,14 +21,87 @@ pub struct Turn {
     pub ahead: Option<Ahead>,
 }
 
-// The first of two results, the second kept for structure number `index`.
-pub fn keep_second(two: TwoChecked, index: u64) -> Tested
-    ensures { (result.checked ≡ two.first)
-        × (result.ahead ≡ Some (record { index = index; checked = two.second })) }
+// Structures in a row, by their numbers: the data blocks of a super block, the pages of a data block.
+pub trait Row: Copy {
+    // In the bytes of a file: which numbers are in the row, so that each one's pointer or bit can be read; that the row
+    // lies where the file's pointers say; where a number lies, if it is there; and its test.
+    ghost inside: { Self → List ℕ → ℕ → Type 0 };
+
+    ghost placed: { Self → List ℕ → Type 0 };
+
+    ghost lies: { Self → List ℕ → ℕ → Option ℕ };
+
+    ghost test: { Self → List ℕ → ℕ → Checked };
+
+    // Where number i lies, if it is there.
+    fn find(self, file: &[u8], i: u64) -> Option<u64>
+        requires { inside self file.now i }
+        ensures { placed self file.now → result ≡ lies self file.now i };
+
+    // Tests number i, which lies at `at`.
+    fn test_one(self, file: &[u8], i: u64, at: u64) -> Result<(), Refusal>
+        requires { inside self file.now i }
+        ensures { placed self file.now → lies self file.now i ≡ Some at → result ≡ test self file.now i };
+
+    // Tests number i, which lies at `at`, and number i + 1 side by side, where they make a pair.
+    fn test_pair(self, file: &[u8], i: u64, at: u64) -> Option<TwoChecked>
+        requires { inside self file.now i }
+        ensures { IfSome result (λ two. i < largest64)
+            × (placed self file.now → lies self file.now i ≡ Some at
+            → IfSome result (λ two. (two.first ≡ test self file.now i) × (two.second ≡ test self file.now (i + 1)))) };
+}
+
+// Steps into number i of a row.
+#[tactic(auto, unfolding(crate::specs::Entered::entered))]
+pub fn enter<R: Row>(row: R, file: &[u8], i: u64) -> Result<Option<u64>, Refusal>
+    requires { R.inside row file.now i }
+    ensures { R.placed row file.now → result ≡ entered (R.lies row file.now i) (R.test row file.now i) }
 {
-    let checked = two.second;
-    Tested {
-        checked: two.first,
-        ahead: Some(Ahead { index, checked }),
+    let Some(at) = row.find(file, i) else {
+        return Ok(None);
+    };
+    row.test_one(file, i, at)?;
+    Ok(Some(at))
+}
+
+// The same in the turn of a walk along the row, by a result that an earlier turn has left.
+#[tactic(auto, unfolding(crate::specs::Entered::entered))]
+pub fn enter_in_turn<R: Row>(row: R, file: &[u8], i: u64, ahead: Option<Ahead>) -> Turn
+    requires { R.inside row file.now i }
+    ensures { R.placed row file.now → TestedBy (R.test row file.now) ahead
+        → (result.found ≡ entered (R.lies row file.now i) (R.test row file.now i))
+        × TestedBy (R.test row file.now) result.ahead }
+{
+    let Some(at) = row.find(file, i) else {
+        let found = Ok(None);
+        return Turn { found, ahead };
+    };
+    let (checked, ahead) = test_in_turn(row, file, i, at, ahead);
+    let found = checked.map(|()| Some(at));
+    Turn { found, ahead }
+}
+
+// The result of the test of number i, which lies at `at`: the one that is known; made with the next one's, which is
+// kept, where they make a pair; or made alone.
+fn test_in_turn<R: Row>(
+    row: R,
+    file: &[u8],
+    i: u64,
+    at: u64,
+    ahead: Option<Ahead>,
+) -> (Result<(), Refusal>, Option<Ahead>)
+    requires { R.inside row file.now i }
+    ensures { R.placed row file.now → R.lies row file.now i ≡ Some at → TestedBy (R.test row file.now) ahead
+        → (result.0 ≡ R.test row file.now i) × TestedBy (R.test row file.now) result.1 }
+{
+    if let Some(known) = ahead {
+        if known.index == i {
+            return (known.checked, None);
+        }
     }
+    if let Some(two) = row.test_pair(file, i, at) {
+        let (index, checked) = (i + 1, two.second);
+        return (two.first, Some(Ahead { index, checked }));
+    }
+    (row.test_one(file, i, at), None)
 }

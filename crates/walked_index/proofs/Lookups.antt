@@ -45,6 +45,19 @@ module _ (g : Grid) (corner : List ℕ) (t : Checked) where
   abbrev pub tests : Checked
   tests = grid_test g then corner_test g corner then t
 
+  -- the first that refuses
+  pub grid_stops : {r : Refusal} → grid_test g ≡ Err r → tests ≡ Err r
+  unfolding ◌then◌
+  grid_stops a = rw a refl
+
+  pub corner_stops : {r : Refusal} → grid_test g ≡ Ok tt → corner_test g corner ≡ Err r → tests ≡ Err r
+  unfolding ◌then◌
+  corner_stops a b = rw (a, b) refl
+
+  pub entry_decides : {x : Checked} → grid_test g ≡ Ok tt → corner_test g corner ≡ Ok tt → t ≡ x → tests ≡ x
+  unfolding ◌then◌
+  entry_decides a b e = rw (a, b, e) refl
+
   -- what they leave
   pub tests_passed : tests ≡ Ok tt → (grid_test g ≡ Ok tt) × (length corner ≡ g.rank) × (t ≡ Ok tt)
   tests_passed h =

@@ -27,39 +27,39 @@ pub record Laws (walk : Elements → Listing) (located : Elements → Located) (
 abbrev with : Located → Elements → Located
 with x e = record { elements = e; tests = x.tests; reached = x.reached; position = x.position }
 
-module _ {walk : Elements → Listing} (located : Elements → Located) {form : Form} {count : ℕ} {f : List ℕ} {r : ElementReader} {chunk bound down : List ℕ}
-    {l : List Rec} (w : Walked walk form count f r chunk bound down l) where
+module _ {walk : Elements → Listing} (located : Elements → Located) {form : Form} {count : ℕ} {f : List ℕ} {r : ElementReader} {l : List Rec}
+    (w : Walked walk form count f r l) where
   abbrev e : Elements
-  e = elements_of f r w.by.grid w.by.element_bytes
+  e = elements_of f r
 
   -- where its elements lie
   abbrev pub walked_in : Located
-  walked_in = with (located (elements_of f r w.by.grid w.by.element_bytes)) (elements_of f r w.by.grid w.by.element_bytes)
+  walked_in = with (located (elements_of f r)) (elements_of f r)
 
   module _ (x : Laws walk located form count) where
     own : (P : Located → Type 0) → P (located e) → P walked_in
     own P p = subst (λ (y : Elements). P (with (located e) y)) (x.elements e) p
 
     pub walked_right : Right walked_in 0 l
-    walked_right = own (λ (y : Located). Right y 0 l) (x.right e w.by.formed w.counted l w.accepts)
+    walked_right = own (λ (y : Located). Right y 0 l) (x.right e w.formed w.counted l w.accepts)
 
     pub walked_run : (s : ℕ) (run : Run) → ((e : Elements) → e.file ≡ f → form ≡ e.form → RunOf (located e) s run) → RunOf walked_in s run
-    walked_run s run h = own (λ (y : Located). RunOf y s run) (h e refl w.by.formed)
+    walked_run s run h = own (λ (y : Located). RunOf y s run) (h e refl w.formed)
 
     -- records that have room for their number have room for their bytes
-    pub walked_fits : (n : ℕ) → length l ≤ n / record_length r.rank → length (list_bytes l) ≤ n
+    pub walked_fits : (n : ℕ) → length l ≤ n / record_length r.numbering.now.grid.now.rank → length (list_bytes l) ≤ n
     walked_fits n le =
-        let b = w.by.reads.numbered in
+        let b = r.numbering.now.numbered in
         list-fits walked_in b.built l walked_right n (subst (λ (y : ℕ). length l ≤ n / record_length y) b.ranked le)
 
 -- a slot below the count
-pub walked_to : {walk : Elements → Listing} {form : Form} {count : ℕ} {f : List ℕ} {r : ElementReader} {chunk bound down : List ℕ} {l : List Rec}
-    (w : Walked walk form count f r chunk bound down l) (s : ℕ) → s < r.count → WalkedTo walk form count f s
+pub walked_to : {walk : Elements → Listing} {form : Form} {count : ℕ} {f : List ℕ} {r : ElementReader} {l : List Rec}
+    (w : Walked walk form count f r l) (s : ℕ) → s < r.count → WalkedTo walk form count f s
 walked_to {f = f} {r = r} {l = l} w s lt = record {
-  elements = elements_of f r w.by.grid w.by.element_bytes;
+  elements = elements_of f r;
   list = l;
   read = refl;
-  formed = w.by.formed;
+  formed = w.formed;
   counted = w.counted;
   below = omega (arith, w.counted);
   accepts = w.accepts;

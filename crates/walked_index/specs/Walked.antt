@@ -1,31 +1,23 @@
--- What the code's values stand for: what an index is read by, and a walk of it that was accepted.
+-- What the code's values stand for: the elements of an index, and a walk of it that was accepted.
 use Rattle.std.specs.Prelude.{ℕ, ◌<◌, ◌≡◌, List, Ok}
 use Rattle.chunk_grid.specs.Grid.{Grid}
 use Rattle.element_form.specs.declared.Form.{Form}
 use Rattle.index.specs.Index.{Rec, Listing}
 use Rattle.elements.specs.declared.ElementReader.{ElementReader}
 use Rattle.elements.specs.Elements.{Elements}
-use Rattle.elements.specs.Values.{elements_of, Reads}
+use Rattle.elements.specs.Values.{elements_of}
 
 -- The elements of a file in this form, of a dataset with this grid and element size, with this count of slots in use.
 abbrev pub elements_read : List ℕ → Form → Grid → ℕ → ℕ → Elements
 elements_read file form grid n count =
     record { file = file; form = form; grid = grid; element_bytes = n; count = count }
 
--- What elements of this form are read by: a reader of them, and the arrays of its numbering, made of some grid and
--- element size.
-pub record ReadBy (form : Form) (r : ElementReader) (chunk bound down : List ℕ) : Type 0 where
-  pub formed : form ≡ r.form
-  pub grid : Grid
-  pub element_bytes : ℕ
-  pub reads : Reads r chunk bound down grid element_bytes
-
 -- The walk of an index with this count of slots in use, by this reader of its elements, is accepted with the records l.
 pub record Walked (walk : Elements → Listing) (form : Form) (count : ℕ) (file : List ℕ) (r : ElementReader)
-    (chunk bound down : List ℕ) (l : List Rec) : Type 0 where
-  pub by : ReadBy form r chunk bound down
+    (l : List Rec) : Type 0 where
+  pub formed : form ≡ r.form
   pub counted : count ≡ r.count
-  pub accepts : walk (elements_of file r by.grid by.element_bytes) ≡ Ok l
+  pub accepts : walk (elements_of file r) ≡ Ok l
 
 -- Some walk of an index is accepted that comes to slot s.
 pub record WalkedTo (walk : Elements → Listing) (form : Form) (count : ℕ) (file : List ℕ) (s : ℕ) : Type 0 where

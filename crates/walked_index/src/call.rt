@@ -94,9 +94,9 @@ pub fn lookup_at<I: HeadedIndex>(
         × ((room : ℕ) → Agreed (test yields in_room (grid_test call.grid yields I.walk i call.file e) room) call.grid at
         result) }
 {
-    let index = read_index::<I>(file, numbers)?;
+    let headed = read_index::<I>(file, numbers)?;
     let grid = read_grid(numbers, chunk, present, maximum)?;
     let mut offsets = [0u64; 32];
     let n = read_shape(&mut offsets, numbers.rank, corner) as usize;
-    lookup_chunk(file, index, grid, numbers.element_bytes, &offsets[..n])
+    lookup_chunk(file, headed, grid, numbers.element_bytes, &offsets[..n])
 }

@@ -7,11 +7,11 @@ ghost use Rattle.chunk_grid.specs.Grid.{Grid};
 ghost use Rattle.element_form.specs.declared.Form.{Form as FormValue};
 ghost use Rattle.index.specs.Index.{Rec, Listing};
 ghost use Rattle.elements.specs.Elements.{Elements};
-ghost use Rattle.elements.specs.Values.{elements_of, Reads};
+ghost use Rattle.elements.specs.Values.{elements_of};
 ghost use Rattle.located.specs.Located.{Located};
 ghost use Rattle.located.specs.Values.{RunOf};
 ghost use Rattle.located.proofs.Walks.{Right};
-ghost use Rattle.walked_index.specs.Walked.{ReadBy, WalkedTo};
+ghost use Rattle.walked_index.specs.Walked.{WalkedTo};
 ghost use Rattle.walked_index.specs.PathEnds.{PathEnds};
 
 use element_form::Form;
@@ -47,18 +47,9 @@ pub trait WalkedIndex: Copy {
         ensures { result ≡ entry self file.now };
 
     // Tests its structures in slot order, and counts the records of its elements.
-    fn count_walk(
-        self,
-        file: &[u8],
-        reader: ElementReader,
-        chunk: &[u64; 32],
-        bound: &[u64; 32],
-        down: &[u64; 32],
-    ) -> Result<u64, Refusal>
-        requires { ReadBy (form self) reader chunk.now bound.now down.now × (count self ≡ reader.count) }
-        ensures { (grid : Grid) (n : ℕ)
-            → Reads reader chunk.now bound.now down.now grid n
-            → result ≡ counted_of (walk self file.now (elements_of file.now reader grid n)) };
+    fn count_walk(self, file: &[u8], reader: &ElementReader) -> Result<u64, Refusal>
+        requires { (form self ≡ reader.now.form) × (count self ≡ reader.now.count) }
+        ensures { result ≡ counted_of (walk self file.now (elements_of file.now reader.now)) };
 
     // The run that a slot begins, where a walk that comes to it is accepted.
     fn run_of(self, file: &[u8], slot: u64) -> Run

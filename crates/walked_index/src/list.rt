@@ -7,10 +7,10 @@ ghost use Rattle.chunk_grid.specs.Grid.{Grid, grid_test};
 ghost use Rattle.chunk_grid.specs.Values.{grid_of};
 ghost use Rattle.index.specs.Index.{Rec};
 ghost use Rattle.index.specs.ExactList.{ExactList};
-ghost use Rattle.elements.specs.Values.{elements_of, Reads};
+ghost use Rattle.elements.specs.Values.{elements_of};
 ghost use Rattle.records.specs.Records.{record_length, list_bytes, list_content, records_in};
 ghost use Rattle.located.specs.Located.{index_of};
-ghost use Rattle.walked_index.specs.Walked.{elements_read, ReadBy, Walked};
+ghost use Rattle.walked_index.specs.Walked.{elements_read, Walked};
 
 use crate::WalkedIndex;
 use chunk_grid::ChunkGrid;
@@ -40,15 +40,10 @@ pub fn list_chunks<I: WalkedIndex>(
         → ExactList (index_of (I.located index file.now e)) (records_in grid.rank n list.new) n) }
 {
     grid.test()?;
-    let mut counts = [0u64; 32];
-    let mut bound = [0u64; 32];
-    let mut down = [0u64; 32];
-    let numbering = grid.numbering(&mut counts, &mut bound, &mut down);
+    let numbering = grid.numbering();
     let form = index.element_form();
-    let count = index.slot_count();
-    let chunk = grid.chunk;
-    let reader = ElementReader::new(form, count, grid.rank, &chunk, numbering, element_bytes);
-    list_walk(list, file, index, reader, &chunk, &bound, &down)
+    let reader = ElementReader::new(form, index.slot_count(), &numbering, element_bytes);
+    list_walk(list, file, index, &reader)
 }
 
 // Walks an index, and writes its records into the list; 9 where it has no room for them.
@@ -56,54 +51,39 @@ fn list_walk<I: WalkedIndex>(
     list: &mut [u8],
     file: &[u8],
     index: I,
-    reader: ElementReader,
-    chunk: &[u64; 32],
-    bound: &[u64; 32],
-    down: &[u64; 32],
+    reader: &ElementReader,
 ) -> Result<u64, Refusal>
-    requires { ReadBy (I.form index) reader chunk.now bound.now down.now × (I.count index ≡ reader.count) }
-    ensures { (grid : Grid) (n : ℕ)
-        → Reads reader chunk.now bound.now down.now grid n
-        → let answer = in_room (I.walk index file.now (elements_of file.now reader grid n))
-        (length list.old / record_length reader.rank) in
+    requires { (I.form index ≡ reader.now.form) × (I.count index ≡ reader.now.count) }
+    ensures { let answer = in_room (I.walk index file.now (elements_of file.now reader.now))
+        (length list.old / record_length reader.now.numbering.now.grid.now.rank) in
         (result ≡ counted_of answer) × (list.new ≡ list_content answer list.old) }
 {
-    let n = index.count_walk(file, reader, chunk, bound, down)?;
-    let room = list.len() as u64 / (16 + 8 * reader.rank);
+    let n = index.count_walk(file, reader)?;
+    let room = list.len() as u64 / (16 + 8 * reader.numbering.grid.rank);
     if room < n {
         return Err(Refusal::ListTooSmall(n));
     }
-    write_walk(list, file, index, reader, chunk, bound, down);
+    write_walk(list, file, index, reader);
     Ok(n)
 }
 
 // Writes the records of an index into the list, from its start on. The index is walked before: nothing is tested again.
-fn write_walk<I: WalkedIndex>(
-    list: &mut [u8],
-    file: &[u8],
-    index: I,
-    reader: ElementReader,
-    chunk: &[u64; 32],
-    bound: &[u64; 32],
-    down: &[u64; 32],
-)
-    requires { (l : List Rec) × Walked (I.walk index file.now) (I.form index) (I.count index) file.now reader chunk.now
-        bound.now down.now l
+fn write_walk<I: WalkedIndex>(list: &mut [u8], file: &[u8], index: I, reader: &ElementReader)
+    requires { (l : List Rec) × Walked (I.walk index file.now) (I.form index) (I.count index) file.now reader.now l
         × (length (list_bytes l) ≤ length list.old) }
-    ensures { (l : List Rec)
-        → Walked (I.walk index file.now) (I.form index) (I.count index) file.now reader chunk.now bound.now down.now l
+    ensures { (l : List Rec) → Walked (I.walk index file.now) (I.form index) (I.count index) file.now reader.now l
         → list.new ≡ sets list.old 0 (list_bytes l) }
 {
     let mut at = 0;
     let mut slot = 0;
-    // The records of the slots before `slot` are written, up to `at`.
+    // The records of the slots before `slot` are written, up to `at`. (By slot: a step is a whole run.)
     while slot < reader.count {
         match index.run_of(file, slot) {
             Run::Gap(slots) => {
                 slot += below_count(slots, slot, reader.count);
             }
             Run::Elements { pos, slots } => {
-                at = write_elements(list, at, file, pos, slots, slot, reader, chunk, bound, down);
+                at = write_elements(list, at, file, pos, slots, slot, reader);
                 slot += below_count(slots, slot, reader.count);
             }
         }

@@ -4,9 +4,9 @@ ghost use Rattle.refusal.specs.Refusals.{◌then◌};
 ghost use Rattle.refusal.specs.Outcome.{◌yields◌};
 ghost use Rattle.chunk_grid.specs.Grid.{Grid, grid_test, corner_test, slot_of};
 ghost use Rattle.chunk_grid.specs.Values.{grid_of};
-ghost use Rattle.elements.specs.Values.{elements_of, Reads, found_of};
+ghost use Rattle.elements.specs.Values.{elements_of, found_of};
 ghost use Rattle.located.specs.Located.{index_of, slot_path};
-ghost use Rattle.walked_index.specs.Walked.{elements_read, ReadBy};
+ghost use Rattle.walked_index.specs.Walked.{elements_read};
 ghost use Rattle.walked_index.specs.Answered.{Answered, Agreed};
 
 use crate::WalkedIndex;
@@ -36,48 +36,26 @@ pub fn lookup_chunk<I: WalkedIndex>(
         × Agreed (grid_test (grid_of grid) yields I.walk index file.now e) (grid_of grid) corner.now result }
 {
     let count = index.slot_count();
-    lookup_test(file, index, grid, corner)?;
-    let mut counts = [0u64; 32];
-    let mut bound = [0u64; 32];
-    let mut down = [0u64; 32];
-    let numbering = grid.numbering(&mut counts, &mut bound, &mut down);
-    let chunk = grid.chunk;
-    let slot = slot_of(corner, numbering.rotated as usize, &chunk, &counts, &down);
-    let form = index.element_form();
-    let reader = ElementReader::new(form, count, grid.rank, &chunk, numbering, element_bytes);
-    slot_path(file, index, reader, slot, &chunk, &bound, &down)
-}
-
-// The tests before a path.
-fn lookup_test<I: WalkedIndex>(
-    file: &[u8],
-    index: I,
-    grid: ChunkGrid,
-    corner: &[u64],
-) -> Result<(), Refusal>
-    ensures { result ≡ grid_test (grid_of grid) then corner_test (grid_of grid) corner.now
-        then I.entry index file.now }
-{
     grid.test()?;
-    corner_test(grid, corner)?;
-    index.test_entry(file)
+    let numbering = grid.numbering();
+    corner_test(&numbering, corner)?;
+    index.test_entry(file)?;
+    let slot = slot_of(corner, &numbering);
+    let form = index.element_form();
+    let reader = ElementReader::new(form, count, &numbering, element_bytes);
+    slot_path(file, index, &reader, slot)
 }
 
 // What the path of a slot below the count finds; no other has one.
 fn slot_path<I: WalkedIndex>(
     file: &[u8],
     index: I,
-    reader: ElementReader,
+    reader: &ElementReader,
     slot: Option<u64>,
-    chunk: &[u64; 32],
-    bound: &[u64; 32],
-    down: &[u64; 32],
 ) -> Result<Option<Entry>, Refusal>
-    requires { (I.entry index file.now ≡ Ok tt)
-        × ReadBy (I.form index) reader chunk.now bound.now down.now × (I.count index ≡ reader.count) }
-    ensures { (grid : Grid) (n : ℕ)
-        → Reads reader chunk.now bound.now down.now grid n
-        → result ≡ found_of (slot_path (I.located index file.now (elements_of file.now reader grid n)) slot) }
+    requires { (I.entry index file.now ≡ Ok tt) × (I.form index ≡ reader.now.form)
+        × (I.count index ≡ reader.now.count) }
+    ensures { result ≡ found_of (slot_path (I.located index file.now (elements_of file.now reader.now)) slot) }
 {
     let Some(s) = slot else {
         return Ok(None);
@@ -87,6 +65,6 @@ fn slot_path<I: WalkedIndex>(
     }
     match index.path_of(file, s)? {
         None => Ok(None),
-        Some(pos) => read_element(file, pos as usize, s, reader, chunk, bound, down),
+        Some(pos) => read_element(file, pos as usize, s, reader),
     }
 }

@@ -1,6 +1,6 @@
 -- `chunk_grid::shapes_test` meets its contract. Assumes nothing.
 use mathlib.Core.Bool.{true≢false}
-use mathlib.Core.Path.{sym, ◌∙◌}
+use mathlib.Core.Path.{sym}
 use Rattle.chunk_grid.proofs.Building.{rank_over, rank_differs, present_differs, maximum_differs, shapes_agree}
 use Rattle.chunk_grid.proofs.shapes_test.Goals as goal
 
@@ -14,10 +14,10 @@ pub returns-then-present-rank : goal.returns-then-present-rank
 returns-then-present-rank c = λ o. present_differs _ _ _ _ o c.if-rank-gt32.false c.if-chunk-rank.false _ c.if-present-rank.true
 
 pub returns-then-maximum-rank : goal.returns-then-maximum-rank
-returns-then-maximum-rank c = λ o. rw c.if-has_maximum.true (maximum_differs _ _ _ _ o c.if-rank-gt32.false c.if-chunk-rank.false c.if-present-rank.false c.if-maximum-rank.true)
+returns-then-maximum-rank c = λ o. rw c.in-Some.is (maximum_differs _ _ _ _ o c.if-rank-gt32.false c.if-chunk-rank.false c.if-present-rank.false c.if-maximum-rank.true)
 
 pub returns-else-maximum-rank : goal.returns-else-maximum-rank
-returns-else-maximum-rank c = λ o. shapes_agree _ _ _ _ o c.if-rank-gt32.false c.if-chunk-rank.false c.if-present-rank.false _ (λ t. c.if-maximum-rank.false)
+returns-else-maximum-rank c = λ o. rw c.in-Some.is (shapes_agree _ _ _ _ o c.if-rank-gt32.false c.if-chunk-rank.false c.if-present-rank.false _ (λ t. c.if-maximum-rank.false))
 
-pub returns-else-has_maximum : goal.returns-else-has_maximum
-returns-else-has_maximum c = λ o. shapes_agree _ _ _ _ o c.if-rank-gt32.false c.if-chunk-rank.false c.if-present-rank.false _ (λ t. absurd (true≢false (sym t ∙ c.if-has_maximum.false)))
+pub returns-in_default : goal.returns-in_default
+returns-in_default c = λ o. shapes_agree _ _ _ _ o c.if-rank-gt32.false c.if-chunk-rank.false c.if-present-rank.false _ (rw c.in_default.is (λ t. absurd (true≢false (sym t))))

@@ -4,4 +4,4 @@ use Rattle.chunk_slots.proofs.AllInside.{Asking}
 use Rattle.chunk_slots.proofs.all_inside.Given as goal
 
 abbrev pub invariant-loop-i : goal.invariant-loop-i
-invariant-loop-i l = (l.rank ≤ 32) × Asking l.n l.rank l.rotated l.bound l.down l.rests l.i
+invariant-loop-i l = (l.rank ≤ 32) × Asking l.n l.rank l.rotated l.numbering.bound l.numbering.down l.rests l.i

@@ -6,4 +6,4 @@ use Rattle.chunk_grid.specs.Grid.{below, aligned}
 use Rattle.chunk_slots.proofs.corner_test.Given as goal
 
 abbrev pub invariant-loop-i : goal.invariant-loop-i
-invariant-loop-i l = (length l.corner ≤ 32) × (aligned (drop l.i l.corner) (drop l.i (take (length l.corner) l.chunk)) ≡ aligned l.corner (take (length l.corner) l.chunk)) × (below (drop l.i l.corner) (drop l.i (take (length l.corner) l.present)) ≡ below l.corner (take (length l.corner) l.present))
+invariant-loop-i l = (length l.corner ≤ 32) × (aligned (drop l.i l.corner) (drop l.i (take (length l.corner) l.grid.chunk)) ≡ aligned l.corner (take (length l.corner) l.grid.chunk)) × (below (drop l.i l.corner) (drop l.i (take (length l.corner) l.grid.present)) ≡ below l.corner (take (length l.corner) l.grid.present))

@@ -9,4 +9,4 @@ use Rattle.chunk_slots.proofs.Corners.{onward, corner_quotients}
 use Rattle.chunk_slots.proofs.slot_of.Given as goal
 
 abbrev pub invariant-loop-i : goal.invariant-loop-i
-invariant-loop-i l = (length l.corner ≤ 32) × (l.slot ≤ largest64) × (onward (corner_quotients l.rotated l.corner l.chunk) (in_order (length l.corner) l.rotated l.counts) (take (length l.corner) l.down) l.i l.slot ≡ onward (corner_quotients l.rotated l.corner l.chunk) (in_order (length l.corner) l.rotated l.counts) (take (length l.corner) l.down) 0 0)
+invariant-loop-i l = (length l.corner ≤ 32) × (l.slot ≤ largest64) × (onward (corner_quotients l.rotated l.corner l.numbering.grid.now.chunk) (in_order (length l.corner) l.rotated l.numbering.counts) (take (length l.corner) l.numbering.down) l.i l.slot ≡ onward (corner_quotients l.rotated l.corner l.numbering.grid.now.chunk) (in_order (length l.corner) l.rotated l.numbering.counts) (take (length l.corner) l.numbering.down) 0 0)

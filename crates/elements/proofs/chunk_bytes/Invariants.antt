@@ -8,4 +8,4 @@ use Rattle.elements.specs.Elements.{product}
 use Rattle.elements.proofs.chunk_bytes.Given as goal
 
 abbrev pub invariant-loop-d : goal.invariant-loop-d
-invariant-loop-d l = (l.bytes ≤ largest64) × (figure (product (drop l.d (take l.rank l.chunk)) * l.bytes) ≡ figure (product (take l.rank l.chunk) * l.element_bytes))
+invariant-loop-d l = (l.bytes ≤ largest64) × (figure (product (drop l.d (take l.rank l.numbering.grid.now.chunk)) * l.bytes) ≡ figure (product (take l.rank l.numbering.grid.now.chunk) * l.element_bytes))

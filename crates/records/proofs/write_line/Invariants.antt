@@ -3,7 +3,6 @@ use Prim.Native.Nat.{ℕ}
 use mathlib.Core.Path.{◌≡◌}
 use mathlib.Core.List.{List}
 use lib.ListN.{length}
-use Rattle.chunk_grid.specs.Grid.{Grid}
 use Rattle.element_form.specs.Form.{stride as stride_of}
 use Rattle.index.specs.Index.{Rec}
 use Rattle.elements.specs.Values.{elements_of}
@@ -14,4 +13,4 @@ use Rattle.records.proofs.write_line.Given as goal
 
 abbrev pub invariant-loop-i : goal.invariant-loop-i
 invariant-loop-i here = Within here.file (stride_of here.reader.form) here.n here.i here.from × (length here.out ≡ length here.initial.out)
-    × ((grid : Grid) (m s : ℕ) (l : List Rec) → Lined here.file here.reader here.offsets here.dim here.first here.step here.pos here.n grid m s l → LeftOf (elements_of here.file here.reader grid m) here.n s here.initial.out here.at l here.from here.i here.out here.to)
+    × ((s : ℕ) (l : List Rec) → Lined here.file here.reader here.offsets here.dim here.first here.step here.pos here.n s l → LeftOf (elements_of here.file here.reader) here.n s here.initial.out here.at l here.from here.i here.out here.to)

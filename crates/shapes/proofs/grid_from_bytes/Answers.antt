@@ -1,8 +1,10 @@
 -- `shapes::grid_from_bytes` meets its contract. Assumes nothing.
+use mathlib.Core.Path.{ap, ◌∙◌}
 use lib.Dec.{lit≤}
+use Rattle.chunk_grid.specs.Values.{built}
 use Rattle.chunk_grid.proofs.Building.{rank_over}
 use Rattle.chunk_grid.proofs.Numbered.{refused_shapes, built_refused}
-use Rattle.shapes.proofs.Shapes.{BeginsWith, stored_shape}
+use Rattle.shapes.proofs.Shapes.{BeginsWith, stored_shape, where_given}
 use Rattle.shapes.proofs.grid_from_bytes.Goals.{After-read_shape-m, After-read_shape-n, After-read_shape-p}
 use Rattle.shapes.proofs.grid_from_bytes.Goals as goal
 
@@ -22,7 +24,8 @@ returns-then-rank-gt32 c = built_refused _ _ (refused_shapes _ _ (rank_over _ _ 
 pub returns : goal.returns
 returns c =
     let before = goal.at.returns c in
-    rw ((chunk_read before.After-read_shape-n).1, (present_read before.After-read_shape-p).1, (maximum_read before.After-read_shape-m).1) at c.new.ensures
+    let h = rw c.then_some-maximum.ensures at c.new.ensures in
+    rw ((chunk_read before.After-read_shape-n).1, (present_read before.After-read_shape-p).1, (maximum_read before.After-read_shape-m).1) at (h ∙ ap built (where_given _ _ _ _ _ _))
 
 pub slice_bounds-lengths-end : goal.slice_bounds-lengths-end
 slice_bounds-lengths-end c = (chunk_read (goal.at.slice_bounds-lengths-end c).After-read_shape-n).0
@@ -39,5 +42,5 @@ slice_bounds-new-end-2 c = (present_read (goal.at.slice_bounds-new-end-2 c).Afte
 pub slice_bounds-limits-end : goal.slice_bounds-limits-end
 slice_bounds-limits-end c = (maximum_read (goal.at.slice_bounds-limits-end c).After-read_shape-m).0
 
-pub slice_bounds-new-end-3 : goal.slice_bounds-new-end-3
-slice_bounds-new-end-3 c = (maximum_read (goal.at.slice_bounds-new-end-3 c).After-read_shape-m).2
+pub slice_bounds-then_some-end : goal.slice_bounds-then_some-end
+slice_bounds-then_some-end c = (maximum_read (goal.at.slice_bounds-then_some-end c).After-read_shape-m).2

@@ -1,81 +1,91 @@
 -- `chunk_grid::ChunkGrid::numbering` meets its contract. Assumes nothing.
 use Prim.Native.Nat.{ℕ, ◌≤◌}
-use mathlib.Core.Path.{◌≡◌, sym, ◌∙◌}
+use mathlib.Core.Path.{◌≡◌, refl, sym, ◌∙◌}
 use mathlib.Core.List.{List}
 use native.Mathlib.Omega.{arith}
 use mir.Syntax.{w64}
 use mir.Val.{Fits}
 use lib.ListN.{length, get_or, take}
 use lib.Seq.{length-take-le}
+use Rattle.std.specs.Prelude.{Ok}
 use Rattle.refusal.specs.Refusals.{largest64}
+use Rattle.std.specs.Option.{IfSome}
+use Rattle.chunk_grid.specs.Grid.{grid_test}
+use Rattle.chunk_grid.specs.Values.{grid_of}
 use Rattle.chunk_grid.proofs.Numbered.{none_over, rank_small, tests_of, numbering_is}
 use borrow.Author.Rules.{rules}
 use Rattle.chunk_grid.proofs.ChunkGrid.numbering.Goals.{After-limits-limits, Start}
 use Rattle.chunk_grid.proofs.ChunkGrid.numbering.Goals as goal
 
-small : (c : Start) → c.args.self.rank ≤ 32
-small c = rank_small c.args.self c.requires.0
+passed : (c : Start) → grid_test (grid_of c.args.self.now) ≡ Ok tt
+passed c = c.requires
 
-sizes : (c : Start) → (length c.args.self.chunk ≡ 32) × (length c.args.self.present ≡ 32) × (length c.args.self.maximum ≡ 32)
-sizes c = (search rules, search rules, search rules)
+small : (c : Start) → c.args.self.now.rank ≤ 32
+small c = rank_small c.args.self.now (passed c)
 
-fit : (c : Start) (i : ℕ) → get_or c.args.self.present i 0 ≤ largest64
-fit c i = let f : Fits w64 (get_or c.args.self.present i 0) = search rules in omega arith
+sizes : (c : After-limits-limits) → (length c.args.self.now.chunk ≡ 32) × (length c.args.self.now.present ≡ 32) × IfSome c.args.self.now.maximum (λ l. length l ≡ 32)
+sizes c = (search rules, search rules, c.limits-limits.ensures.1)
 
 -- a part of `rank` members has this length
-part : (c : Start) (l : List ℕ) → 32 ≤ length l → c.args.self.rank ≡ length (take c.args.self.rank l)
+part : (c : Start) (l : List ℕ) → length l ≡ 32 → c.args.self.now.rank ≡ length (take c.args.self.now.rank l)
 part c l h = sym (length-take-le _ l (omega (arith, small c)))
 
 limited : (c : After-limits-limits) → length c.limits-limits.result ≡ 32
 limited c = search rules
 
-pub number-requires : goal.number-requires
-number-requires c =
-    let p = c.requires in
-    let e = part (goal.at.number-requires c).Start c.args.self.chunk (omega (arith, sizes (goal.at.number-requires c).Start)) in
-    (sym (part (goal.at.number-requires c).Start _ p.1) ∙ e, sym (part (goal.at.number-requires c).Start _ p.2) ∙ e, sym (part (goal.at.number-requires c).Start _ p.3) ∙ e, sym (part (goal.at.number-requires c).Start _ (omega (arith, limited (goal.at.number-requires c).After-limits-limits))) ∙ e, sym (part (goal.at.number-requires c).Start _ (omega (arith, sizes (goal.at.number-requires c).Start))) ∙ e, rw c.limits-limits.ensures (tests_of c.args.self (small (goal.at.number-requires c).Start) (sizes (goal.at.number-requires c).Start) ∙ p.0))
+pub slice_bounds-counts-end : goal.slice_bounds-counts-end
+slice_bounds-counts-end c = small (goal.at.slice_bounds-counts-end c).Start
 
-pub returns : goal.returns
-returns c =
-    let p = c.requires in
-    let k = c.args.self in
-    let s = (goal.at.returns c).Start in
-    let both = numbering_is k (small s) (sizes s) p.0 _ _ _ _ _ _ _ _ (c.number.auto.counts ∙ sym (part s _ p.1)) (c.number.auto.bound ∙ sym (part s _ p.2)) (c.number.auto.down ∙ sym (part s _ p.3))
-    (none_over k.present k.rank (fit s)) (rw c.limits-limits.ensures at c.number.ensures) in
-    record { numbers = both.0; kept = both.1 }
+pub slice_bounds-bound-end : goal.slice_bounds-bound-end
+slice_bounds-bound-end c = small (goal.at.slice_bounds-bound-end c).Start
+
+pub slice_bounds-down-end : goal.slice_bounds-down-end
+slice_bounds-down-end c = small (goal.at.slice_bounds-down-end c).Start
 
 pub slice_bounds-number-end : goal.slice_bounds-number-end
-slice_bounds-number-end c = omega (arith, small (goal.at.slice_bounds-number-end c).Start)
+slice_bounds-number-end c = part (goal.at.slice_bounds-number-end c).Start _ (omega arith)
 
 pub slice_bounds-number-end-2 : goal.slice_bounds-number-end-2
 slice_bounds-number-end-2 c = part (goal.at.slice_bounds-number-end-2 c).Start _ (omega arith)
 
 pub slice_bounds-number-end-3 : goal.slice_bounds-number-end-3
-slice_bounds-number-end-3 c = omega (arith, small (goal.at.slice_bounds-number-end-3 c).Start)
-
-pub slice_bounds-number-end-4 : goal.slice_bounds-number-end-4
-slice_bounds-number-end-4 c = part (goal.at.slice_bounds-number-end-4 c).Start _ (omega arith)
-
-pub slice_bounds-number-end-5 : goal.slice_bounds-number-end-5
-slice_bounds-number-end-5 c = omega (arith, small (goal.at.slice_bounds-number-end-5 c).Start)
-
-pub slice_bounds-number-end-6 : goal.slice_bounds-number-end-6
-slice_bounds-number-end-6 c = part (goal.at.slice_bounds-number-end-6 c).Start _ (omega arith)
+slice_bounds-number-end-3 c = part (goal.at.slice_bounds-number-end-3 c).Start _ (omega arith)
 
 pub slice_bounds-limits-end : goal.slice_bounds-limits-end
 slice_bounds-limits-end c = omega (arith, small (goal.at.slice_bounds-limits-end c).Start, limited (goal.at.slice_bounds-limits-end c).After-limits-limits)
 
-pub slice_bounds-number-end-7 : goal.slice_bounds-number-end-7
-slice_bounds-number-end-7 c = part (goal.at.slice_bounds-number-end-7 c).Start _ (omega (arith, limited (goal.at.slice_bounds-number-end-7 c).After-limits-limits))
+pub slice_bounds-number-end-4 : goal.slice_bounds-number-end-4
+slice_bounds-number-end-4 c = part (goal.at.slice_bounds-number-end-4 c).Start _ (limited (goal.at.slice_bounds-number-end-4 c).After-limits-limits)
 
-pub slice_bounds-present-end : goal.slice_bounds-present-end
-slice_bounds-present-end c = omega (arith, small (goal.at.slice_bounds-present-end c).Start, sizes (goal.at.slice_bounds-present-end c).Start)
+pub slice_bounds-number-end-5 : goal.slice_bounds-number-end-5
+slice_bounds-number-end-5 c = part (goal.at.slice_bounds-number-end-5 c).Start _ (sizes (goal.at.slice_bounds-number-end-5 c).After-limits-limits).1
 
-pub slice_bounds-number-end-8 : goal.slice_bounds-number-end-8
-slice_bounds-number-end-8 c = part (goal.at.slice_bounds-number-end-8 c).Start _ (omega (arith, sizes (goal.at.slice_bounds-number-end-8 c).Start))
+pub slice_bounds-number-end-6 : goal.slice_bounds-number-end-6
+slice_bounds-number-end-6 c = part (goal.at.slice_bounds-number-end-6 c).Start _ (sizes (goal.at.slice_bounds-number-end-6 c).After-limits-limits).0
 
-pub slice_bounds-chunk-end : goal.slice_bounds-chunk-end
-slice_bounds-chunk-end c = omega (arith, small (goal.at.slice_bounds-chunk-end c).Start, sizes (goal.at.slice_bounds-chunk-end c).Start)
+pub number-rotated-requires : goal.number-rotated-requires
+number-rotated-requires c =
+    let before = goal.at.number-rotated-requires c in
+    let t = before.Start in
+    let p = part t in
+    let s = sizes before.After-limits-limits in
+    let e = p c.args.self.now.chunk s.0 in
+    let z = sym (p _ (omega arith)) ∙ e in
+    (z, z, z, sym (p _ (limited before.After-limits-limits)) ∙ e, sym (p _ s.1) ∙ e, rw c.limits-limits.ensures.0 (tests_of c.args.self.now (small t) s ∙ passed t))
 
-pub slice_bounds-number-end-9 : goal.slice_bounds-number-end-9
-slice_bounds-number-end-9 c = part (goal.at.slice_bounds-number-end-9 c).Start _ (omega (arith, sizes (goal.at.slice_bounds-number-end-9 c).Start))
+pub invariant_of-result : goal.invariant_of-result
+invariant_of-result c =
+    let before = goal.at.invariant_of-result c in
+    let t = before.Start in
+    let p = part t in
+    let k = c.args.self.now in
+    let a = numbering_is k (small t) (sizes before.After-limits-limits) (passed t) _ _ _ _ _ _ _ _ (c.number-rotated.auto.counts ∙ sym (p _ (omega arith)))
+    (c.number-rotated.auto.bound ∙ sym (p _ (omega arith))) (c.number-rotated.auto.down ∙ sym (p _ (omega arith)))
+    (none_over k.present k.rank c.limits-limits.ensures.2) (rw c.limits-limits.ensures.0 at c.number-rotated.ensures) in
+    record { numbered = a.0; counted = a.1; extended = a.2 }
+
+pub returns : goal.returns
+returns c = refl
+
+pub shared_ref_as_front-number : goal.shared_ref_as_front-number
+shared_ref_as_front-number c = small (goal.at.shared_ref_as_front-number c).Start

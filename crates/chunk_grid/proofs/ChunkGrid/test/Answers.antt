@@ -5,6 +5,7 @@ use mathlib.Core.List.{List}
 use native.Mathlib.Omega.{arith}
 use lib.ListN.{length, take}
 use lib.Seq.{length-take-le}
+use Rattle.std.specs.Option.{IfSome}
 use Rattle.chunk_grid.proofs.Numbered.{over_32, tests_of}
 use borrow.Author.Rules.{rules}
 use Rattle.chunk_grid.proofs.ChunkGrid.test.Goals.{After-limits-limits, Else-self-gt32, Start}
@@ -13,7 +14,7 @@ use Rattle.chunk_grid.proofs.ChunkGrid.test.Goals as goal
 pub returns-then-self-gt32 : goal.returns-then-self-gt32
 returns-then-self-gt32 c = over_32 _ c.if-self-gt32.true
 
-sizes : (c : Start) → (length c.args.self.chunk ≡ 32) × (length c.args.self.present ≡ 32) × (length c.args.self.maximum ≡ 32)
+sizes : (c : Start) → (length c.args.self.chunk ≡ 32) × (length c.args.self.present ≡ 32) × IfSome c.args.self.maximum (λ l. length l ≡ 32)
 sizes c = (search rules, search rules, search rules)
 
 -- a part of `rank` members has this length
@@ -30,13 +31,10 @@ numbering_test-requires c =
 
 pub returns : goal.returns
 returns c =
-    c.numbering_test.ensures ∙ rw c.limits-limits.ensures (tests_of _ c.if-self-gt32.false (sizes (goal.at.returns c).Start))
+    c.numbering_test.ensures ∙ rw c.limits-limits.ensures.0 (tests_of _ c.if-self-gt32.false (sizes (goal.at.returns c).Start))
 
 pub slice_bounds-numbering_test-end : goal.slice_bounds-numbering_test-end
 slice_bounds-numbering_test-end c = sym (part (goal.at.slice_bounds-numbering_test-end c).Else-self-gt32 _ (limited (goal.at.slice_bounds-numbering_test-end c).After-limits-limits))
-
-pub slice_bounds-chunk-end : goal.slice_bounds-chunk-end
-slice_bounds-chunk-end c = omega (arith, sizes (goal.at.slice_bounds-chunk-end c).Start)
 
 pub slice_bounds-numbering_test-end-2 : goal.slice_bounds-numbering_test-end-2
 slice_bounds-numbering_test-end-2 c = sym (part (goal.at.slice_bounds-numbering_test-end-2 c).Else-self-gt32 _ (sizes (goal.at.slice_bounds-numbering_test-end-2 c).Start).0)

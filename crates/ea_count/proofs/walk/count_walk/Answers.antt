@@ -10,12 +10,11 @@ use Rattle.std.specs.Prelude.{Ok}
 use Rattle.refusal.specs.declared.Refusal.TheVariants.{OffsetSize}
 use Rattle.refusal.specs.Values.{counted_of}
 use Rattle.refusal.proofs.Tests.{then_inv}
-use Rattle.chunk_grid.specs.Grid.{Grid}
 use Rattle.fields.specs.Fields.{is_width}
 use Rattle.fields.proofs.Fields.{width_passed}
 use Rattle.fields.proofs.Widths.{width_le}
 use Rattle.element_form.specs.Form.{stride}
-use Rattle.elements.specs.Values.{elements_of, Reads}
+use Rattle.elements.specs.Values.{elements_of}
 use Rattle.elements.specs.Runs.{elements_from}
 use Rattle.ea_header.specs.Values.{Served}
 use Rattle.ea_header.proofs.Served.{tested_serves}
@@ -30,9 +29,9 @@ use Rattle.ea_count.proofs.walk.count_walk.Goals.{After-count_elements, After-in
 use Rattle.ea_count.proofs.walk.count_walk.Goals as goal
 
 pub returns-in_err-test_array : goal.returns-in_err-test_array
-returns-in_err-test_array c = λ g n q.
+returns-in_err-test_array c =
     let a = c.args in
-    let h = walk_refused (array_of a.file.now a.array) (elements_of a.file.now a.reader g n) _ (sym c.test_array.ensures ∙ c.in_err-test_array.was) in
+    let h = walk_refused (array_of a.file.now a.array) (elements_of a.file.now a.reader.now) _ (sym c.test_array.ensures ∙ c.in_err-test_array.was) in
     search rules
 
 tested : (c : In_ok-test_array) → array_test (array_of c.args.file.now c.args.array) ≡ Ok tt
@@ -58,22 +57,21 @@ room c =
 -- they are counted
 counts : (c : After-count_elements)
     → let a = c.args in
-    (g : Grid) (n : ℕ) → Reads a.reader a.chunk.now a.bound.now a.down.now g n
-    → c.count_elements.result
-    ≡ counted_of (elements_from (elements_of a.file.now a.reader g n) (a.array.index_at + inline_element_at a.array.geometry.parameters a.array.geometry.offset_size 0)
+    c.count_elements.result
+    ≡ counted_of (elements_from (elements_of a.file.now a.reader.now) (a.array.index_at + inline_element_at a.array.geometry.parameters a.array.geometry.offset_size 0)
     a.array.geometry.parameters.idx_blk_elmts 0 (Ok []))
-counts c g n q =
+counts c =
     let a = c.args in
-    c.count_elements.ensures g n q
-    ∙ ap (λ (x : ℕ). counted_of (elements_from (elements_of a.file.now a.reader g n) (a.array.index_at + x) a.array.geometry.parameters.idx_blk_elmts 0 (Ok [])))
+    c.count_elements.ensures
+    ∙ ap (λ (x : ℕ). counted_of (elements_from (elements_of a.file.now a.reader.now) (a.array.index_at + x) a.array.geometry.parameters.idx_blk_elmts 0 (Ok [])))
     c.inline_element_at.ensures
 
 pub count_unreadable-requires : goal.count_unreadable-requires
 count_unreadable-requires c =
-    (c.requires.formed, sym c.is_width.ensures ∙ c.if-not-is_width.true)
+    (c.requires, sym c.is_width.ensures ∙ c.if-not-is_width.true)
 
 pub returns-then-not-is_width : goal.returns-then-not-is_width
-returns-then-not-is_width c = λ g n q. c.count_unreadable.ensures _ g n ∙ walk_passed _ _ (tested (goal.at.returns-then-not-is_width c).In_ok-test_array)
+returns-then-not-is_width c = c.count_unreadable.ensures _ ∙ walk_passed _ _ (tested (goal.at.returns-then-not-is_width c).In_ok-test_array)
 
 pub inline_element_at-requires : goal.inline_element_at-requires
 inline_element_at-requires c = (omega arith, record { served = (passed (goal.at.inline_element_at-requires c).In_ok-test_array).0; width = width_le _ (wide (goal.at.inline_element_at-requires c).Else-not-is_width) })
@@ -83,17 +81,11 @@ overflow_add-pos c = omega (arith, room (goal.at.overflow_add-pos c).After-inlin
 
 pub count_elements-requires : goal.count_elements-requires
 count_elements-requires c =
-    let w = c.requires in
-    record {
-      grid = w.grid;
-      element_bytes = w.element_bytes;
-      reads = w.reads;
-      inside = subst (λ (n : ℕ). c.args.array.index_at + c.inline_element_at.result + c.args.array.geometry.parameters.idx_blk_elmts * n ≤ length c.args.file.now) (ap stride w.formed) (room (goal.at.count_elements-requires c).After-inline_element_at);
-    }
+    subst (λ (n : ℕ). c.args.array.index_at + c.inline_element_at.result + c.args.array.geometry.parameters.idx_blk_elmts * n ≤ length c.args.file.now) (ap stride c.requires) (room (goal.at.count_elements-requires c).After-inline_element_at)
 
 pub returns-in_err-n : goal.returns-in_err-n
-returns-in_err-n c = λ g n q.
-    let h = inline_refused _ _ _ (sym c.in_err-n.was ∙ counts (goal.at.returns-in_err-n c).After-count_elements g n q) ∙ walk_passed _ _ (tested (goal.at.returns-in_err-n c).In_ok-test_array) in
+returns-in_err-n c =
+    let h = inline_refused _ _ _ (sym c.in_err-n.was ∙ counts (goal.at.returns-in_err-n c).After-count_elements) ∙ walk_passed _ _ (tested (goal.at.returns-in_err-n c).In_ok-test_array) in
     search rules
 
 pub super_blocks-supers-requires : goal.super_blocks-supers-requires
@@ -102,19 +94,17 @@ super_blocks-supers-requires c =
 
 pub count_blocks-requires : goal.count_blocks-requires
 count_blocks-requires c =
-    let w = c.requires in
     let n = c.super_blocks-supers.ensures in
     record {
-      by = w;
+      formed = c.requires;
       index = index_in_file _ _ (passed (goal.at.count_blocks-requires c).In_ok-test_array).0 (wide (goal.at.count_blocks-requires c).Else-not-is_width) (passed (goal.at.count_blocks-requires c).In_ok-test_array).1;
-      few = omega (arith, first_slot_zero c.args.array.geometry.parameters, count_few (elements_of c.args.file.now c.args.reader w.grid w.element_bytes) _ _ _ _ (sym c.in_ok-n.was ∙ counts (goal.at.count_blocks-requires c).After-count_elements w.grid w.element_bytes w.reads));
+      few = omega (arith, first_slot_zero c.args.array.geometry.parameters, count_few (elements_of c.args.file.now c.args.reader.now) _ _ _ _ (sym c.in_ok-n.was ∙ counts (goal.at.count_blocks-requires c).After-count_elements));
       ordered = omega arith;
       supers = omega (arith, n);
     }
 
 pub returns : goal.returns
 returns c =
-    λ g n q.
-    inline_counted _ _ _ (sym c.in_ok-n.was ∙ counts (goal.at.returns c).After-count_elements g n q) (sym (width_passed (OffsetSize _) _ (wide (goal.at.returns c).Else-not-is_width)))
-    _ c.super_blocks-supers.ensures (c.count_blocks.ensures g n q)
+    inline_counted _ _ _ (sym c.in_ok-n.was ∙ counts (goal.at.returns c).After-count_elements) (sym (width_passed (OffsetSize _) _ (wide (goal.at.returns c).Else-not-is_width)))
+    _ c.super_blocks-supers.ensures c.count_blocks.ensures
     ∙ walk_passed _ _ (tested (goal.at.returns c).In_ok-test_array)

@@ -7,11 +7,10 @@ use Rattle.refusal.specs.Outcome.{◌yields◌}
 use Rattle.refusal.proofs.Outcomes.{value_is, refused_is}
 use Rattle.checksum.specs.Lookup3.{lookup3}
 use Rattle.ea_header.specs.Header.{header_test}
-use Rattle.ea_header.specs.Values.{parsed_at}
 use Rattle.ea_index.proofs.ArrayIndexHeadedIndex.read.Goals as goal
 
 pub returns-in_err-header : goal.returns-in_err-header
-unfolding parsed_at ◌yields◌
+unfolding ◌yields◌
 returns-in_err-header c =
     let a = c.args in
     let t = header_test lookup3 a.file.now a.address a.offset_size a.length_size in
@@ -19,7 +18,7 @@ returns-in_err-header c =
     search rules
 
 pub returns : goal.returns
-unfolding parsed_at ◌yields◌
+unfolding ◌yields◌
 returns c =
     let i = value_is _ _ _ (sym c.in_ok-header.was ∙ c.parse.ensures) in
     rw (← i.0, c.from_header.ensures, i.1) refl

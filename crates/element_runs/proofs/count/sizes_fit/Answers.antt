@@ -7,7 +7,7 @@ pub size_bytes-requires : goal.size_bytes-requires
 size_bytes-requires c = (c.requires, sym c.is_filtered.ensures ∙ c.if-is_filtered.true)
 
 pub returns-then-is_filtered : goal.returns-then-is_filtered
-returns-then-is_filtered c = λ grid m e. fit_filtered _ grid m (sym c.is_filtered.ensures ∙ c.if-is_filtered.true) _ c.size_bytes.ensures
+returns-then-is_filtered c = fit_filtered _ _ _ (sym c.is_filtered.ensures ∙ c.if-is_filtered.true) _ c.size_bytes.ensures
 
 pub returns : goal.returns
-returns c = λ grid m e. fit_plain _ grid m (sym c.is_filtered.ensures ∙ c.if-is_filtered.false) _ e
+returns c = fit_plain _ _ _ (sym c.is_filtered.ensures ∙ c.if-is_filtered.false) _ c.args.reader.now.chunked

@@ -12,25 +12,25 @@ use Rattle.elements.proofs.read.read_element.Goals as goal
 
 pub returns-in_err-test : goal.returns-in_err-test
 unfolding found_of
-returns-in_err-test c = λ grid n q.
-    let e = element_refused (elements_of c.args.file.now c.args.reader grid n) c.args.pos c.args.slot _ (sym c.test.ensures ∙ c.in_err-test.was) in
+returns-in_err-test c =
+    let e = element_refused (elements_of c.args.file.now c.args.reader.now) c.args.pos c.args.slot _ (sym c.test.ensures ∙ c.in_err-test.was) in
     search rules
 
-sized : (c : In_ok-test) → element_size_test c.args.reader.form ≡ Ok tt
+sized : (c : In_ok-test) → element_size_test c.args.reader.now.form ≡ Ok tt
 sized c = sym c.test.ensures ∙ c.in_ok-test.was
 
 pub read_address-address-requires : goal.read_address-address-requires
-read_address-address-requires c = (omega (arith, c.requires.1, sized-stride _ (sized (goal.at.read_address-address-requires c).In_ok-test)), sized_width _ (sized (goal.at.read_address-address-requires c).In_ok-test))
+read_address-address-requires c = (omega (arith, c.requires, sized-stride _ (sized (goal.at.read_address-address-requires c).In_ok-test)), sized_width _ (sized (goal.at.read_address-address-requires c).In_ok-test))
 
 pub returns-then-is_undefined_addr : goal.returns-then-is_undefined_addr
 unfolding found_of
-returns-then-is_undefined_addr c = λ grid n q.
+returns-then-is_undefined_addr c =
     let u = tested _ _ _ _ _ c.read_address-address.ensures c.is_undefined_addr.ensures ∙ c.if-is_undefined_addr.true in
     sym (ap found_of (element-undefined _ _ _ (sized (goal.at.returns-then-is_undefined_addr c).In_ok-test) u))
 
 pub read_defined_element-requires : goal.read_defined_element-requires
 read_defined_element-requires c =
-    (sized (goal.at.read_defined_element-requires c).In_ok-test, c.requires.1, tested _ _ _ _ _ c.read_address-address.ensures c.is_undefined_addr.ensures ∙ c.if-is_undefined_addr.false)
+    (sized (goal.at.read_defined_element-requires c).In_ok-test, c.requires, tested _ _ _ _ _ c.read_address-address.ensures c.is_undefined_addr.ensures ∙ c.if-is_undefined_addr.false)
 
 pub returns : goal.returns
-returns c = λ grid n q. c.read_defined_element.ensures grid n _ q.chunked (c.reach-reached.ensures grid n q).0
+returns c = c.read_defined_element.ensures _ c.reach-reached.ensures.0

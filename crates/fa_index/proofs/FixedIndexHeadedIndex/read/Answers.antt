@@ -4,14 +4,13 @@ use Rattle.std.proofs.Common.{rules}
 use Rattle.std.specs.Prelude.{Err}
 use Rattle.refusal.specs.Refusals.{Checked}
 use Rattle.refusal.specs.Outcome.{◌yields◌}
+use Rattle.refusal.proofs.Outcomes.{value_is, refused_is}
 use Rattle.checksum.specs.Lookup3.{lookup3}
 use Rattle.fa_header.specs.Header.{fixed_header_test}
-use Rattle.fa_header.specs.Values.{parsed_at}
-use Rattle.fa_header.proofs.Header.{header_is, refused_is}
 use Rattle.fa_index.proofs.FixedIndexHeadedIndex.read.Goals as goal
 
 pub returns-in_err-header : goal.returns-in_err-header
-unfolding parsed_at ◌yields◌
+unfolding ◌yields◌
 returns-in_err-header c =
     let a = c.args in
     let t = fixed_header_test lookup3 a.file.now a.address a.offset_size a.length_size in
@@ -19,7 +18,7 @@ returns-in_err-header c =
     search rules
 
 pub returns : goal.returns
-unfolding parsed_at ◌yields◌
+unfolding ◌yields◌
 returns c =
-    let i = header_is _ _ _ (sym c.in_ok-header.was ∙ c.parse.ensures) in
+    let i = value_is _ _ _ (sym c.in_ok-header.was ∙ c.parse.ensures) in
     rw (← i.0, c.from_header.ensures, i.1) refl

@@ -23,10 +23,10 @@ pages-init c =
 
 -- the page is refused
 pub returns-in_err-pos : goal.returns-in_err-pos
-returns-in_err-pos c = λ g n q.
+returns-in_err-pos c =
     let i = c.pages.invariant in
     let e = c.enter_page_in_turn-turn.ensures i.ahead_is in
-    let x = page_refused _ i c.pages-test.true _ (subst (EnteredFixedPage _ _) c.in_err-pos.was e.0) g n q in
+    let x = page_refused _ i c.pages-test.true _ (subst (EnteredFixedPage _ _) c.in_err-pos.was e.0) in
     search rules
 
 -- its bit is clear
@@ -49,8 +49,8 @@ count_elements-requires c =
     page_run _ c.pages.invariant c.pages-test.true (entered (goal.at.count_elements-requires c).In-Some) c.page_entries-entries.ensures.0
 
 pub returns-in_err-total : goal.returns-in_err-total
-returns-in_err-total c = λ g n q.
-    let x = run_ends _ c.pages.invariant c.pages-test.true (entered (goal.at.returns-in_err-total c).In-Some) c.page_entries-entries.ensures.0 _ (λ g n q. sym c.in_err-total.was ∙ c.count_elements.ensures g n q) g n q in
+returns-in_err-total c =
+    let x = run_ends _ c.pages.invariant c.pages-test.true (entered (goal.at.returns-in_err-total c).In-Some) c.page_entries-entries.ensures.0 _ (sym c.in_err-total.was ∙ c.count_elements.ensures) in
     search rules
 
 pub overflow_add-total : goal.overflow_add-total
@@ -58,14 +58,14 @@ overflow_add-total c =
     omega (
       arith,
       total-fits _ c.pages.invariant c.pages-test.true (entered (goal.at.overflow_add-total c).In-Some) c.page_entries-entries.ensures.0
-          (λ g n q. sym c.in_ok-total.was ∙ c.count_elements.ensures g n q),
+          (sym c.in_ok-total.was ∙ c.count_elements.ensures),
     )
 
 pub pages-preserved : goal.pages-preserved
 pages-preserved c =
     let i = c.pages.invariant in
     page_counted _ i c.pages-test.true (entered (goal.at.pages-preserved c).In-Some) c.page_entries-entries.ensures.0
-    (λ g n q. sym c.in_ok-total.was ∙ c.count_elements.ensures g n q) (c.enter_page_in_turn-turn.ensures i.ahead_is).1
+    (sym c.in_ok-total.was ∙ c.count_elements.ensures) (c.enter_page_in_turn-turn.ensures i.ahead_is).1
 
 pub returns : goal.returns
 returns c = pages_end _ c.pages.invariant c.pages-test.false

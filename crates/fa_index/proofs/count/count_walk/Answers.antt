@@ -19,9 +19,9 @@ use Rattle.fa_index.proofs.count.count_walk.Goals.{In_ok-served_test, In_ok-test
 use Rattle.fa_index.proofs.count.count_walk.Goals as goal
 
 pub returns-in_err-served_test : goal.returns-in_err-served_test
-returns-in_err-served_test c = λ g n r.
+returns-in_err-served_test c =
     let a = c.args in
-    let x = walk_unserved (fixed_of a.file.now a.array) (elements_of a.file.now a.reader g n) _ (sym c.served_test.ensures ∙ c.in_err-served_test.was) in
+    let x = walk_unserved (fixed_of a.file.now a.array) (elements_of a.file.now a.reader.now) _ (sym c.served_test.ensures ∙ c.in_err-served_test.was) in
     search rules
 
 -- the array is served
@@ -30,15 +30,15 @@ served c = sym c.served_test.ensures ∙ c.in_ok-served_test.was
 
 pub returns-then-never_stored : goal.returns-then-never_stored
 returns-then-never_stored c =
-    λ g n r. walk_never _ _ (served (goal.at.returns-then-never_stored c).In_ok-served_test) (sym (c.never_stored.ensures _) ∙ c.if-never_stored.true)
+    walk_never _ _ (served (goal.at.returns-then-never_stored c).In_ok-served_test) (sym (c.never_stored.ensures _) ∙ c.if-never_stored.true)
 
 pub test_block-requires : goal.test_block-requires
 test_block-requires c = tested_serves _ (served (goal.at.test_block-requires c).In_ok-served_test)
 
 pub returns-in_err-test_block : goal.returns-in_err-test_block
-returns-in_err-test_block c = λ g n r.
+returns-in_err-test_block c =
     let a = c.args in
-    let x = walk_refused (fixed_of a.file.now a.array) (elements_of a.file.now a.reader g n) (served (goal.at.returns-in_err-test_block c).In_ok-served_test) (sym (c.never_stored.ensures _) ∙ c.if-never_stored.false) _ (sym c.test_block.ensures ∙ c.in_err-test_block.was) in
+    let x = walk_refused (fixed_of a.file.now a.array) (elements_of a.file.now a.reader.now) (served (goal.at.returns-in_err-test_block c).In_ok-served_test) (sym (c.never_stored.ensures _) ∙ c.if-never_stored.false) _ (sym c.test_block.ensures ∙ c.in_err-test_block.was) in
     search rules
 
 -- its data block has passed its test
@@ -61,7 +61,7 @@ pub returns-then-is_paged : goal.returns-then-is_paged
 returns-then-is_paged c =
     let at = goal.at.returns-then-is_paged c in
     let t = tested at.In_ok-test_block in
-    λ g n r. c.count_pages.ensures g n r ∙ walk_paged _ _ (served at.In_ok-served_test) t.stored t.passed (sym c.is_paged.ensures ∙ c.if-is_paged.true)
+    c.count_pages.ensures ∙ walk_paged _ _ (served at.In_ok-served_test) t.stored t.passed (sym c.is_paged.ensures ∙ c.if-is_paged.true)
 
 -- it is unpaged: where its elements begin
 begins : (c : After-prefix)
@@ -82,18 +82,11 @@ pub count_elements-requires : goal.count_elements-requires
 count_elements-requires c =
     let at = goal.at.count_elements-requires c in
     let t = tested at.In_ok-test_block in
-    let b = c.requires.by in
-    record {
-      grid = b.grid;
-      element_bytes = b.element_bytes;
-      reads = b.reads;
-      inside = rw (← b.formed, begins at.After-prefix) (elements_inside _ t.passed (sym c.is_paged.ensures ∙ c.if-is_paged.false));
-    }
+    rw (← c.requires.formed, begins at.After-prefix) (elements_inside _ t.passed (sym c.is_paged.ensures ∙ c.if-is_paged.false))
 
 pub returns : goal.returns
 returns c =
     let at = goal.at.returns c in
     let t = tested at.In_ok-test_block in
-    λ g n r.
-    c.count_elements.ensures g n r
+    c.count_elements.ensures
     ∙ walk_unpaged _ _ (served at.In_ok-served_test) t.stored t.passed (sym c.is_paged.ensures ∙ c.if-is_paged.false) _ (begins at.After-prefix)

@@ -6,5 +6,5 @@ use Rattle.questions.specs.Text.{number_of}
 use Rattle.questions.proofs.Numbers.{number_from}
 use Rattle.questions.proofs.text.parse_number.Given as goal
 
-abbrev pub invariant-loop-i : goal.invariant-loop-i
-invariant-loop-i l = number_from l.largest l.value (drop l.i l.word) ≡ number_of l.largest l.word
+abbrev pub invariant-loop-b : goal.invariant-loop-b
+invariant-loop-b l = number_from l.largest l.value (drop l.b-index l.word) ≡ number_of l.largest l.word

@@ -14,19 +14,19 @@ use Rattle.walked_index.proofs.call.lookup_at.Given as given
 use Rattle.walked_index.proofs.call.lookup_at.Goals.{After-read_shape-n, In_ok-grid}
 use Rattle.walked_index.proofs.call.lookup_at.Goals as goal
 
-pub returns-in_err-index : goal.returns-in_err-index
-returns-in_err-index g c =
+pub returns-in_err-headed : goal.returns-in_err-headed
+returns-in_err-headed g c =
     let i = g.I.WalkedIndex in
-    let r : c.from_residual.result ≡ Err c.in_err-index.field-0.0 = search rules in
+    let r : c.from_residual.result ≡ Err c.in_err-headed.field-0.0 = search rules in
     called_refused i.form i.count i.entry i.walk i.located c.args.file.now c.args.numbers.element_bytes _ _ _ _ _ _ r
-    (header_refused _ _ _ c.read_index.ensures c.in_err-index.was)
+    (header_refused _ _ _ c.read_index.ensures c.in_err-headed.was)
 
 pub returns-in_err-grid : goal.returns-in_err-grid
 returns-in_err-grid g c =
     let i = g.I.WalkedIndex in
     let r : c.from_residual-in_err-grid.result ≡ Err c.in_err-grid.field-0.0 = search rules in
     called_refused i.form i.count i.entry i.walk i.located c.args.file.now c.args.numbers.element_bytes _ _ _ _ _ _ r
-    (grid_refused _ _ _ c.read_index.ensures c.in_ok-index.was c.in_err-grid.was c.read_grid.ensures)
+    (grid_refused _ _ _ c.read_index.ensures c.in_ok-headed.was c.in_err-grid.was c.read_grid.ensures)
 
 small : (g : given.Over) (c : In_ok-grid g) → c.args.numbers.rank ≤ 32
 unfolding grid_given grid_as
@@ -44,7 +44,7 @@ shape g c = stored_shape _ _ _ _ _ (small g (goal.at.After-read_shape-n g c).In_
 pub returns : goal.returns
 returns g c =
     let i = g.I.WalkedIndex in
-    let h = value_is _ _ _ (sym c.in_ok-index.was ∙ c.read_index.ensures) in
+    let h = value_is _ _ _ (sym c.in_ok-headed.was ∙ c.read_index.ensures) in
     let k = grid_read _ c.in_ok-grid.was c.read_grid.ensures in
     called_passed i.form i.count i.entry i.walk i.located c.args.file.now c.args.numbers.element_bytes _ _ _ (sym h.0) h.1 k.1 _ _
     (shape g (goal.at.returns g c).After-read_shape-n).1 _ c.lookup_chunk.ensures

@@ -7,17 +7,17 @@ use Rattle.std.proofs.Common.{rules}
 use Rattle.std.specs.Prelude.{Err, Ok}
 use Rattle.refusal.specs.Refusals.{largest64}
 use Rattle.refusal.specs.Values.{counted_of}
-use Rattle.chunk_grid.specs.Grid.{grid_test, given as grid_given}
+use Rattle.chunk_grid.specs.Grid.{Grid, grid_test, given as grid_given}
 use Rattle.chunk_grid.specs.Values.{grid_of}
+use Rattle.chunk_grid.specs.declared.numbering.Numbering.{Numbering}
 use Rattle.index.specs.Index.{Listing}
 use Rattle.elements.specs.Elements.{Elements}
-use Rattle.elements.specs.Values.{Reads}
 use Rattle.records.specs.Records.{list_content}
 use Rattle.walked_index.specs.Walked.{elements_read}
 use Rattle.walked_index.proofs.Walked.{Laws}
 use Rattle.walked_index.proofs.Lists.{list_refused, walk-read, list-exact, refused_count}
 use Rattle.walked_index.proofs.list.list_chunks.Given as given
-use Rattle.walked_index.proofs.list.list_chunks.Goals.{After-new-reader, In_ok-test, Start}
+use Rattle.walked_index.proofs.list.list_chunks.Goals.{After-new-reader, Start}
 use Rattle.walked_index.proofs.list.list_chunks.Goals as goal
 
 -- the elements that are listed
@@ -34,32 +34,20 @@ returns-in_err-test g c =
     let p = list_refused (g.I.WalkedIndex.walk c.args.index c.args.file.now) (elements g (goal.at.returns-in_err-test g c).Start) _ _ _ (sym c.test.ensures ∙ c.in_err-test.was) in
     (r ∙ p.0, p.1, λ n h. absurd (refused_count _ n (sym r ∙ h)))
 
-passed : (g : given.Over) (c : In_ok-test g) → grid_test (grid_of c.args.grid) ≡ Ok tt
-passed g c = sym c.test.ensures ∙ c.in_ok-test.was
-
 pub numbering-numbering-requires : goal.numbering-numbering-requires
-numbering-numbering-requires g c = (passed g (goal.at.numbering-numbering-requires g c).In_ok-test, omega arith, omega arith, omega arith)
-
-pub new-reader-requires : goal.new-reader-requires
-new-reader-requires g c = (_, _, c.numbering-numbering.ensures.numbers.0)
+numbering-numbering-requires g c = sym c.test.ensures ∙ c.in_ok-test.was
 
 -- the reader reads the index's elements
-reads : (g : given.Over) (c : After-new-reader g)
-    → let a = c.args in
-    let r = c.numbering-numbering in
-    Reads c.new-reader.result a.grid.chunk r.new.bound r.new.down (grid_of a.grid) a.element_bytes
-reads g c = let x = c.numbering-numbering.ensures.numbers in c.new-reader.ensures.2 _ _ _ x.0 x.2
-
 formed : (g : given.Over) (c : After-new-reader g) → c.new-reader.result.form ≡ g.I.WalkedIndex.form c.args.index
 formed g c = c.new-reader.ensures.0 ∙ c.element_form-form.ensures
 
 counted : (g : given.Over) (c : After-new-reader g) → c.new-reader.result.count ≡ g.I.WalkedIndex.count c.args.index
-counted g c = c.new-reader.ensures.1 ∙ c.slot_count-count.ensures
+counted g c = c.new-reader.ensures.1 ∙ c.slot_count.ensures
 
 pub list_walk-requires : goal.list_walk-requires
 list_walk-requires g c =
     let n = (goal.at.list_walk-requires g c).After-new-reader in
-    (record { formed = sym (formed g n); grid = _; element_bytes = _; reads = reads g n }, sym (counted g n))
+    (sym (formed g n), sym (counted g n))
 
 pub returns : goal.returns
 unfolding grid_of grid_given
@@ -71,13 +59,14 @@ returns g c =
     let laws : Laws (i.walk a.index a.file.now) (i.located a.index a.file.now) (i.form a.index) (i.count a.index) =
     record { elements = m.elements_are a.index a.file.now; right = m.walk_right a.index a.file.now } in
     let n = at.After-new-reader in
-    let r = reads g n in
-    let e = c.list_walk.ensures _ _ r in
+    let x = c.new-reader.ensures in
+    let grid = ap (λ (y : Numbering). grid_of y.grid.now) x.2 ∙ ap grid_of c.numbering-numbering.ensures in
+    let e = c.list_walk.ensures in
     let w = walk-read (i.walk a.index a.file.now) a.file.now _ _ c.new-reader.result (grid_of a.grid) a.element_bytes (length a.list.now)
-    (formed g n) (counted g n) r.numbered.ranked (passed g at.In_ok-test) in
+    (formed g n) (counted g n) grid x.3 in
     -- the file holds bytes, and the count is a 64-bit number
     let bytes : (j : ℕ) → get_or a.file.now j 0 < 256 = λ j. omega (arith, c.type_inv.file j) in
-    let fits : i.count a.index ≤ largest64 = omega (arith, c.slot_count-count.ensures) in
+    let fits : i.count a.index ≤ largest64 = omega (arith, c.slot_count.ensures) in
     let answer = e.0 ∙ ap counted_of w in
     let content = e.1 ∙ ap (λ (x : Listing). list_content x a.list.now) w in (
       answer,

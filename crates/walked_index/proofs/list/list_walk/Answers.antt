@@ -8,9 +8,8 @@ use Rattle.std.proofs.Common.{rules}
 use Rattle.std.specs.Prelude.{Err, Ok}
 use Rattle.refusal.proofs.Outcomes.{room_refused, room_small, room_fits}
 use Rattle.refusal.proofs.Counts.{counted_inv, refused_inv}
-use Rattle.chunk_grid.specs.Grid.{Grid}
 use Rattle.index.specs.Index.{Rec}
-use Rattle.elements.specs.Values.{elements_of, Reads}
+use Rattle.elements.specs.Values.{elements_of}
 use Rattle.elements.proofs.Readers.{reads_rank}
 use Rattle.records.specs.Records.{record_length}
 use Rattle.records.proofs.Contents.{answer_refused, answer_accepted}
@@ -23,47 +22,49 @@ use Rattle.walked_index.proofs.list.list_walk.Goals as goal
 pub returns-in_err-n : goal.returns-in_err-n
 returns-in_err-n g c =
     let r : c.from_residual.result ≡ Err c.in_err-n.field-0.0 = search rules in
-    λ grid m w.
-    let p = answer_refused _ _ _ (room_refused _ _ _ (refused_inv _ _ (sym c.in_err-n.was ∙ c.count_walk.ensures grid m w))) in
+    let p = answer_refused _ _ _ (room_refused _ _ _ (refused_inv _ _ (sym c.in_err-n.was ∙ c.count_walk.ensures))) in
     (r ∙ p.0, p.1)
 
-found : (g : given.Over) (c : In_ok-n g) (grid : Grid) (m : ℕ)
+found : (g : given.Over) (c : In_ok-n g)
     → let a = c.args in
-    Reads a.reader a.chunk.now a.bound.now a.down.now grid m
-    → (l : List Rec) × (g.I.WalkedIndex.walk a.index a.file.now (elements_of a.file.now a.reader grid m) ≡ Ok l)
+    (l : List Rec) × (g.I.WalkedIndex.walk a.index a.file.now (elements_of a.file.now a.reader.now) ≡ Ok l)
     × (c.in_ok-n.n ≡ length l)
-found g c grid m w = counted_inv _ _ (sym c.in_ok-n.was ∙ c.count_walk.ensures grid m w)
+found g c = counted_inv _ _ (sym c.in_ok-n.was ∙ c.count_walk.ensures)
 
 pub overflow_mul-room : goal.overflow_mul-room
-overflow_mul-room g c = omega (arith, reads_rank c.requires.0.reads)
+overflow_mul-room g c = omega (arith, reads_rank c.args.reader.now)
 
 pub overflow_add-room : goal.overflow_add-room
-overflow_add-room g c = omega (arith, reads_rank c.requires.0.reads)
+overflow_add-room g c = omega (arith, reads_rank c.args.reader.now)
 
 pub returns-then-room-n : goal.returns-then-room-n
 unfolding record_length
 returns-then-room-n g c =
-    λ grid m w. let f = found g (goal.at.returns-then-room-n g c).In_ok-n grid m w in answer_refused _ _ _ (room_small _ _ f.0 f.1 _ f.2 c.if-room-n.true)
+    let f = found g (goal.at.returns-then-room-n g c).In_ok-n in answer_refused _ _ _ (room_small _ _ f.0 f.1 _ f.2 c.if-room-n.true)
+
+-- the walk that is accepted
+walked : (g : given.Over) (c : In_ok-n g)
+    → let a = c.args in
+    let i = g.I.WalkedIndex in
+    Walked (i.walk a.index a.file.now) (i.form a.index) (i.count a.index) a.file.now a.reader.now (found g c).0
+walked g c = record { formed = c.requires.0; counted = c.requires.1; accepts = (found g c).1 }
 
 pub write_walk-requires : goal.write_walk-requires
 unfolding record_length
 write_walk-requires g c =
-    let p = c.requires.0 in
-    let f = found g (goal.at.write_walk-requires g c).In_ok-n p.grid p.element_bytes p.reads in
+    let at = goal.at.write_walk-requires g c in
+    let f = found g at.In_ok-n in
     let a = c.args in
     let i = g.I.WalkedIndex in
     let m = g.met.I.WalkedIndex in
     let laws : Laws (i.walk a.index a.file.now) (i.located a.index a.file.now) (i.form a.index) (i.count a.index) =
     record { elements = m.elements_are a.index a.file.now; right = m.walk_right a.index a.file.now } in
-    let w : Walked (i.walk a.index a.file.now) (i.form a.index) (i.count a.index) a.file.now a.reader a.chunk.now a.bound.now a.down.now f.0 =
-    record { by = p; counted = c.requires.1; accepts = f.1 } in
+    let w = walked g at.In_ok-n in
     (f.0, w, walked_fits _ w laws _ (omega (arith, f.2, c.if-room-n.false)))
 
 pub returns : goal.returns
 unfolding record_length
 returns g c =
-    λ grid m w.
-    let f = found g (goal.at.returns g c).In_ok-n grid m w in
-    answer_accepted _ _ f.0 (room_fits _ _ f.0 f.1 _ f.2 c.if-room-n.false ∙ f.1) _ f.2 _
-    (c.write_walk.ensures f.0
-    (record { by = record { formed = c.requires.0.formed; grid = grid; element_bytes = m; reads = w }; counted = c.requires.1; accepts = f.1 }))
+    let at = goal.at.returns g c in
+    let f = found g at.In_ok-n in
+    answer_accepted _ _ f.0 (room_fits _ _ f.0 f.1 _ f.2 c.if-room-n.false ∙ f.1) _ f.2 _ (c.write_walk.ensures f.0 (walked g at.In_ok-n))

@@ -31,7 +31,7 @@ abbrev Before : (g : given.Over) → At-loop-slot g → List Rec → Type 0
 Before g c =
     let i = g.I.WalkedIndex in
     let a = c.args in
-    Walked (i.walk a.index a.file.now) (i.form a.index) (i.count a.index) a.file.now a.reader a.chunk.now a.bound.now a.down.now
+    Walked (i.walk a.index a.file.now) (i.form a.index) (i.count a.index) a.file.now a.reader.now
 
 pub run_of-requires : goal.run_of-requires
 run_of-requires g c = walked_to c.requires.1 _ c.loop-slot-test.true
@@ -62,8 +62,8 @@ write_elements-at-requires g c =
     let i = c.loop-slot.invariant in
     let at = goal.at.write_elements-at-requires g c in
     let k = found g at.After-run_of c.in-Elements.is _ p.1 in
-    let f = written_fits (i.2 _ p.1) (min c.in-Elements.slots (c.args.reader.count - c.loop-slot.slot)) (omega arith) in
-    ((_, _, _, p.1.by.reads, run_accepted (walked_right _ p.1 (laws g at.Start)) _ _ _ _ k refl, omega (arith, f, p.2, i.1)), k.1)
+    let f = written_fits (i.2 _ p.1) (min c.in-Elements.slots (c.args.reader.now.count - c.loop-slot.slot)) (omega arith) in
+    ((_, run_accepted (walked_right _ p.1 (laws g at.Start)) _ _ _ _ k refl, omega (arith, f, p.2, i.1)), k.1)
 
 pub loop-slot-smaller : goal.loop-slot-smaller
 loop-slot-smaller g c =
@@ -76,10 +76,10 @@ loop-slot-preserved g c =
     let i = c.loop-slot.invariant in
     let e = c.in-Elements.is in
     let at = goal.at.loop-slot-preserved g c in
-    let q = c.write_elements-at.ensures _ _ _ p.1.by.reads (run_accepted (walked_right _ p.1 (laws g at.Start)) _ _ _ _ (found g at.After-run_of e _ p.1) refl) in (
+    let q = c.write_elements-at.ensures _ (run_accepted (walked_right _ p.1 (laws g at.Start)) _ _ _ _ (found g at.After-run_of e _ p.1) refl) in (
       omega (arith, c.below_count-slot-in-Elements.ensures),
       rw q.0 (simp length-sets i.1),
-      λ l z. written_run (i.2 l z) (walked_right _ z (laws g at.Start)) _ _ _ c.below_count-slot-in-Elements.ensures (found g at.After-run_of e l z) _ _ (λ k h. c.write_elements-at.ensures _ _ k z.by.reads h),
+      λ l z. written_run (i.2 l z) (walked_right _ z (laws g at.Start)) _ _ _ c.below_count-slot-in-Elements.ensures (found g at.After-run_of e l z) _ _ (λ k h. c.write_elements-at.ensures k h),
     )
 
 pub returns : goal.returns

@@ -15,7 +15,7 @@ invariant-loop-slot g here =
     (here.slot ≤ here.reader.count)
     × (length here.list ≡ length here.initial.list)
     × ((l : List Rec)
-    (w : Walked (i.walk here.index here.file) (i.form here.index) (i.count here.index) here.file here.reader here.chunk here.bound here.down l)
+    (w : Walked (i.walk here.index here.file) (i.form here.index) (i.count here.index) here.file here.reader l)
     → Written (walked_in (i.located here.index here.file) w) l here.initial.list here.list here.at here.slot)
 
 abbrev pub decreases-loop-slot : goal.decreases-loop-slot
