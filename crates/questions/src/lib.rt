@@ -36,24 +36,29 @@ impl Question {
     }
 
     // The question with the number of word i; lengths are no part of it.
+    #[tactic(auto, unfolding(crate::specs::Line::with_number))]
     fn with(self, i: usize, n: u64) -> Self
         ensures { result ≡ with_number self i n }
     {
-        Self {
-            offset_size: chosen(i == 0, n, self.offset_size),
-            length_size: chosen(i == 1, n, self.length_size),
-            address: chosen(i == 2, n, self.address),
-            element_bytes: chosen(i == 3, n, self.element_bytes),
-            order: chosen(i == 4, n, self.order),
-            rank: chosen(i == 5, n, self.rank),
+        match i {
+            0 => Self {
+                offset_size: n,
+                ..self
+            },
+            1 => Self {
+                length_size: n,
+                ..self
+            },
+            2 => Self { address: n, ..self },
+            3 => Self {
+                element_bytes: n,
+                ..self
+            },
+            4 => Self { order: n, ..self },
+            5 => Self { rank: n, ..self },
+            _ => self,
         }
     }
-}
-
-fn chosen(first: bool, a: u64, b: u64) -> u64
-    ensures { result ≡ cond first a b }
-{
-    if first { a } else { b }
 }
 
 // The order that a word names.

@@ -14,10 +14,11 @@ pub fn until(s: &[u8], b: u8) -> &[u8]
 }
 
 // Whether a word is one byte, b.
+#[tactic(auto, unfolding(crate::specs::Text::is_only))]
 pub fn is_only(word: &[u8], b: u8) -> bool
     ensures { result ≡ is_only b word.now }
 {
-    if word.len() == 1 { word[0] == b } else { false }
+    matches!(word, [only] if *only == b)
 }
 
 // The number that a word's digits write, where it is `largest` at most.
