@@ -1,10 +1,10 @@
 -- The number that a call answers: the one of its answer that is asked for; and 0, asked of the refusal, says that the
 -- call is accepted. Assumes nothing.
-use Prim.Native.Nat.{ℕ, zero, suc, ◌-◌, ◌<◌, ◌≤◌}
+use Prim.Native.Nat.{ℕ, suc, ◌-◌, ◌<◌, ◌≤◌}
 use mathlib.Core.Path.{◌≡◌, refl, sym, ap, ◌∙◌}
-use mathlib.Core.List.{List, [], ◌∷◌}
+use mathlib.Core.List.{List}
 use native.Mathlib.Omega.{arith}
-use lib.ListN.{length, get_or, replicate, get_or-replicate, length-replicate, get_or-eq_default}
+use lib.ListN.{get_or, replicate, get_or-replicate, length-replicate, get_or-eq_default}
 use Rattle.std.specs.Prelude.{Err, None, Ok, Option, Some}
 use Rattle.index.specs.declared.Entry.{Entry}
 use Rattle.refusal.specs.Refusals.{Outcome}
@@ -15,23 +15,6 @@ use Rattle.index.specs.Index.{Rec}
 use Rattle.elements.specs.Values.{found_of}
 use Rattle.calls.specs.Answer.{answered, picked, list_numbers, found_numbers, chunk_names, ZeroAccepts}
 use Rattle.calls.specs.Values.{refused_answer, counted_answer, entry_numbers, found_answer}
-
--- a number at a place of the answer doesn't depend on what it would be beyond
-pub picked_in : (l : List ℕ) (which : ℕ) → which < length l → get_or l which 0 ≡ picked which l
-unfolding picked
-picked_in l which h = inside l which _ h
-  where
-    inside : (l : List ℕ) (k d : ℕ) → k < length l → get_or l k 0 ≡ get_or l k d
-    inside [] k d h = absurd (omega arith)
-    inside (x ∷ l) zero d h = refl
-    inside (x ∷ l) (suc k) d h = inside l k d (omega arith)
-
-pub picked_beyond : (l : List ℕ) (which : ℕ) → length l ≤ which → get_or l 0 0 ≡ picked which l
-unfolding picked
-picked_beyond l which h = sym (get_or-eq_default l _ h)
-
-pub picked_none : (l : List ℕ) (which : ℕ) → length l ≡ 0 → 0 ≡ picked which l
-picked_none l which h = sym (get_or-eq_default l 0 {n = 0} (omega arith)) ∙ picked_beyond l which (omega arith)
 
 -- the numbers of a refusal that are named, and those beyond
 module _ (which names : ℕ) (r : Refusal) (h : 3 ≤ which) where
@@ -46,24 +29,6 @@ module _ (which names : ℕ) (r : Refusal) (h : 3 ≤ which) where
   refused_beyond n =
       let z = length-replicate {A = ℕ} names 0 in
       sym (behind (which - 3) (omega arith) ∙ get_or-eq_default (replicate names 0) _ {n = which - 3} (omega (arith, z)))
-
--- of a list that is accepted only the count isn't 0
-pub picked_other : (which n : ℕ) → (which ≡ 3 → ⊥) → 0 ≡ picked which (0 ∷ 0 ∷ 0 ∷ n ∷ [])
-unfolding picked
-picked_other zero n h = refl
-picked_other (suc zero) n h = refl
-picked_other (suc (suc zero)) n h = refl
-picked_other (suc (suc (suc zero))) n h = absurd (h refl)
-picked_other (suc (suc (suc (suc which)))) n h = refl
-
--- of a chunk that is absent all are 0
-pub picked_zeros : (which : ℕ) → 0 ≡ picked which (0 ∷ 0 ∷ 0 ∷ 0 ∷ [])
-unfolding picked
-picked_zeros zero = refl
-picked_zeros (suc zero) = refl
-picked_zeros (suc (suc zero)) = refl
-picked_zeros (suc (suc (suc zero))) = refl
-picked_zeros (suc (suc (suc (suc which)))) = refl
 
 -- What is answered of a list's count is what is answered of the list.
 counted_same : {A : Type 0} (names : ℕ) (a : Outcome (List A)) → counted_answer names (counted_of a) ≡ answered names list_numbers a

@@ -1,11 +1,11 @@
--- What the code's values stand for: a call of these numbers, and the answers of a refusal, of a count and of what a
+-- What the code's values stand for: a call, and the answers of a refusal, of a count and of what a
 -- lookup finds.
 use Rattle.std.specs.Prelude.{ℕ, List, [], ◌∷◌, replicate, None, Option, Some}
 use Rattle.index.specs.declared.Entry.{Entry}
 use Rattle.refusal.specs.Refusals.{Outcome}
 use Rattle.refusal.specs.declared.Refusal.{Refusal}
 use Rattle.refusal.specs.Values.{number_of, first_of, second_of}
-use Rattle.calls.specs.declared.CallNumbers.{CallNumbers}
+use Rattle.calls.specs.declared.Call.{Call as CallGiven}
 use Rattle.calls.specs.Answer.{answered, chunk_names}
 use Rattle.calls.specs.Call.{Call, grid_given, call_of}
 
@@ -26,8 +26,8 @@ entry_numbers (Some e) = 1 ∷ e.address ∷ e.size ∷ e.mask ∷ []
 abbrev pub found_answer : Outcome (Option Entry) → List ℕ
 found_answer = answered chunk_names entry_numbers
 
--- the call of these numbers, its shapes in bytes
-abbrev pub call_from : List ℕ → CallNumbers → List ℕ → List ℕ → List ℕ → Call
-call_from file n chunk present maximum =
-    call_of file n.offset_size n.length_size n.address n.element_bytes
-    (grid_given n.order n.rank chunk present n.has_maximum maximum)
+-- the call that a value of the code describes, its shapes in bytes
+abbrev pub call_from : CallGiven → Call
+call_from c =
+    call_of c.file.now c.offset_size c.length_size c.address c.element_bytes
+    (grid_given c.order c.rank c.chunk.now c.present.now c.has_maximum c.maximum.now)

@@ -2,9 +2,9 @@
 // What every call from C shares, for any kind of index: the shapes that it is given, and the number that it answers.
 ghost use Rattle.std.specs.Prelude.{◌≡◌};
 ghost use Rattle.chunk_grid.specs.Values.{grids, built};
-ghost use Rattle.calls.specs.Call.{order_of, grid_given};
+ghost use Rattle.calls.specs.Call.{order_of};
 ghost use Rattle.calls.specs.Answer.{picked};
-ghost use Rattle.calls.specs.Values.{refused_answer, counted_answer, found_answer};
+ghost use Rattle.calls.specs.Values.{call_from, refused_answer, counted_answer, found_answer};
 
 use chunk_grid::{ChunkGrid, GridOrder};
 use index::Entry;
@@ -14,18 +14,22 @@ use shapes::grid_from_bytes;
 // The numbers that the calls name which list and look up chunks: count, address, size, mask.
 pub const CHUNK_NAMES: u64 = 4;
 
-// The numbers that a call is given beside its bytes: the sizes of offsets and lengths, the address of the index's
-// header, the bytes of one element, the grid's order and rank, and whether there are maximum extents (0: none). (As C
-// gives them; `read_grid` makes a grid of them.)
+// What a call is given: the file, the sizes of its offsets and lengths, the address of the index's header, the bytes of
+// one element of the dataset, and its grid. (The grid's order, its rank, whether there are maximum extents, 0: none,
+// and its shapes, in 8 bytes a dimension, are as C gives them; `read_grid` makes a grid of them.)
 #[derive(Clone, Copy)]
-pub struct CallNumbers {
+pub struct Call<'a> {
+    pub file: &'a [u8],
     pub offset_size: u64,
     pub length_size: u64,
     pub address: u64,
     pub element_bytes: u64,
     pub order: u64,
     pub rank: u64,
+    pub chunk: &'a [u8],
+    pub present: &'a [u8],
     pub has_maximum: u64,
+    pub maximum: &'a [u8],
 }
 
 // The order that a number stands for.
@@ -39,38 +43,30 @@ pub fn grid_order(order: u64) -> GridOrder
     GridOrder::UnlimitedFirst
 }
 
-// The grid of a dataset's shapes, each in 8 bytes a dimension; a maximum is given unless its flag is 0.
-#[tactic(auto, unfolding(crate::specs::Call::grid_given))]
-pub fn read_grid(
-    numbers: CallNumbers,
-    chunk: &[u8],
-    present: &[u8],
-    maximum: &[u8],
-) -> Result<ChunkGrid, Refusal>
-    ensures { let grid = grid_given numbers.order numbers.rank chunk.now present.now
-        numbers.has_maximum maximum.now in
-        grids result ≡ built grid }
-{
-    let order = grid_order(numbers.order);
-    let has_maximum = numbers.has_maximum != 0;
-    grid_from_bytes(numbers.rank, chunk, present, has_maximum, maximum, order)
+impl Call<'_> {
+    // The grid of the dataset's shapes; a maximum is given unless its flag is 0.
+    pub fn read_grid(&self) -> Result<ChunkGrid, Refusal>
+        ensures { grids result ≡ built (call_from self.now).grid }
+    {
+        let order = grid_order(self.order);
+        let maximum = (self.has_maximum != 0).then_some(self.maximum);
+        grid_from_bytes(self.rank, self.chunk, self.present, maximum, order)
+    }
 }
 
 // The number of an answer that is asked for by its place; where there is none, the first.
+#[tactic(auto, unfolding(crate::specs::Answer::picked))]
 pub fn pick(which: u64, answer: &[u64]) -> u64
     ensures { result ≡ picked which answer.now }
 {
-    let n = answer.len() as u64;
-    if which < n {
-        return answer[which as usize];
+    match answer.get(which as usize) {
+        Some(number) => *number,
+        None => answer.first().map_or(0, |first| *first),
     }
-    if n == 0 {
-        return 0;
-    }
-    answer[0]
 }
 
 // The same after a refusal.
+#[tactic(auto, unfolding(crate::specs::Answer::picked))]
 pub fn refused_number(which: u64, refusal: Refusal, names: u64) -> u64
     ensures { result ≡ picked which (refused_answer names refusal) }
 {
@@ -78,42 +74,34 @@ pub fn refused_number(which: u64, refusal: Refusal, names: u64) -> u64
         0 => refusal.number(),
         1 => refusal.first(),
         2 => refusal.second(),
-        _ => {
-            if which - 3 < names {
-                return 0;
-            }
-            refusal.number()
-        }
+        _ if which - 3 < names => 0,
+        _ => refusal.number(),
     }
 }
 
 // The same of a list's answer.
+#[tactic(auto, unfolding(crate::specs::Answer::answered))]
 pub fn counted_number(which: u64, counted: Result<u64, Refusal>, names: u64) -> u64
     ensures { result ≡ picked which (counted_answer names counted) }
 {
     match counted {
-        Ok(n) => {
-            if which == 3 {
-                return n;
-            }
-            0
-        }
+        Ok(n) => pick(which, &[0, 0, 0, n]),
         Err(r) => refused_number(which, r, names),
     }
 }
 
 // The same of what a lookup finds.
-pub fn found_number(found: Result<Option<Entry>, Refusal>, which: u64) -> u64
+#[tactic(auto, unfolding(crate::specs::Answer::answered, crate::specs::Values::entry_numbers))]
+pub fn found_number(which: u64, found: Result<Option<Entry>, Refusal>) -> u64
     ensures { result ≡ picked which (found_answer found) }
 {
     match found {
         Ok(Some(entry)) => {
             let size = entry.size as u64;
             let mask = entry.mask as u64;
-            let answer = [0, 0, 0, 1, entry.address, size, mask];
-            pick(which, &answer)
+            pick(which, &[0, 0, 0, 1, entry.address, size, mask])
         }
-        Ok(None) => 0,
+        Ok(None) => pick(which, &[0; 4]),
         Err(r) => refused_number(which, r, CHUNK_NAMES),
     }
 }

@@ -13,7 +13,7 @@ ghost use Rattle.ea_calls.specs.Call.{call_index, list_at};
 ghost use Rattle.ea_lookup.specs.Call.{lookup_at};
 ghost use Rattle.fa_calls.specs.Call.{fixed_call_index, fixed_list_at, fixed_lookup_at};
 
-use calls::{CHUNK_NAMES, CallNumbers, counted_number, found_number};
+use calls::{CHUNK_NAMES, Call, counted_number, found_number};
 use ea_index::ArrayIndex;
 use fa_index::FixedIndex;
 use walked_index::call::{list_at, lookup_at};
@@ -55,16 +55,20 @@ pub extern "C" fn cellumaq_list(
         × ((l : List Rec) → answer ≡ Ok l → 0 < rank
         → ExactList (call_index call) (records_in rank (length l) list.new) (length l)) }
 {
-    let numbers = CallNumbers {
+    let call = Call {
+        file,
         offset_size,
         length_size,
         address,
         element_bytes,
         order,
         rank,
+        chunk,
+        present,
         has_maximum,
+        maximum,
     };
-    let counted = list_at::<ArrayIndex>(file, numbers, chunk, present, maximum, list);
+    let counted = list_at::<ArrayIndex>(&call, list);
     counted_number(which, counted, CHUNK_NAMES)
 }
 
@@ -99,17 +103,21 @@ pub extern "C" fn cellumaq_lookup(
         → (x : Option Rec) × (result ≡ picked which (answered chunk_names found_numbers (Ok x)))
         × Agrees l at x) }
 {
-    let numbers = CallNumbers {
+    let call = Call {
+        file,
         offset_size,
         length_size,
         address,
         element_bytes,
         order,
         rank,
+        chunk,
+        present,
         has_maximum,
+        maximum,
     };
-    let found = lookup_at::<ArrayIndex>(file, numbers, chunk, present, maximum, corner);
-    found_number(found, which)
+    let found = lookup_at::<ArrayIndex>(&call, corner);
+    found_number(which, found)
 }
 
 // The chunk list of a dataset whose index is a fixed array, whose chunks are numbered in row-major order: what
@@ -138,16 +146,20 @@ pub extern "C" fn cellumaq_fixed_list(
         × ((l : List Rec) → answer ≡ Ok l → 0 < rank
         → ExactList (fixed_call_index call) (records_in rank (length l) list.new) (length l)) }
 {
-    let numbers = CallNumbers {
+    let call = Call {
+        file,
         offset_size,
         length_size,
         address,
         element_bytes,
         order: 0,
         rank,
+        chunk,
+        present,
         has_maximum,
+        maximum,
     };
-    let listed = list_at::<FixedIndex>(file, numbers, chunk, present, maximum, list);
+    let listed = list_at::<FixedIndex>(&call, list);
     counted_number(which, listed, CHUNK_NAMES)
 }
 
@@ -178,15 +190,19 @@ pub extern "C" fn cellumaq_fixed_lookup(
         → (x : Option Rec) × (result ≡ picked which (answered chunk_names found_numbers (Ok x)))
         × Agrees l at x) }
 {
-    let numbers = CallNumbers {
+    let call = Call {
+        file,
         offset_size,
         length_size,
         address,
         element_bytes,
         order: 0,
         rank,
+        chunk,
+        present,
         has_maximum,
+        maximum,
     };
-    let chunk_found = lookup_at::<FixedIndex>(file, numbers, chunk, present, maximum, corner);
-    found_number(chunk_found, which)
+    let chunk_found = lookup_at::<FixedIndex>(&call, corner);
+    found_number(which, chunk_found)
 }

@@ -21,8 +21,15 @@ pub fn print_first(rt: &impl Print, numbers: &[u64; 32], n: u64) -> io::Result<(
     Ok(())
 }
 
+// A refusal behind other words of its line.
 pub fn print_refusal(rt: &impl Print, r: Refusal) -> io::Result<()> {
-    print!(rt; " refused {} {} {}", r.number(), r.first(), r.second())
+    print!(rt; " ")?;
+    begin_with_refusal(rt, r)
+}
+
+// A refusal at the start of its line.
+pub fn begin_with_refusal(rt: &impl Print, r: Refusal) -> io::Result<()> {
+    print!(rt; "refused {} {} {}", r.number(), r.first(), r.second())
 }
 
 // A number, or a list's length, and where the input goes on.
@@ -32,10 +39,12 @@ pub struct Item {
     pub at: usize,
 }
 
-fn digit(b: u8) -> u64
-    ensures { result ≤ 9 }
-{
-    (b % 16) as u64 % 10
+// The number with a digit more, as far as 64 bits hold it. Every byte from '0' on is taken for a digit.
+fn with_digit(value: u64, b: u8) -> Option<u64> {
+    if b < b'0' {
+        return None;
+    }
+    value.checked_mul(10)?.checked_add((b % 16) as u64 % 10)
 }
 
 // The number of the digits from `from` on, as far as 64 bits hold it. One byte parts two numbers.
@@ -43,11 +52,10 @@ pub fn number(s: &[u8], from: usize) -> Item {
     let mut value = 0u64;
     // `value` is the number of the digits between `from` and i.
     for (i, &b) in s.iter().enumerate().skip(from) {
-        let d = digit(b);
-        if b < b'0' || value > (u64::MAX - d) / 10 {
+        let Some(longer) = with_digit(value, b) else {
             return Item { value, at: i + 1 };
-        }
-        value = value * 10 + d;
+        };
+        value = longer;
     }
     Item {
         value,

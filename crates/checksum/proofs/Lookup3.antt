@@ -2,9 +2,18 @@
 use Rattle.std.proofs.Common.{◌≡◌, ℕ, suc, ◌+◌, ◌-◌, ◌/◌, ◌%◌, ◌^◌, ◌<◌, ◌≤◌, List, [], ◌∷◌, length, take, drop, ◌++◌, sym, refl, ap, ◌∙◌, not-suc-le-zero, arith, length-drop, take_all, drop-drop}
 use Rattle.std.proofs.lemmas.List.{length-append, drop-append-le, take-append-le, take-append-drop, append_assoc}
 use Rattle.std.proofs.Math.Seq.{drop-append_seam}
+use Rattle.std.specs.Int.{w32, rotate_left}
 use Rattle.fields.specs.LittleEndian.{le_at}
 use Rattle.checksum.specs.declared.Words.{Words}
-use Rattle.checksum.specs.Lookup3.{blocks, hashlittle, seed, seeded, mixed, added, final_mixed}
+use Rattle.checksum.specs.Lookup3.{rotated, blocks, hashlittle, seed, seeded, mixed, added, final_mixed}
+
+-- rotated left, by less than a word
+pub rotate_is : (x k : ℕ) → 0 < k → k < 32 → rotate_left w32 x k ≡ rotated x k
+unfolding rotated
+rotate_is x k p q =
+    let e : k % 32 ≡ k = omega arith in
+    let d : (32 - k) % 32 ≡ 32 - k = omega arith in
+    rw (e, d) refl
 
 -- the sum of three in two steps, the length modulo 2 ^ 32
 pub seed_mod : (n i : ℕ) → ((0xdead_beef + n % 0x1_0000_0000) % 2 ^ 32 + i) % 2 ^ 32 ≡ seed n i

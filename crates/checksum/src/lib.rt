@@ -1,13 +1,12 @@
 #![tactic(auto)]
 // HDF5's metadata checksum: Bob Jenkins' lookup3, hashlittle with start value 0.
 ghost use Rattle.std.specs.Prelude.{◌≡◌, ◌-◌, ◌/◌, ◌<◌, ◌≤◌, min, length};
-ghost use Rattle.checksum.specs.Lookup3.{rotated, mix_line, mixed, final_line, final_mixed, added};
+ghost use Rattle.checksum.specs.Lookup3.{mix_line, mixed, final_line, final_mixed, added};
 ghost use Rattle.checksum.specs.Lookup3.{seed, seeded, blocks, hashlittle, lookup3};
 ghost use Rattle.checksum.specs.Trailing.{body_of, trailing_test};
 
 use fields::bytes::{read_u32_le, read_u32_le_padded};
 use refusal::Refusal;
-use std::num::{wrapping_add_u32, wrapping_sub_u32};
 
 // The three words of the hash's state.
 #[derive(Clone, Copy)]
@@ -17,19 +16,15 @@ pub struct Words {
     pub c: u32,
 }
 
-// What the tests of two structures answer.
+// What comes of two slices that are read side by side.
 #[derive(Clone, Copy)]
-pub struct TwoChecked {
-    pub first: Result<(), Refusal>,
-    pub second: Result<(), Refusal>,
+pub struct Two<T> {
+    pub first: T,
+    pub second: T,
 }
 
-// The checksums of two slices.
-#[derive(Clone, Copy)]
-struct TwoHashes {
-    first: u32,
-    second: u32,
-}
+// What the tests of two structures answer.
+pub type TwoChecked = Two<Result<(), Refusal>>;
 
 // The checksum of s.
 pub fn jenkins_lookup3(s: &[u8]) -> u32
@@ -52,7 +47,7 @@ pub fn verify_trailing_two(one: &[u8], other: &[u8]) -> TwoChecked
         × (result.second ≡ trailing_test lookup3 other.now) }
 {
     let computed = hashlittle_two(body(one), body(other), 0);
-    TwoChecked {
+    Two {
         first: compared(one, computed.first),
         second: compared(other, computed.second),
     }
@@ -85,21 +80,13 @@ pub fn body(block: &[u8]) -> &[u8]
     &block[..end]
 }
 
-// x rotated left by k.
-fn rot(x: u32, k: u32) -> u32
-    requires { (0 < k) × (k < 32) }
-    ensures { result ≡ rotated x k }
-{
-    (x << k) | (x >> (32 - k))
-}
-
 // One line of mix. The words come back under the names that they have in the next line.
 fn mix_line(w: Words, k: u32) -> Words
     requires { (0 < k) × (k < 32) }
     ensures { result ≡ mix_line k w }
 {
-    let a = wrapping_sub_u32(w.a, w.c) ^ rot(w.c, k);
-    let c = wrapping_add_u32(w.c, w.b);
+    let a = w.a.wrapping_sub(w.c) ^ w.c.rotate_left(k);
+    let c = w.c.wrapping_add(w.b);
     Words { a: w.b, b: c, c: a }
 }
 
@@ -115,7 +102,7 @@ fn final_line(w: Words, k: u32) -> Words
     requires { (0 < k) × (k < 32) }
     ensures { result ≡ final_line k w }
 {
-    let c = wrapping_sub_u32(w.c ^ w.b, rot(w.b, k));
+    let c = (w.c ^ w.b).wrapping_sub(w.b.rotate_left(k));
     Words {
         a: w.b,
         b: c,
@@ -136,23 +123,26 @@ fn final_mix(w: Words) -> Words
 }
 
 // Adds a block, the first 12 bytes of s.
+#[tactic(auto, unfolding(crate::specs::Lookup3::added))]
 fn add_block(w: Words, s: &[u8]) -> Words
     requires { 12 ≤ length s.now }
     ensures { result ≡ added w s.now }
 {
-    let a = wrapping_add_u32(w.a, read_u32_le(s, 0));
-    let b = wrapping_add_u32(w.b, read_u32_le(s, 4));
-    let c = wrapping_add_u32(w.c, read_u32_le(s, 8));
+    let a = w.a.wrapping_add(read_u32_le(s, 0));
+    let b = w.b.wrapping_add(read_u32_le(s, 4));
+    let c = w.c.wrapping_add(read_u32_le(s, 8));
     Words { a, b, c }
 }
 
-// Adds the tail, the last 1 to 12 bytes: third word, second word, first word.
+// Adds the tail, the last 1 to 12 bytes: third word, second word, first word. (Apart from add_block: with this one for
+// the blocks too, 8,192 bytes took 1.11 times as long, 150 bytes 1.04 times.)
+#[tactic(auto, unfolding(crate::specs::Lookup3::added))]
 fn add_tail(w: Words, s: &[u8]) -> Words
     ensures { result ≡ added w s.now }
 {
-    let c = wrapping_add_u32(w.c, read_u32_le_padded(s, 8));
-    let b = wrapping_add_u32(w.b, read_u32_le_padded(s, 4));
-    let a = wrapping_add_u32(w.a, read_u32_le_padded(s, 0));
+    let c = w.c.wrapping_add(read_u32_le_padded(s, 8));
+    let b = w.b.wrapping_add(read_u32_le_padded(s, 4));
+    let a = w.a.wrapping_add(read_u32_le_padded(s, 0));
     Words { a, b, c }
 }
 
@@ -160,10 +150,9 @@ fn add_tail(w: Words, s: &[u8]) -> Words
 fn start(n: usize, initval: u32) -> Words
     ensures { result ≡ seeded (seed n initval) }
 {
-    let x = wrapping_add_u32(
-        wrapping_add_u32(0xdead_beef, (n % 0x1_0000_0000) as u32),
-        initval,
-    );
+    let x = 0xdead_beef_u32
+        .wrapping_add((n % 0x1_0000_0000) as u32)
+        .wrapping_add(initval);
     Words { a: x, b: x, c: x }
 }
 
@@ -196,13 +185,13 @@ fn hashlittle(s: &[u8], initval: u32) -> u32
 }
 
 // The hashes of s and t, block by block in turn while both have more than 12 bytes left.
-fn hashlittle_two(s: &[u8], t: &[u8], initval: u32) -> TwoHashes
+fn hashlittle_two(s: &[u8], t: &[u8], initval: u32) -> Two<u32>
     ensures { (result.first ≡ hashlittle s.now initval)
         × (result.second ≡ hashlittle t.now initval) }
 {
     let both = s.len().min(t.len());
     if both == 0 {
-        return TwoHashes {
+        return Two {
             first: hashlittle(s, initval),
             second: hashlittle(t, initval),
         };
@@ -218,7 +207,7 @@ fn hashlittle_two(s: &[u8], t: &[u8], initval: u32) -> TwoHashes
         v = mix(add_block(v, one));
         w = mix(add_block(w, other));
     }
-    TwoHashes {
+    Two {
         first: hash_from(v, s_rest),
         second: hash_from(w, t_rest),
     }

@@ -1,5 +1,5 @@
 -- What the loops that build a grid have at each turn. Assumes nothing.
-use Prim.Native.Nat.{ℕ, zero, suc, ◌+◌, ◌-◌, ◌*◌, ◌/◌, ◌%◌, ◌<◌, ◌≤◌, min, max}
+use Prim.Native.Nat.{ℕ, zero, suc, ◌+◌, ◌-◌, ◌*◌, ◌/◌, ◌%◌, ◌^◌, ◌<◌, ◌≤◌, min, max}
 use mathlib.Core.Path.{◌≡◌, refl, sym, ap, ◌∙◌}
 use mathlib.Core.Bool.{Bool, true, false, not, ◌&&◌, ◌||◌}
 use mathlib.Core.List.{List, [], ◌∷◌}
@@ -13,11 +13,12 @@ use lib.Dec.{eqb, ltb}
 use lib.ListN.{length, get_or, take, drop, set, length-set, drop_of_length-le}
 use lib.Seq.{drop-cons, drop-drop, take_all, get_or-set_same, get_or-set_other, ext_get_or}
 use Rattle.std.specs.Prelude.{Err, None, Ok, Option, Some}
-use Rattle.std.specs.Option.{MatchOption, unwrap_or}
+use Rattle.std.specs.Option.{MatchOption, SomeIff, ok_or, unwrap_or}
 use Rattle.std.specs.List.{AllWithin, HoldsAt}
 use Rattle.std.proofs.Common.{◌≢◌}
 use Rattle.refusal.specs.declared.Refusal.TheVariants.{MaximumRank, PresentRank, Rank, TooManyChunks, Unlimited}
-use Rattle.refusal.proofs.Tests.{refuse_passed, then_passed}
+use mathlib.Core.Logic.{⊎_elim}
+use Rattle.refusal.proofs.Tests.{lt_or_ge, refuse_passed, then_passed}
 use Rattle.refusal.specs.declared.Refusal.{Refusal}
 use Rattle.refusal.specs.Refusals.{largest64, refuse, ◌then◌}
 use Rattle.chunk_grid.specs.Grid.{pairwise, any, ceil_div, first_unlimited, leading_in, to_front, multiplier, multipliers, has_zero, shapes_test, multiplier_test, product_test, given}
@@ -133,6 +134,15 @@ module _ (p i : ℕ) (l : List ℕ) where
     pub product_on : (get_or l i 0 ≡ largest64 → ⊥) → p * get_or l i 0 ≤ largest64 → product_test p (drop i l) ≡ product_test (p * get_or l i 0) (drop (i + 1) l)
     unfolding product_test refuse ◌then◌
     product_on n k = rw (drop-cons l i 0 h, ne_eqb (get_or l i 0) largest64 n, le-ltb largest64 (p * get_or l i 0) k, add-one) refl
+
+-- a product, where 64 bits hold it, and else the refusal
+pub taken : (r : Option ℕ) (n v : ℕ) → SomeIff r (n < 2 ^ 64) n → ok_or r TooManyChunks ≡ Ok v → (n ≤ largest64) × (v ≡ n)
+taken None n v s e = let z : ◌≡◌ {A = ℕ} 0 1 = cc in absurd (omega arith)
+taken (Some w) n v s e = (omega (arith, s.0), (let k : v ≡ w = cc in k ∙ s.1))
+
+pub too_many : (r : Option ℕ) (n : ℕ) (q : Refusal) → SomeIff r (n < 2 ^ 64) n → ok_or r TooManyChunks ≡ Err q → (largest64 < n) × (q ≡ TooManyChunks)
+too_many None n q s e = (⊎_elim (λ (lt : largest64 < n). lt) (λ (le : n ≤ largest64). absurd (s (omega arith))) (lt_or_ge largest64 n), cc)
+too_many (Some w) n q s e = let z : ◌≡◌ {A = ℕ} 0 1 = cc in absurd (omega arith)
 
 -- the counts from one place earlier on, and the multiplier in front of them
 module _ (cs : List ℕ) (i : ℕ) (low : 0 < i) (high : i ≤ length cs) where

@@ -1,16 +1,19 @@
 -- Members of lists, and what a loop over them has at each turn. Assumes nothing.
-use Prim.Native.Nat.{ℕ, zero, suc, ◌+◌, ◌<◌, ◌≤◌, min}
-use mathlib.Core.Path.{◌≡◌, refl, sym, ap, ◌∙◌}
+use Prim.Native.Nat.{ℕ, zero, suc, ◌+◌, ◌<◌, ◌≤◌}
+use mathlib.Core.Path.{subst, ◌≡◌, refl, sym, ◌∙◌}
 use mathlib.Core.Bool.{Bool, true, false, ◌&&◌}
-use mathlib.Core.List.{List, [], ◌∷◌, ◌++◌}
+use mathlib.Core.List.{List, [], ◌∷◌}
 use native.Mathlib.Numerals.{add-one}
 use native.Mathlib.Omega.{arith}
-use lib.ListN.{length, get_or, take, drop, set, drop_of_length-le, length-append, length-drop}
-use lib.Seq.{drop-cons, take-suc, take-suc-set, take_all, take_at, length-take-le}
+use native.Mathlib.Decide.{ℕ_discrete}
+use denote.Param.Members.{Mut}
+use Rattle.std.specs.Array.{IsFromFnResultFrom, IsFromFnResult}
+use Rattle.std.specs.Iterator.{ActsAs}
+use lib.ListN.{length-take, length, get_or, take, drop, set, drop_of_length-le}
+use lib.Seq.{ext_get_or, get_or-take, drop-cons, take-suc, take-suc-set}
 use Rattle.chunk_grid.specs.Grid.{pairwise, every, any, multiplier, multipliers}
-use Rattle.refusal.proofs.Tests.{neither, lt_or_ge}
+use Rattle.refusal.proofs.Tests.{neither}
 use Rattle.std.specs.List.{list_any}
-use mathlib.Core.Logic.{◌⊎◌, inl, inr}
 
 pub get_d_pairwise : (f : ℕ → ℕ → ℕ) (l m : List ℕ) (i : ℕ) → length l ≡ length m → i < length l → get_or (pairwise f l m) i 0 ≡ f (get_or l i 0) (get_or m i 0)
 unfolding pairwise
@@ -45,20 +48,28 @@ module _ (p : ℕ → ℕ → Bool) (l m : List ℕ) (i : ℕ) where
   unfolding every
   every_step h k = rw (drop-cons l i 0 h, drop-cons m i 0 k, add-one) refl
 
--- the members of s, up to 32 of them, in front of what was in an array
-pub front_stored : (s x z : List ℕ) (n : ℕ) → n ≡ min (length s) 32 → length z ≡ 32 → x ≡ take n s → take (length s) (x ++ drop n z) ≡ take 32 s
-front_stored s x z n m size e = go (lt_or_ge 32 (length s))
-  where
-    go : (32 < length s) ⊎ (length s ≤ 32) → take (length s) (x ++ drop n z) ≡ take 32 s
-    go (inl h) =
-        let k : n ≡ 32 = omega arith in
-        let l : length x ≡ n = ap length e ∙ length-take-le n s (omega arith) in
-        let d : length (drop n z) ≡ 0 = omega (arith, length-drop n z) in
-        take_all (length s) (x ++ drop n z) (omega (arith, length-append x (drop n z))) ∙ sym (take_all n (x ++ drop n z) (omega (arith, length-append x (drop n z)))) ∙ take_at x (drop n z) n l ∙ e ∙ ap (λ (i : ℕ). take i s) k
-    go (inr h) =
-        let k : n ≡ length s = omega arith in
-        let l : length x ≡ length s = ap length e ∙ length-take-le n s (omega arith) ∙ k in
-        take_at x (drop n z) (length s) l ∙ e ∙ take_all n s (omega arith) ∙ sym (take_all 32 s (omega arith))
+-- an array that a function makes, a number for each place
+module _ {F : Type 0} (g : Mut F (ℕ × Unit {0}) ℕ) (f : F) (h : ℕ → ℕ) (acts : ActsAs g f h) (made : List ℕ) where
+  made_from : (n i : ℕ) → IsFromFnResultFrom g f made i n → (k : ℕ) → i ≤ k → k < i + n → get_or made k 0 ≡ h k
+  made_from zero i r k low high = absurd (omega arith)
+  made_from (suc n) i r k low high =
+      let t = acts i r.1 r.0 r.3 in
+      go (ℕ_discrete k i) (r.2.1 0 ∙ t.1) (made_from n (i + 1) (subst (λ p. IsFromFnResultFrom g p made (i + 1) n) t.0 r.4) k)
+    where
+      go : Dec (k ≡ i) → get_or made i 0 ≡ h i → (i + 1 ≤ k → k < i + 1 + n → get_or made k 0 ≡ h k) → get_or made k 0 ≡ h k
+      go (yes e) here later = rw e here
+      go (no d) here later = later (omega (arith, d)) (omega arith)
+
+  pub member_made : (n : ℕ) → IsFromFnResult g f made n → (k : ℕ) → k < n → get_or made k 0 ≡ h k
+  member_made n r k lt = made_from n 0 r.each k (omega arith) (omega arith)
+
+-- an array that has the members of s, up to 32 of them, in front
+pub front_stored : (s r : List ℕ) → length r ≡ 32 → ((k : ℕ) → k < 32 → get_or r k 0 ≡ get_or s k 0) → take (length s) r ≡ take 32 s
+front_stored s r size each =
+    let a = length-take (length s) r in
+    let b = length-take 32 s in
+    ext_get_or 0 (take (length s) r) (take 32 s) (omega (arith, a, b))
+    (λ k lt. get_or-take (length s) r k 0 (omega (arith, a)) ∙ each k (omega (arith, a)) ∙ sym (get_or-take 32 s k 0 (omega (arith, a))))
 
 -- std's word for a member that passes
 pub any_list : (p : ℕ → Bool) (l : List ℕ) → list_any p l ≡ any p l

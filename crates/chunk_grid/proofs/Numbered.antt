@@ -17,7 +17,6 @@ use Rattle.refusal.specs.Refusals.{largest64, refuse, ◌then◌}
 use Rattle.refusal.specs.Outcome.{◌yields◌}
 use Rattle.chunk_grid.specs.declared.ChunkGrid.{ChunkGrid}
 use Rattle.chunk_grid.specs.declared.GridOrder.{GridOrder}
-use Rattle.chunk_grid.specs.declared.numbering.Numbering.{Numbering}
 use Rattle.chunk_grid.specs.Grid.{Grid, pairwise, any, ceil_div, count_of, counts, leading_in, leading, to_front, ordered, multipliers, has_zero, numbers_nothing, overflows, shapes_test, multiplier_test, grid_test, is_unlimited_first, given}
 use Rattle.chunk_grid.specs.Values.{grid_of, grids, built, numbering_test, counts_test, Made, GridNumbers, GridCounts, Extents}
 use Rattle.chunk_grid.proofs.Grids.{shaped, accepted}

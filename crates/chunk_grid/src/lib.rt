@@ -127,8 +127,8 @@ fn pairwise_into<F: Fn(u64, u64) -> u64>(out: &mut [u64], extents: &[u64], chunk
         → out.new ≡ pairwise g extents.now chunk.now }
 {
     // The first i dimensions' numbers are stored.
-    for i in 0..chunk.len() {
-        out[i] = f(extents[i], chunk[i]);
+    for (i, number) in out.iter_mut().enumerate() {
+        *number = f(extents[i], chunk[i]);
     }
 }
 
@@ -181,10 +181,9 @@ fn multiplier_test(counts: &[u64], rotated: usize) -> Result<(), Refusal>
         if count == u64::MAX {
             return Err(Refusal::Unlimited);
         }
-        let Some(next) = multiplier.checked_mul(count.max(1)) else {
-            return Err(Refusal::TooManyChunks);
-        };
-        multiplier = next;
+        multiplier = multiplier
+            .checked_mul(count.max(1))
+            .ok_or(Refusal::TooManyChunks)?;
     }
     Ok(())
 }
@@ -199,10 +198,7 @@ fn product_test(counts: &[u64]) -> Result<(), Refusal>
         if *count == u64::MAX {
             return Ok(());
         }
-        let Some(next) = product.checked_mul(*count) else {
-            return Err(Refusal::TooManyChunks);
-        };
-        product = next;
+        product = product.checked_mul(*count).ok_or(Refusal::TooManyChunks)?;
     }
     Ok(())
 }
@@ -295,8 +291,5 @@ fn counts_test(counts: &[u64], order: GridOrder) -> Result<(), Refusal>
 fn padded(s: &[u64]) -> [u64; 32]
     ensures { take (length s.now) result ≡ take 32 s.now }
 {
-    let mut r = [0u64; 32];
-    let n = s.len().min(32);
-    r[..n].copy_from_slice(&s[..n]);
-    r
+    std::array::from_fn(|i| s.get(i).copied().unwrap_or(0))
 }

@@ -56,7 +56,7 @@ fn print_corner(rt: &impl Print, corner: &[u64], numbering: &Numbering) -> io::R
     print!(rt; "  corner")?;
     print_numbers(rt, corner)?;
     print!(rt; ":")?;
-    if let Err(r) = corner_test(numbering, corner) {
+    if let Err(r) = corner_test(numbering.grid, corner) {
         return print_refusal(rt, r);
     }
     if corner.len() as u64 != numbering.grid.rank {
@@ -125,8 +125,7 @@ fn print_bytes(
         rank,
         &lengths[..c],
         &extents[..p],
-        maximum.is_some(),
-        &limits[..m],
+        maximum.is_some().then_some(&limits[..m]),
         GridOrder::UnlimitedFirst,
     );
     let mut shape = [0u64; 32];
@@ -169,11 +168,7 @@ fn run_case(rt: &impl Print, s: &[u8], from: usize) -> io::Result<usize> {
     let y = p.value as usize;
     let z = m.value as usize;
     let w = k.value as usize;
-    let limits = if has.value != 0 {
-        Some(&maximum[..z])
-    } else {
-        None
-    };
+    let limits = (has.value != 0).then_some(&maximum[..z]);
     print_case(
         rt,
         kind.value,

@@ -1,26 +1,26 @@
 -- Which corners are chunks, and the slot of a corner, place by place. Assumes nothing.
-use Prim.Native.Nat.{ℕ, suc, ◌+◌, ◌*◌, ◌/◌, ◌%◌, ◌<◌, ◌≤◌, max}
+use Prim.Native.Nat.{ℕ, suc, ◌+◌, ◌*◌, ◌/◌, ◌<◌, ◌≤◌, max}
 use mathlib.Core.Path.{◌≡◌, refl, sym, ap, ◌∙◌}
-use mathlib.Core.Bool.{false, cond, ◌&&◌, and-false}
+use mathlib.Core.Bool.{true, false, cond, ◌&&◌, and-false}
 use mathlib.Core.List.{List}
 use mathlib.Core.Logic.{⊎_elim}
-use native.Mathlib.Nat.{zero-add, add-zero, pos_of_ne-zero}
+use native.Mathlib.Nat.{zero-add, add-zero}
 use native.Mathlib.Numerals.{add-one}
 use native.Mathlib.Omega.{arith}
-use borrow.Author.Tests.{lt-ltb, le-ltb, le-leb, lt-leb, ne_eqb, eqb-false}
-use lib.Dec.{eqb, leb, ltb}
+use borrow.Author.Tests.{lt-ltb, le-ltb, le-leb, lt-leb, ne_eqb}
+use lib.Dec.{eqb, leb}
 use lib.ListN.{length, get_or, take, drop, length-take, drop_of_length-le}
 use lib.Seq.{drop-cons, get_or-take, length-take-le}
 use Rattle.std.specs.Prelude.{Err, None, Ok, Option, Some}
 use Rattle.refusal.specs.declared.Refusal.TheVariants.{Corner}
 use Rattle.refusal.specs.Refusals.{largest64, refuse}
 use Rattle.chunk_grid.specs.declared.ChunkGrid.{ChunkGrid}
-use Rattle.chunk_grid.specs.Grid.{Grid, pairwise, every, to_front, ordered, multipliers, has_zero, below, aligned, is_chunk, corner_test, total, slot_from, slot_of, grid_test, given}
+use Rattle.chunk_grid.specs.Grid.{Grid, pairwise, every, to_front, ordered, multipliers, below, aligned, is_chunk, corner_test, total, slot_from, slot_of, grid_test, given}
 use Rattle.chunk_grid.specs.Values.{grid_of, dim_at, GridNumbers, GridCounts}
 use Rattle.refusal.proofs.Tests.{lt_or_ge}
 use Rattle.chunk_grid.proofs.Grids.{Chunk, is_chunk_lem, accepted}
 use Rattle.chunk_grid.proofs.Order.{length_front, length-pairwise}
-use Rattle.chunk_grid.proofs.Members.{get_d_pairwise, any_at, every_end, every_step}
+use Rattle.chunk_grid.proofs.Members.{get_d_pairwise}
 use Rattle.chunk_grid.proofs.Places.{front_at, in_order, length_order, order_at}
 use Rattle.chunk_slots.proofs.Extents.{leads, rooms, chunk_are}
 
@@ -34,78 +34,41 @@ module _ (g : Grid) (corner : List ℕ) where
   unfolding is_chunk
   other_rank_lem n = no_chunk (rw (ne_eqb (length corner) g.rank n) refl)
 
-  pub unaligned : aligned corner g.chunk ≡ false → Err Corner ≡ corner_test g corner
+  unaligned : aligned corner g.chunk ≡ false → Err Corner ≡ corner_test g corner
   unfolding is_chunk
   unaligned e = no_chunk (rw (e, and-false (eqb (length corner) g.rank)) refl)
 
-  pub outside : below corner g.present ≡ false → Err Corner ≡ corner_test g corner
+  outside : below corner g.present ≡ false → Err Corner ≡ corner_test g corner
   unfolding is_chunk
   outside e = no_chunk (rw (e, and-false (eqb (length corner) g.rank && aligned corner g.chunk)) refl)
 
-  pub chunk_passes : Chunk g corner → Ok tt ≡ corner_test g corner
+  chunk_passes : Chunk g corner → Ok tt ≡ corner_test g corner
   unfolding corner_test refuse
   chunk_passes k = rw (is_chunk_lem g corner k) refl
 
--- The test's loop, over the arrays of a built grid; the corner has the grid's rank.
-module _ (k : ChunkGrid) (corner : List ℕ) (t : grid_test (grid_of k) ≡ Ok tt) (e : length corner ≡ k.rank) where
-  abbrev ch : List ℕ
-  ch = take (length corner) k.chunk
-
-  abbrev pr : List ℕ
-  pr = take (length corner) k.present
-
-  pub corner_small : length corner ≤ 32
+-- The test over the arrays of a grid; the corner has the grid's rank.
+module _ (k : ChunkGrid) (corner : List ℕ) (e : length corner ≡ k.rank) where
+  pub corner_small : grid_test (grid_of k) ≡ Ok tt → length corner ≤ 32
   unfolding grid_of given
-  corner_small = omega (arith, (accepted (grid_of k) t).small)
+  corner_small t = omega (arith, (accepted (grid_of k) t).small)
 
-  size_ch : length ch ≡ length corner
-  unfolding grid_of given
-  size_ch = rw e (accepted (grid_of k) t).chunked
-
-  size_pr : length pr ≡ length corner
-  unfolding grid_of given
-  size_pr = rw e (accepted (grid_of k) t).presented
-
-  pub corner_pos : (i : ℕ) → i < length corner → 0 < get_or k.chunk i 0
-  unfolding grid_of given has_zero
-  corner_pos i h =
-      rw (← get_or-take (length corner) k.chunk i 0 h)
-      (pos_of_ne-zero (eqb-false _ 0 (any_at (λ (c : ℕ). eqb c 0) ch i (rw e (accepted (grid_of k) t).positive) (omega (arith, size_ch)))))
-
-  aligned_are : aligned corner (grid_of k).chunk ≡ aligned corner ch
+  aligned_are : aligned corner (grid_of k).chunk ≡ aligned corner (take (length corner) k.chunk)
   unfolding grid_of given
   aligned_are = ap (λ (n : ℕ). aligned corner (take n k.chunk)) (sym e)
 
-  below_are : below corner (grid_of k).present ≡ below corner pr
+  below_are : below corner (grid_of k).present ≡ below corner (take (length corner) k.present)
   unfolding grid_of given
   below_are = ap (λ (n : ℕ). below corner (take n k.present)) (sym e)
 
-  module _ (i : ℕ) (h : i < length corner) where
-    pub aligned_step : aligned (drop i corner) (drop i ch) ≡ eqb (get_or corner i 0 % get_or k.chunk i 0) 0 && aligned (drop (i + 1) corner) (drop (i + 1) ch)
-    unfolding aligned
-    aligned_step = every_step _ corner ch i h (omega (arith, size_ch)) ∙ rw (get_or-take (length corner) k.chunk i 0 h) refl
+  pub unaligned_here : aligned corner (take (length corner) k.chunk) ≡ false → Err Corner ≡ corner_test (grid_of k) corner
+  unaligned_here a = unaligned (grid_of k) corner (aligned_are ∙ a)
 
-    pub below_step : below (drop i corner) (drop i pr) ≡ ltb (get_or corner i 0) (get_or k.present i 0) && below (drop (i + 1) corner) (drop (i + 1) pr)
-    unfolding below
-    below_step = every_step ltb corner pr i h (omega (arith, size_pr)) ∙ rw (get_or-take (length corner) k.present i 0 h) refl
+  pub outside_here : below corner (take (length corner) k.present) ≡ false → Err Corner ≡ corner_test (grid_of k) corner
+  outside_here b = outside (grid_of k) corner (below_are ∙ b)
 
-    pub unaligned_here : aligned (drop i corner) (drop i ch) ≡ aligned corner ch → (get_or corner i 0 % get_or k.chunk i 0 ≡ 0 → ⊥)
-        → Err Corner ≡ corner_test (grid_of k) corner
-    unaligned_here a n = unaligned (grid_of k) corner (aligned_are ∙ sym a ∙ aligned_step ∙ rw (ne_eqb (get_or corner i 0 % get_or k.chunk i 0) 0 n) refl)
-
-    pub outside_here : below (drop i corner) (drop i pr) ≡ below corner pr → get_or k.present i 0 ≤ get_or corner i 0
-        → Err Corner ≡ corner_test (grid_of k) corner
-    outside_here a le = outside (grid_of k) corner (below_are ∙ sym a ∙ below_step ∙ rw (le-ltb (get_or corner i 0) (get_or k.present i 0) le) refl)
-
-  pub passes : (i : ℕ) → length corner ≤ i → aligned (drop i corner) (drop i ch) ≡ aligned corner ch → below (drop i corner) (drop i pr) ≡ below corner pr
-      → Ok tt ≡ corner_test (grid_of k) corner
-  unfolding grid_of given aligned below
-  passes i h a b =
-      chunk_passes (grid_of k) corner (record {
-        ranked = e;
-        multiple = aligned_are ∙ sym a ∙ every_end _ corner ch i h;
-        inside = below_are ∙ sym b ∙ every_end ltb corner pr i h;
-      })
+  pub passes : aligned corner (take (length corner) k.chunk) ≡ true → below corner (take (length corner) k.present) ≡ true → Ok tt ≡ corner_test (grid_of k) corner
+  unfolding grid_of given
+  passes a b = chunk_passes (grid_of k) corner (record { ranked = e; multiple = aligned_are ∙ a; inside = below_are ∙ b })
 
 -- The slot of a corner: what the loop has before place i, over quotients, counts and multipliers in the grid's order.
 module _ (qs cs ms : List ℕ) where

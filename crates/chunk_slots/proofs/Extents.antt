@@ -160,6 +160,16 @@ module _ (g : Grid) (rank u : ℕ) (chunk down : List ℕ) (n : GridNumbers rank
       let e = sym (get_or-take rank down i 0 h) ∙ ap (λ (m : List ℕ). get_or m i 0) n.downs ∙ multiplier_at (ordered g) i (omega (arith, length-ordered g b, n.ranked)) in
       rw e (multiplier_pos _)
 
+  -- a place among the multipliers of the grid's dimensions, and the end of them
+  pub place_at : (i : ℕ) → i < length (take rank down) → i < rank
+  place_at i h = omega (arith, length-take rank down, rooms.1)
+
+  pub place_end : (i : ℕ) → length (take rank down) ≤ i → rank ≤ i
+  place_end i h = omega (arith, length-take rank down, rooms.1)
+
+  pub down_at : (i : ℕ) → i < length (take rank down) → get_or (take rank down) i 0 ≡ get_or down i 0
+  down_at i h = get_or-take rank down i 0 (place_at i h)
+
   pub chunk_are : in_order rank u chunk ≡ to_front (leading g) g.chunk
   chunk_are = rw (n.chunks, n.leads) refl
 

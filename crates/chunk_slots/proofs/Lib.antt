@@ -1,4 +1,5 @@
 pub mod Extents
+pub mod Every
 pub mod Corners
 pub mod AllInside
 pub mod Lines

@@ -2,14 +2,14 @@
 // The slots of a chunk grid: a slot's offsets, the slots in a line, a corner's slot.
 ghost use Rattle.std.specs.Prelude.{◌≡◌, true, cond, ◌*◌, ◌/◌, ◌%◌, ◌<◌, ◌≤◌, ltb, length, Ok};
 ghost use Rattle.refusal.specs.Refusals.{largest64};
-ghost use Rattle.chunk_grid.specs.Grid.{corner_test, slot_of};
+ghost use Rattle.chunk_grid.specs.Grid.{grid_test, aligned, below, corner_test, slot_of};
 ghost use Rattle.chunk_grid.specs.Values.{grid_of, in_extent, offsets_of};
 ghost use Rattle.chunk_slots.specs.Values.{handed};
 ghost use Rattle.chunk_slots.specs.AllInside.{all_inside};
 ghost use Rattle.chunk_slots.specs.Lines.{InLine};
 
-use chunk_grid::dim_at;
 use chunk_grid::numbering::Numbering;
+use chunk_grid::{ChunkGrid, dim_at};
 use refusal::Refusal;
 
 // Slots in a line: how many, the dimension in which their offsets differ, and the first one's quotient there.
@@ -21,23 +21,41 @@ pub struct Line {
 }
 
 // Tests that a corner is a chunk's.
-pub fn corner_test(numbering: &Numbering, corner: &[u64]) -> Result<(), Refusal>
-    ensures { result ≡ corner_test (grid_of numbering.now.grid.now) corner.now }
+pub fn corner_test(grid: &ChunkGrid, corner: &[u64]) -> Result<(), Refusal>
+    requires { grid_test (grid_of grid.now) ≡ Ok tt }
+    ensures { result ≡ corner_test (grid_of grid.now) corner.now }
 {
-    let grid = numbering.grid;
-    if corner.len() as u64 != grid.rank {
+    let n = corner.len();
+    if n as u64 != grid.rank {
         return Err(Refusal::Corner);
     }
-    // The first i members are multiples of the chunk's lengths, below the present extents.
-    for i in 0..corner.len() {
-        if corner[i] % grid.chunk[i] != 0 {
-            return Err(Refusal::Corner);
-        }
-        if grid.present[i] <= corner[i] {
-            return Err(Refusal::Corner);
-        }
+    if is_aligned(corner, &grid.chunk[..n]) && is_below(corner, &grid.present[..n]) {
+        Ok(())
+    } else {
+        Err(Refusal::Corner)
     }
-    Ok(())
+}
+
+// Whether each member is a multiple of the chunk's length at its place.
+fn is_aligned(corner: &[u64], chunk: &[u64]) -> bool
+    requires { length corner.now ≡ length chunk.now }
+    ensures { result ≡ aligned corner.now chunk.now }
+{
+    corner
+        .iter()
+        .zip(chunk)
+        .all(|(member, length)| member.is_multiple_of(*length))
+}
+
+// Whether each member lies below the extent at its place.
+fn is_below(corner: &[u64], extents: &[u64]) -> bool
+    requires { length corner.now ≡ length extents.now }
+    ensures { result ≡ below corner.now extents.now }
+{
+    corner
+        .iter()
+        .zip(extents)
+        .all(|(member, extent)| member < extent)
 }
 
 // n / m. (The last multipliers are 1, and a division costs.)
@@ -71,7 +89,7 @@ fn offset_overflows(q: u64, length: u64, bound: u64) -> bool
     if q < bound {
         false
     } else {
-        u64::MAX / length < q
+        q.checked_mul(length).is_none()
     }
 }
 
@@ -125,9 +143,8 @@ pub fn line_from(slot: u64, numbering: &Numbering) -> Line
     let mut rest = slot;
     // The first i places have the same quotients for `slots` slots, and no multiplier 1; `rest` is what is left of
     // the slot.
-    for i in 0..rank {
-        let multiplier = numbering.down[i];
-        if multiplier == 1 {
+    for (i, multiplier) in numbering.down[..rank].iter().enumerate() {
+        if *multiplier == 1 {
             let d = dim_at(i, rotated);
             let left = numbering.bound[d] - rest;
             return Line {
@@ -136,8 +153,8 @@ pub fn line_from(slot: u64, numbering: &Numbering) -> Line
                 first: rest,
             };
         }
-        rest = rest % multiplier;
-        slots = slots.min(multiplier - rest);
+        rest = rest % *multiplier;
+        slots = slots.min(*multiplier - rest);
     }
     Line {
         slots: 1,
@@ -158,13 +175,12 @@ pub fn all_inside(n: u64, numbering: &Numbering) -> bool
     let rotated = numbering.rotated as usize;
     let mut rests = n;
     // At the first i places all quotients lie below their bounds, and the rests that they leave lie below `rests`.
-    for i in 0..rank {
+    for (i, multiplier) in numbering.down[..rank].iter().enumerate() {
         let d = dim_at(i, rotated);
-        let multiplier = numbering.down[i];
-        if numbering.bound[d] < rests.div_ceil(multiplier) {
+        if numbering.bound[d] < rests.div_ceil(*multiplier) {
             return false;
         }
-        rests = multiplier;
+        rests = *multiplier;
     }
     true
 }

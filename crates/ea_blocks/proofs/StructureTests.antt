@@ -6,11 +6,10 @@ use mathlib.Core.Bool.{true, false}
 use mathlib.Core.List.{List}
 use native.Mathlib.Omega.{arith}
 use lib.ListN.{length}
-use borrow.Author.Tests.{lt-ltb, le-ltb}
+use borrow.Author.Tests.{lt-ltb, le-ltb, ltb-true, ltb-false}
 use Rattle.std.specs.Prelude.{Ok}
 use Rattle.refusal.proofs.Tests.{then_inv}
 use Rattle.fields.specs.Fields.{is_width}
-use Rattle.fields.proofs.Widths.{width_le}
 use Rattle.structures.proofs.StructureTests.{structure_inside}
 use Rattle.ea_header.specs.Values.{Served}
 use Rattle.ea_header.proofs.Served.{tested_serves}
@@ -74,6 +73,14 @@ module _ (a : Array) where
     unfolding is_direct
     not_direct le = le-ltb u (direct_super_blocks a.parameters) le
 
+    pub direct_lem : is_direct a u ≡ true → u < direct_super_blocks a.parameters
+    unfolding is_direct
+    direct_lem e = ltb-true u (direct_super_blocks a.parameters) e
+
+    pub beyond_lem : is_direct a u ≡ false → direct_super_blocks a.parameters ≤ u
+    unfolding is_direct
+    beyond_lem e = ltb-false u (direct_super_blocks a.parameters) e
+
     pub named_in_index : (k : ℕ) → u < direct_super_blocks a.parameters → block_named_at a u k ≡ a.index_at + direct_pointer_at a.parameters a.offset_size u k
     unfolding block_named_at
     named_in_index k lt = rw (is_direct_lem lt) refl
@@ -85,4 +92,4 @@ module _ (a : Array) where
 -- an index block that has passed its test
 pub index_in_file : (f : List ℕ) (a : ExtensibleArray) → Served a.geometry.parameters → is_width a.geometry.offset_size ≡ true
     → test_of (array_of f a) index_block ≡ Ok tt → IndexInFile f a
-index_in_file f a v w t = record { bounded = record { served = v; width = width_le _ w }; wide = w; inside = index_inside (array_of f a) t }
+index_in_file f a v w t = record { served = v; wide = w; inside = index_inside (array_of f a) t }

@@ -1,5 +1,5 @@
 -- What the code's values stand for: stepping into a structure.
-use Rattle.std.specs.Prelude.{ℕ, ◌≡◌, true, false, ◌⊎◌, Err, None, Ok, Option, Some}
+use Rattle.std.specs.Prelude.{ℕ, ◌≡◌, true, false, Err, None, Ok, Option, Some}
 use Rattle.structures.specs.declared.enter.Ahead.{Ahead}
 use Rattle.structures.specs.Entered.{TestedBy}
 use Rattle.ea_blocks.specs.Array.{Array}
@@ -13,14 +13,14 @@ use Rattle.refusal.specs.Refusals.{Outcome}
 abbrev pub TestedAhead : Array → (ℕ → Structure) → Option Ahead → Type 0
 TestedAhead a structure ahead = TestedBy (λ (i : ℕ). test_of a (structure i)) ahead
 
--- Super block u: its pointer is undefined, it has passed its test (or the index block names its data blocks, and the
--- position is 0), or its test refuses it.
-abbrev pub EnteredSuper : Array → ℕ → Outcome (Option ℕ) → Type 0
+-- Super block u: its pointer is undefined; it has passed its test; the index block names its data blocks, and it has no
+-- place; or its test refuses it.
+abbrev pub EnteredSuper : Array → ℕ → Outcome (Option (Option ℕ)) → Type 0
 EnteredSuper a u (Ok None) = (is_direct a u ≡ false) × (super_undefined a u ≡ true)
-EnteredSuper a u (Ok (Some at)) =
-    ((is_direct a u ≡ true) × (at ≡ 0))
-    ⊎ ((is_direct a u ≡ false) × (super_undefined a u ≡ false) × (test_of a (super_block u) ≡ Ok tt)
-    × (at ≡ super_block_at a u))
+EnteredSuper a u (Ok (Some None)) = is_direct a u ≡ true
+EnteredSuper a u (Ok (Some (Some at))) =
+    (is_direct a u ≡ false) × (super_undefined a u ≡ false) × (test_of a (super_block u) ≡ Ok tt)
+    × (at ≡ super_block_at a u)
 EnteredSuper a u (Err r) =
     (is_direct a u ≡ false) × (super_undefined a u ≡ false)
     × (test_of a (super_block u) ≡ Err r)

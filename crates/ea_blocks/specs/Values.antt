@@ -1,12 +1,13 @@
 -- What the code's values stand for.
-use Rattle.std.specs.Prelude.{ℕ, ◌+◌, ◌<◌, ◌≤◌, ◌≡◌, Bool, true, cond, List, length, None, Option, Some}
+use Rattle.std.specs.Prelude.{ℕ, ◌+◌, ◌≤◌, ◌≡◌, Bool, true, cond, List, length, None, Option, Some}
+use Rattle.std.specs.Option.{ForSome}
 use Rattle.fields.specs.Fields.{is_width}
 use Rattle.checksum.specs.Lookup3.{lookup3}
 use Rattle.ea_header.specs.declared.ExtensibleArrayHeader.{ExtensibleArrayHeader}
-use Rattle.ea_geometry.specs.Bounded.{Bounded}
-use Rattle.ea_geometry.specs.Sizes.{super_blocks, blocks, direct_super_blocks, pages}
-use Rattle.ea_geometry.specs.Extents.{index_extent, super_extent}
-use Rattle.ea_geometry.specs.Place.{in_pages}
+use Rattle.ea_header.specs.Values.{Served}
+use Rattle.ea_geometry.specs.Extents.{index_extent}
+use Rattle.ea_blocks.specs.Structures.{super_block_at}
+use Rattle.ea_blocks.specs.declared.BoundedArray.{BoundedArray}
 use Rattle.ea_blocks.specs.declared.ExtensibleArray.{ExtensibleArray}
 use Rattle.ea_blocks.specs.Array.{Array}
 
@@ -27,30 +28,26 @@ headed h o = record {
   index_at = h.index_block_address;
 }
 
+-- .. and those of an array whose extents fit 64 bits
+abbrev pub array_in : BoundedArray → Array
+array_in a = record {
+  file = a.file.now;
+  sum = lookup3;
+  parameters = a.extents.sizes.parameters;
+  offset_size = a.extents.offset_size;
+  index_at = a.index_at;
+}
+
 -- The parameters are served, the offset size is a width, and the index block lies in the file.
 pub record IndexInFile (file : List ℕ) (a : ExtensibleArray) : Type 0 where
-  pub bounded : Bounded a.geometry
+  pub served : Served a.geometry.parameters
   pub wide : is_width a.geometry.offset_size ≡ true
   pub inside : a.index_at + index_extent a.geometry.parameters a.geometry.offset_size ≤ length file
 
--- There is a data block k of super block u, and the pointer to it lies in the file: in the index block, or in the
--- super block at super_block_at.
-pub record PointerInFile (file : List ℕ) (a : ExtensibleArray) (u k super_block_at : ℕ) : Type 0 where
-  pub super : u < super_blocks a.geometry.parameters
-  pub block : k < blocks u
-  pub index : IndexInFile file a
-  pub inside : direct_super_blocks a.geometry.parameters ≤ u
-      → super_block_at + super_extent a.geometry.parameters a.geometry.offset_size u ≤ length file
-
--- There is a page p of data block k of super block u, and its bit lies in the file: in the super block at
--- super_block_at.
-pub record PageBitInFile (file : List ℕ) (a : ExtensibleArray) (super_block_at u k p : ℕ) : Type 0 where
-  pub super : u < super_blocks a.geometry.parameters
-  pub block : k < blocks u
-  pub page : p < pages a.geometry.parameters u
-  pub bounded : Bounded a.geometry
-  pub paged : in_pages a.geometry.parameters u ≡ true
-  pub inside : super_block_at + super_extent a.geometry.parameters a.geometry.offset_size u ≤ length file
+-- The pointers to the data blocks of super block u stand where the file says: in the super block, which lies where its
+-- pointer says; or in the index block.
+abbrev pub NamedAt : Array → ℕ → Option ℕ → Type 0
+NamedAt a u super_at = ForSome super_at (λ (at : ℕ). at ≡ super_block_at a u)
 
 -- What a pointer says: nothing where it is undefined, else the position of a structure.
 unfoldable pub pointer_of : Bool → ℕ → Option ℕ

@@ -3,11 +3,11 @@ use Prim.{tt}
 use Prim.Native.Nat.{ℕ, ◌+◌, ◌*◌, ◌^◌, ◌<◌, ◌≤◌}
 use mathlib.Core.Path.{◌≡◌, refl, sym, ap, subst, ◌∙◌}
 use mathlib.Core.Bool.{true, false}
-use mathlib.Core.List.{List}
 use mathlib.Core.Logic.{◌⊎◌, inl, inr, ⊎_elim}
 use native.Mathlib.Omega.{arith}
 use lib.ListN.{length}
 use Rattle.std.specs.Prelude.{Err, None, Ok, Option, Some}
+use Rattle.std.specs.Option.{is_some, ForNone, ForSome}
 use Rattle.refusal.specs.Refusals.{Outcome}
 use Rattle.refusal.specs.declared.Refusal.{Refusal}
 use Rattle.element_form.specs.Form.{stride}
@@ -17,21 +17,21 @@ use Rattle.ea_header.specs.declared.Parameters.{Parameters}
 use Rattle.ea_header.specs.Values.{Served}
 use Rattle.ea_geometry.specs.Sizes as sizes
 use Rattle.ea_geometry.specs.Sizes.{super_blocks, block_elements, direct_super_blocks, page_elements}
-use Rattle.ea_geometry.specs.Extents.{element_stride, block_element_at}
+use Rattle.ea_geometry.specs.Extents.{element_stride, super_extent, block_element_at}
 use Rattle.ea_geometry.specs.Place.{in_pages}
 use Rattle.ea_geometry.specs.Slots.{first_slot}
 use Rattle.ea_geometry.proofs.Counts.{all_few, pages-exact}
 use Rattle.ea_geometry.proofs.Places.{in_pages_over, next_slot}
-use Rattle.ea_blocks.specs.declared.ExtensibleArray.{ExtensibleArray}
+use Rattle.ea_blocks.specs.declared.BoundedArray.{BoundedArray}
 use Rattle.structures.specs.declared.enter.Ahead.{Ahead}
 use Rattle.ea_blocks.specs.Array.{Array}
-use Rattle.ea_blocks.specs.Structures.{data_block, data_page, is_direct, super_block_at, block_at}
-use Rattle.ea_blocks.specs.Values.{PointerInFile, PageBitInFile, array_of}
+use Rattle.ea_blocks.specs.Structures.{super_block_at, data_block, data_page, block_at}
+use Rattle.ea_blocks.specs.Values.{NamedAt, array_in}
 use Rattle.ea_blocks.specs.Entered.{EnteredSuper, EnteredBlock, EnteredPage, TestedAhead}
-use Rattle.ea_blocks.proofs.StructureTests.{not_direct}
-use Rattle.ea_blocks.proofs.Entering.{entered_at, entered_super_room, entered_block_room, entered_head_room, entered_page_room}
+use Rattle.ea_blocks.proofs.Entering.{entered_at, entered_direct, paged_named, entered_super_room, entered_block_room, entered_head_room, entered_page_room}
+use Rattle.elements.proofs.Runs.{count_few}
 use Rattle.ea_count.specs.Values.{WalkFrom}
-use Rattle.ea_count.proofs.WalkStates.{AtSuper, AtBlock, AtPage, BehindBlock, Done, Counts, at_first, supers_done, super_ended, super_skip, super_refused, super_in, blocks_done, block-behind, block_ended, block_skip, block_refused, block_run, block_run_refused, block-pages, pages_done, page_skip, page_refused, page_run_refused, page_run_last, page_run_on, slot_few, block_few, count_few, page_ends, paged_behind, unpaged_room}
+use Rattle.ea_count.proofs.WalkStates.{AtSuper, AtBlock, AtPage, BehindBlock, Done, Counts, at_first, supers_done, super_ended, super_skip, super_refused, super_in, blocks_done, block-behind, block_ended, block_skip, block_refused, block_run, block_run_refused, block-pages, pages_done, page_skip, page_refused, page_run_refused, page_run_last, page_run_on, slot_few, block_few, page_ends, unpaged_room}
 
 -- a data block is open: the count doesn't end it, or its super block names it
 abbrev pub Open : ℕ → ℕ → ℕ → ℕ → Type 0
@@ -39,8 +39,7 @@ Open u directs slot count = ((u < directs) × (slot < count)) ⊎ (directs ≤ u
 
 -- what the walk is made with: the function's parameters, and what it computes of them before its loops
 pub record Setting : Type 0 where
-  pub file : List ℕ
-  pub array : ExtensibleArray
+  pub array : BoundedArray
   pub reader : ElementReader
   pub first : ℕ
   pub begin : ℕ
@@ -50,38 +49,38 @@ pub record Setting : Type 0 where
   pub page : ℕ
 
 abbrev h_of : Setting → Parameters
-h_of w = w.array.geometry.parameters
+h_of w = w.array.extents.sizes.parameters
 
 abbrev a_of : Setting → Array
-a_of w = array_of w.file w.array
+a_of w = array_in w.array
 
 -- the walk's states, and what it ends with
 abbrev SuperAt : Setting → ℕ → ℕ → ℕ → Type 0
-SuperAt w = AtSuper w.file w.array w.reader w.first w.begin w.end
+SuperAt w = AtSuper w.array w.reader w.first w.begin w.end
 
-abbrev BlockAt : Setting → ℕ → ℕ → ℕ → ℕ → ℕ → Type 0
-BlockAt w = AtBlock w.file w.array w.reader w.first w.begin w.end
+abbrev BlockAt : Setting → ℕ → ℕ → ℕ → Option ℕ → ℕ → Type 0
+BlockAt w = AtBlock w.array w.reader w.first w.begin w.end
 
-abbrev PageAt : Setting → ℕ → ℕ → ℕ → ℕ → ℕ → ℕ → ℕ → ℕ → Type 0
-PageAt w = AtPage w.file w.array w.reader w.first w.begin w.end
+abbrev PageAt : Setting → ℕ → ℕ → ℕ → ℕ → Option ℕ → ℕ → ℕ → ℕ → Type 0
+PageAt w = AtPage w.array w.reader w.first w.begin w.end
 
-abbrev Behind : Setting → ℕ → ℕ → ℕ → ℕ → ℕ → Type 0
-Behind w = BehindBlock w.file w.array w.reader w.first w.begin w.end
+abbrev Behind : Setting → ℕ → ℕ → ℕ → Option ℕ → ℕ → Type 0
+Behind w = BehindBlock w.array w.reader w.first w.begin w.end
 
 abbrev pub Ends : Setting → Outcome ℕ → Type 0
-Ends w = Done w.file w.array w.reader w.first w.begin w.end
+Ends w = Done w.array w.reader w.first w.begin w.end
 
 abbrev pub Run : Setting → ℕ → ℕ → ℕ → Outcome ℕ → Type 0
-Run w = Counts w.file w.array w.reader w.first w.begin w.end
+Run w = Counts w.array w.reader w.first w.begin w.end
 
 -- what doesn't change in the walk
 pub record Fixed (w : Setting) : Type 0 where
-  pub walk : WalkFrom w.file w.array w.reader w.first w.begin w.end
+  pub walk : WalkFrom w.array w.reader w.first w.begin w.end
   pub counts : w.count ≡ w.reader.count
   pub direct_ones : w.directs ≡ direct_super_blocks (h_of w)
   pub page_size : w.page ≡ page_elements (h_of w)
   pub inline_few : (h_of w).idx_blk_elmts ≤ 255
-  pub small : length w.file < 2 ^ 63
+  pub small : length w.array.file.now < 2 ^ 63
 
 -- at super block u: what is counted, and the walk from there on, are the whole
 pub record InSupers (w : Setting) (total slot u : ℕ) : Type 0 where
@@ -90,7 +89,7 @@ pub record InSupers (w : Setting) (total slot u : ℕ) : Type 0 where
   pub state : SuperAt w total slot u
 
 -- at its data block k
-pub record InBlocks (w : Setting) (u blocks elements super total slot : ℕ) (ahead : Option Ahead) (k : ℕ) : Type 0 where
+pub record InBlocks (w : Setting) (u blocks elements : ℕ) (super : Option ℕ) (total slot : ℕ) (ahead : Option Ahead) (k : ℕ) : Type 0 where
   pub fixed : Fixed w
   pub super_lt : u < w.end
   pub blocks_are : blocks ≡ sizes.blocks u
@@ -100,7 +99,7 @@ pub record InBlocks (w : Setting) (u blocks elements super total slot : ℕ) (ah
   pub ahead_is : TestedAhead (a_of w) (data_block u) ahead
 
 -- at page p of it
-pub record InPages (w : Setting) (u blocks elements super k at pages slot total from : ℕ) (ahead : Option Ahead) (p : ℕ) : Type 0 where
+pub record InPages (w : Setting) (u blocks elements : ℕ) (super : Option ℕ) (k at pages slot total from : ℕ) (ahead : Option Ahead) (p : ℕ) : Type 0 where
   pub fixed : Fixed w
   pub super_lt : u < w.end
   pub blocks_are : blocks ≡ sizes.blocks u
@@ -114,39 +113,39 @@ pub record InPages (w : Setting) (u blocks elements super k at pages slot total 
 
 module _ {w : Setting} where
   served : Fixed w → Served (h_of w)
-  served x = x.walk.index.bounded.served
+  served x = w.array.extents.sizes.served
 
   run_few : Fixed w → (pos j s m : ℕ) → Run w pos j s (Ok m) → m ≤ j
   run_few x pos j s m c =
-      count_few (elements_of w.file w.reader) pos j s m c
+      count_few (elements_of w.array.file.now w.reader) pos j s m c
 
   own_stride : Fixed w → element_stride (h_of w) (a_of w).offset_size ≡ stride w.reader.form
   own_stride x = ap stride x.walk.formed
 
-  run_in_file : Fixed w → (pos n : ℕ) → pos + n * element_stride (h_of w) (a_of w).offset_size ≤ length w.file → pos + n * stride w.reader.form ≤ length w.file
-  run_in_file x pos n le = subst (λ (z : ℕ). pos + n * z ≤ length w.file) (own_stride x) le
+  run_in_file : Fixed w → (pos n : ℕ) → pos + n * element_stride (h_of w) (a_of w).offset_size ≤ length w.array.file.now → pos + n * stride w.reader.form ≤ length w.array.file.now
+  run_in_file x pos n le = subst (λ (z : ℕ). pos + n * z ≤ length w.array.file.now) (own_stride x) le
 
   pub supers_first : (slot : ℕ) → Fixed w → slot ≡ first_slot (h_of w) w.begin → InSupers w w.first slot w.begin
   supers_first slot x e = record {
     fixed = x;
     upto = x.walk.ordered;
-    state = subst (λ (s : ℕ). SuperAt w w.first s w.begin) (sym e) (at_first _ _ _ _ _ _ x.walk.few);
+    state = subst (λ (s : ℕ). SuperAt w w.first s w.begin) (sym e) (at_first _ _ _ _ _ x.walk.few);
   }
 
   -- at a super block
   module _ {total slot u : ℕ} (i : InSupers w total slot u) where
     pub supers_ends : w.end ≤ u → Ends w (Ok total)
-    supers_ends le = supers_done _ _ _ _ _ _ _ _ _ i.state le
+    supers_ends le = supers_done _ _ _ _ _ _ _ _ i.state le
 
     pub count_ends : w.count ≤ slot → Ends w (Ok total)
-    count_ends le = super_ended _ _ _ _ _ _ _ _ _ i.state (let e = i.fixed.counts in omega arith)
+    count_ends le = super_ended _ _ _ _ _ _ _ _ i.state (let e = i.fixed.counts in omega arith)
 
     module _ (lt : u < w.end) where
       super_of_lem : u < super_blocks (h_of w)
       super_of_lem = let e = i.fixed.walk.supers in omega arith
 
-      pub super_there : (u < super_blocks (h_of w)) × Served (h_of w)
-      super_there = (super_of_lem, served i.fixed)
+      pub super_there : u < super_blocks (h_of w)
+      super_there = super_of_lem
 
       pub super_fits : (blocks elements : ℕ) → blocks ≡ sizes.blocks u → elements ≡ block_elements (h_of w) u
           → (blocks * elements ≤ 2 ^ 63) × (slot + blocks * elements ≤ 2 ^ 63 + 255)
@@ -165,12 +164,12 @@ module _ {w : Setting} where
         pub super_absent : {blocks elements : ℕ} → blocks ≡ sizes.blocks u → elements ≡ block_elements (h_of w) u → EnteredSuper (a_of w) u (Ok None)
             → InSupers w total (slot + blocks * elements) (u + 1)
         super_absent b e x =
-            rw (b, e) (record { fixed = i.fixed; upto = omega arith; state = super_skip _ _ _ _ _ _ _ _ _ i.state lt open_here x })
+            rw (b, e) (record { fixed = i.fixed; upto = omega arith; state = super_skip _ _ _ _ _ _ _ _ i.state lt open_here x })
 
         pub super_ends : (x : Refusal) → EnteredSuper (a_of w) u (Err x) → Ends w (Err x)
-        super_ends x e = super_refused _ _ _ _ _ _ _ _ _ i.state lt open_here x e
+        super_ends x e = super_refused _ _ _ _ _ _ _ _ i.state lt open_here x e
 
-        pub blocks-first : {blocks elements super : ℕ} → blocks ≡ sizes.blocks u → elements ≡ block_elements (h_of w) u → EnteredSuper (a_of w) u (Ok (Some super))
+        pub blocks-first : {blocks elements : ℕ} {super : Option ℕ} → blocks ≡ sizes.blocks u → elements ≡ block_elements (h_of w) u → EnteredSuper (a_of w) u (Ok (Some super))
             → InBlocks w u blocks elements super total slot None 0
         blocks-first b e x = record {
           fixed = i.fixed;
@@ -178,17 +177,26 @@ module _ {w : Setting} where
           blocks_are = b;
           elements_are = e;
           upto = omega arith;
-          state = super_in _ _ _ _ _ _ _ _ _ i.state lt open_here _ x;
+          state = super_in _ _ _ _ _ _ _ _ i.state lt open_here _ x;
           ahead_is = tt;
         }
 
   -- at a data block
-  module _ {u blocks elements super total slot : ℕ} {ahead : Option Ahead} {k : ℕ} (i : InBlocks w u blocks elements super total slot ahead k) where
+  module _ {u blocks elements : ℕ} {super : Option ℕ} {total slot : ℕ} {ahead : Option Ahead} {k : ℕ} (i : InBlocks w u blocks elements super total slot ahead k) where
     super_block_at_lem : u < super_blocks (h_of w)
     super_block_at_lem = let e = i.fixed.walk.supers in let l = i.super_lt in omega arith
 
-    pub super_here : (u < super_blocks (h_of w)) × Served (h_of w)
-    super_here = (super_block_at_lem, served i.fixed)
+    pub super_here : u < super_blocks (h_of w)
+    super_here = super_block_at_lem
+
+    pub row_direct : ForNone super (u < direct_super_blocks (h_of w))
+    row_direct = entered_direct (a_of w) u super i.state.entered
+
+    pub paged_super : in_pages (h_of w) u ≡ true → is_some super ≡ true
+    paged_super q = paged_named (a_of w) u super i.state.entered q
+
+    pub row_inside : ForSome super (λ (at : ℕ). (direct_super_blocks (h_of w) ≤ u) × (at + super_extent (h_of w) (a_of w).offset_size u ≤ length w.array.file.now))
+    row_inside = entered_super_room (a_of w) u super i.state.entered
 
     -- behind the last one
     pub supers_next : blocks ≤ k → InSupers w total slot (u + 1)
@@ -197,22 +205,17 @@ module _ {w : Setting} where
         let l = i.upto in
         let z : k ≡ sizes.blocks u = omega arith in
         let m = i.super_lt in
-        record { fixed = i.fixed; upto = omega arith; state = blocks_done _ _ _ _ _ _ _ _ _ _ _ i.state z }
+        record { fixed = i.fixed; upto = omega arith; state = blocks_done _ _ _ _ _ _ _ _ _ _ i.state z }
 
     module _ (lt : k < blocks) where
       abbrev block_of : k < sizes.blocks u
       block_of = let b = i.blocks_are in omega arith
 
-      pub block_pointed : PointerInFile w.file w.array u k super
-      block_pointed = record {
-        super = super_block_at_lem;
-        block = block_of;
-        index = i.fixed.walk.index;
-        inside = λ le. entered_super_room (a_of w) u super i.state.entered le;
-      }
+      pub block_there_lem : k < sizes.blocks u
+      block_there_lem = block_of
 
       pub block_found : (found : Outcome (Option ℕ)) (next : Option Ahead)
-          → ((is_direct (a_of w) u ≡ false → super ≡ super_block_at (a_of w) u) → TestedAhead (a_of w) (data_block u) ahead → EnteredBlock (a_of w) u k found × TestedAhead (a_of w) (data_block u) next)
+          → (NamedAt (a_of w) u super → TestedAhead (a_of w) (data_block u) ahead → EnteredBlock (a_of w) u k found × TestedAhead (a_of w) (data_block u) next)
           → EnteredBlock (a_of w) u k found × TestedAhead (a_of w) (data_block u) next
       block_found found next e = e (entered_at (a_of w) u super i.state.entered) i.ahead_is
 
@@ -227,7 +230,7 @@ module _ {w : Setting} where
       direct_ends d le =
           let c = i.fixed.counts in
           let e = i.fixed.direct_ones in
-          block_ended _ _ _ _ _ _ _ _ _ _ _ i.state block_of (omega arith) (omega arith)
+          block_ended _ _ _ _ _ _ _ _ _ _ i.state block_of (omega arith) (omega arith)
 
       -- behind it, whichever way
       pub blocks_next : {total' n : ℕ} {next : Option Ahead} → total' ≡ n → Behind w n slot u super k → TestedAhead (a_of w) (data_block u) next
@@ -238,7 +241,7 @@ module _ {w : Setting} where
         blocks_are = i.blocks_are;
         elements_are = refl;
         upto = omega arith;
-        state = block-behind _ _ _ _ _ _ _ _ _ _ _ b;
+        state = block-behind _ _ _ _ _ _ _ _ _ _ b;
         ahead_is = t;
       })
 
@@ -250,10 +253,10 @@ module _ {w : Setting} where
             ⊎_elim (λ q. let y = q.1 in let z = q.0 in ((λ d. omega arith), inl (omega arith))) (λ q. ((λ d. absurd (omega arith)), inr (omega arith))) o
 
         pub block_absent : EnteredBlock (a_of w) u k (Ok None) → Behind w total slot u super k
-        block_absent e = block_skip _ _ _ _ _ _ _ _ _ _ _ i.state block_of opens.0 opens.1 e
+        block_absent e = block_skip _ _ _ _ _ _ _ _ _ _ i.state block_of opens.0 opens.1 e
 
         pub block_ends : (x : Refusal) → EnteredBlock (a_of w) u k (Err x) → Ends w (Err x)
-        block_ends x e = block_refused _ _ _ _ _ _ _ _ _ _ _ i.state block_of opens.0 opens.1 x e
+        block_ends x e = block_refused _ _ _ _ _ _ _ _ _ _ i.state block_of opens.0 opens.1 x e
 
         module _ {at : ℕ} (e : EnteredBlock (a_of w) u k (Ok (Some at))) where
           pub pages-first : {pages : ℕ} → in_pages (h_of w) u ≡ true → pages ≡ sizes.pages (h_of w) u → InPages w u blocks elements super k at pages slot total slot None 0
@@ -266,19 +269,22 @@ module _ {w : Setting} where
             pages_are = n;
             paged = q;
             upto = omega arith;
-            state = block-pages _ _ _ _ _ _ _ _ _ _ _ i.state block_of opens.0 opens.1 _ e q;
+            state = block-pages _ _ _ _ _ _ _ _ _ _ i.state block_of opens.0 opens.1 _ e q;
             ahead_is = tt;
           }
 
+          pub pages_inside : in_pages (h_of w) u ≡ true → at ≤ length w.array.file.now
+          pages_inside q = let r = entered_head_room (a_of w) u at k e q in omega arith
+
           -- read unpaged, from `in_block` bytes behind its begin on
           module _ (q : in_pages (h_of w) u ≡ false) {in_block : ℕ} (p : in_block ≡ block_element_at (h_of w) (a_of w).offset_size 0) where
-            unpaged_inside : at + in_block + elements * element_stride (h_of w) (a_of w).offset_size ≤ length w.file
-            unpaged_inside = rw (p, i.elements_are) (unpaged_room (h_of w) (a_of w).offset_size at (block_elements (h_of w) u) (length w.file) (entered_block_room (a_of w) u at k e q))
+            unpaged_inside : at + in_block + elements * element_stride (h_of w) (a_of w).offset_size ≤ length w.array.file.now
+            unpaged_inside = rw (p, i.elements_are) (unpaged_room (h_of w) (a_of w).offset_size at (block_elements (h_of w) u) (length w.array.file.now) (entered_block_room (a_of w) u at k e q))
 
             pub unpaged_begins : at + in_block < 2 ^ 63
             unpaged_begins = let n = unpaged_inside in let l = i.fixed.small in omega arith
 
-            pub unpaged_run : (at + in_block) + elements * stride w.reader.form ≤ length w.file
+            pub unpaged_run : (at + in_block) + elements * stride w.reader.form ≤ length w.array.file.now
             unpaged_run = run_in_file i.fixed _ _ unpaged_inside
 
             begins : at + in_block ≡ block_at (a_of w) u k + block_element_at (h_of w) (a_of w).offset_size 0
@@ -288,7 +294,7 @@ module _ {w : Setting} where
             counted x c = subst (λ (n : ℕ). Run w (at + in_block) n slot x) i.elements_are c
 
             pub unpaged_ends : (x : Refusal) → Run w (at + in_block) elements slot (Err x) → Ends w (Err x)
-            unpaged_ends x c = block_run_refused _ _ _ _ _ _ _ _ _ _ _ i.state block_of opens.0 opens.1 _ e q _ begins x (counted (Err x) c)
+            unpaged_ends x c = block_run_refused _ _ _ _ _ _ _ _ _ _ i.state block_of opens.0 opens.1 _ e q _ begins x (counted (Err x) c)
 
             module _ {m : ℕ} (c : Run w (at + in_block) elements slot (Ok m)) where
               pub unpaged_fits : total + m ≤ 2 ^ 63 + 255
@@ -300,10 +306,10 @@ module _ {w : Setting} where
 
               pub unpaged_behind : Behind w (total + m) slot u super k
               unpaged_behind =
-                  block_run _ _ _ _ _ _ _ _ _ _ _ i.state block_of opens.0 opens.1 _ e q _ begins m (run_few i.fixed _ _ _ m (counted (Ok m) c)) (counted (Ok m) c)
+                  block_run _ _ _ _ _ _ _ _ _ _ i.state block_of opens.0 opens.1 _ e q _ begins m (run_few i.fixed _ _ _ m (counted (Ok m) c)) (counted (Ok m) c)
 
   -- at a page
-  module _ {u blocks elements super k at pages slot total from : ℕ} {ahead : Option Ahead} {p : ℕ}
+  module _ {u blocks elements : ℕ} {super : Option ℕ} {k at pages slot total from : ℕ} {ahead : Option Ahead} {p : ℕ}
       (i : InPages w u blocks elements super k at pages slot total from ahead p) where
     super_in_pages : u < super_blocks (h_of w)
     super_in_pages = let e = i.fixed.walk.supers in let l = i.super_lt in omega arith
@@ -318,30 +324,19 @@ module _ {w : Setting} where
     pages-behind le =
         let n = i.pages_are in
         let l = i.upto in
-        pages_done _ _ _ _ _ _ _ _ _ _ _ _ _ _ i.state (omega arith) exact (omega arith)
+        pages_done _ _ _ _ _ _ _ _ _ _ _ _ _ i.state (omega arith) exact (omega arith)
 
     module _ (lt : p < pages) where
       abbrev page_of_lem : p < sizes.pages (h_of w) u
       page_of_lem = let n = i.pages_are in omega arith
 
-      pub page_pointed : PageBitInFile w.file w.array super u k p × (at ≤ length w.file)
-      page_pointed =
-          let room = entered_head_room (a_of w) u at k i.state.inside i.paged in (
-            record {
-              super = super_in_pages;
-              block = block_there;
-              page = page_of_lem;
-              bounded = i.fixed.walk.index.bounded;
-              paged = i.paged;
-              inside = entered_super_room (a_of w) u super i.state.entered (paged_behind (h_of w) u i.paged);
-            },
-            omega arith,
-          )
+      pub page_there : p < sizes.pages (h_of w) u
+      page_there = page_of_lem
 
-      pub page_found : (found : Outcome (Option ℕ)) (next : Option Ahead)
-          → (super ≡ super_block_at (a_of w) u → at ≡ block_at (a_of w) u k → TestedAhead (a_of w) (data_page u k) ahead → EnteredPage (a_of w) u k p found × TestedAhead (a_of w) (data_page u k) next)
+      pub page_found : {super_at : ℕ} → super ≡ Some super_at → (found : Outcome (Option ℕ)) (next : Option Ahead)
+          → (super_at ≡ super_block_at (a_of w) u → at ≡ block_at (a_of w) u k → TestedAhead (a_of w) (data_page u k) ahead → EnteredPage (a_of w) u k p found × TestedAhead (a_of w) (data_page u k) next)
           → EnteredPage (a_of w) u k p found × TestedAhead (a_of w) (data_page u k) next
-      page_found found next e = e (entered_at (a_of w) u super i.state.entered (not_direct (a_of w) u (paged_behind (h_of w) u i.paged))) i.state.inside.2 i.ahead_is
+      page_found s found next e = e (entered_at (a_of w) u super i.state.entered _ s) i.state.inside.2 i.ahead_is
 
       pub page_fits : from + w.page ≤ 2 ^ 63 + 255
       page_fits =
@@ -370,20 +365,20 @@ module _ {w : Setting} where
 
       pub pages_clear : {next : Option Ahead} → EnteredPage (a_of w) u k p (Ok None) → TestedAhead (a_of w) (data_page u k) next
           → InPages w u blocks elements super k at pages slot total (from + w.page) next (p + 1)
-      pages_clear e t = next_page_lem (page_skip _ _ _ _ _ _ _ _ _ _ _ _ _ _ i.state page_of_lem e) t
+      pages_clear e t = next_page_lem (page_skip _ _ _ _ _ _ _ _ _ _ _ _ _ i.state page_of_lem e) t
 
       pub page_ends_walk : (x : Refusal) → EnteredPage (a_of w) u k p (Err x) → Ends w (Err x)
-      page_ends_walk x e = page_refused _ _ _ _ _ _ _ _ _ _ _ _ _ _ i.state page_of_lem x e
+      page_ends_walk x e = page_refused _ _ _ _ _ _ _ _ _ _ _ _ _ i.state page_of_lem x e
 
       module _ {pos : ℕ} (e : EnteredPage (a_of w) u k p (Ok (Some pos))) where
-        pub page_run : pos + w.page * stride w.reader.form ≤ length w.file
+        pub page_run : pos + w.page * stride w.reader.form ≤ length w.array.file.now
         page_run = run_in_file i.fixed pos w.page (rw i.fixed.page_size (entered_page_room (a_of w) u pos k p e))
 
         counted_page : (x : Outcome ℕ) → Run w pos w.page from x → Run w pos (page_elements (h_of w)) from x
         counted_page x c = subst (λ (n : ℕ). Run w pos n from x) i.fixed.page_size c
 
         pub page_run_ends : (x : Refusal) → Run w pos w.page from (Err x) → Ends w (Err x)
-        page_run_ends x c = page_run_refused _ _ _ _ _ _ _ _ _ _ _ _ _ _ i.state page_of_lem pos e x (counted_page (Err x) c)
+        page_run_ends x c = page_run_refused _ _ _ _ _ _ _ _ _ _ _ _ _ i.state page_of_lem pos e x (counted_page (Err x) c)
 
         module _ {m : ℕ} (c : Run w pos w.page from (Ok m)) where
           few : m ≤ page_elements (h_of w)
@@ -402,11 +397,11 @@ module _ {w : Setting} where
           page_last past =
               let y = i.fixed.page_size in
               let d = i.fixed.counts in
-              page_run_last _ _ _ _ _ _ _ _ _ _ _ _ _ _ i.state page_of_lem pos e m few (counted_page (Ok m) c) (omega arith) exact
+              page_run_last _ _ _ _ _ _ _ _ _ _ _ _ _ i.state page_of_lem pos e m few (counted_page (Ok m) c) (omega arith) exact
 
           pub pages_on : {next : Option Ahead} → from + w.page ≤ w.count → TestedAhead (a_of w) (data_page u k) next
               → InPages w u blocks elements super k at pages slot (total + m) (from + w.page) next (p + 1)
           pages_on le t =
               let y = i.fixed.page_size in
               let d = i.fixed.counts in
-              next_page_lem (page_run_on _ _ _ _ _ _ _ _ _ _ _ _ _ _ i.state page_of_lem pos e m few (counted_page (Ok m) c) (omega arith)) t
+              next_page_lem (page_run_on _ _ _ _ _ _ _ _ _ _ _ _ _ i.state page_of_lem pos e m few (counted_page (Ok m) c) (omega arith)) t

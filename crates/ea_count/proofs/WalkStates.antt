@@ -2,51 +2,50 @@
 use Prim.Native.Nat.{ℕ, ◌+◌, ◌-◌, ◌*◌, ◌^◌, ◌<◌, ◌≤◌}
 use mathlib.Core.Path.{◌≡◌, refl, sym, ap, subst, ◌∙◌}
 use mathlib.Core.Bool.{true, false, ◌&&◌}
-use mathlib.Core.List.{List, []}
+use mathlib.Core.List.{[]}
 use mathlib.Core.Logic.{◌⊎◌, ⊎_elim}
 use native.Mathlib.Omega.{arith}
 use native.Mathlib.Nat.{mul-le-mul_right}
-use borrow.Author.Tests.{leb-true}
 use lib.Dec.{leb}
-use Rattle.std.specs.Prelude.{Err, None, Ok, Some}
+use Rattle.std.specs.Prelude.{Err, None, Ok, Option, Some}
 use Rattle.refusal.specs.Refusals.{Outcome}
 use Rattle.refusal.specs.declared.Refusal.{Refusal}
 use Rattle.refusal.specs.Values.{plus, counted_of}
-use Rattle.refusal.proofs.Tests.{lt_or_ge, both}
-use Rattle.refusal.proofs.Counts.{plus_none, counted_inv}
+use Rattle.refusal.proofs.Tests.{lt_or_ge}
+use Rattle.refusal.proofs.Counts.{plus_none}
 use Rattle.index.specs.Index.{Listing}
 use Rattle.elements.specs.declared.ElementReader.{ElementReader}
 use Rattle.elements.specs.Elements.{Elements}
 use Rattle.elements.specs.Runs.{elements_from, pages_from}
 use Rattle.elements.specs.Values.{elements_of}
-use Rattle.elements.proofs.Runs.{run_count, run_refused, run_length}
+use Rattle.elements.proofs.Runs.{run_count, run_refused}
 use Rattle.elements.proofs.Pages as page_turns
 use Rattle.ea_header.specs.declared.Parameters.{Parameters}
 use Rattle.ea_header.specs.Values.{Served}
-use Rattle.ea_geometry.specs.Sizes.{super_blocks, blocks, block_elements, direct_super_blocks, over_page, page_elements, pages}
+use Rattle.ea_geometry.specs.Sizes.{super_blocks, blocks, block_elements, direct_super_blocks, page_elements, pages}
 use Rattle.ea_geometry.specs.Extents.{element_stride, element_at, block_element_at}
 use Rattle.ea_geometry.specs.Place.{in_pages}
 use Rattle.ea_geometry.specs.Slots.{first_slot}
 use Rattle.ea_geometry.proofs.Counts.{elements_before_few, pages-exact}
 use Rattle.ea_geometry.proofs.Places.{in_pages_over, next_slot}
-use Rattle.ea_blocks.specs.declared.ExtensibleArray.{ExtensibleArray}
+use Rattle.ea_blocks.specs.declared.BoundedArray.{BoundedArray}
 use Rattle.ea_blocks.specs.Array.{Array}
-use Rattle.ea_blocks.specs.Values.{array_of}
+use Rattle.ea_blocks.specs.Values.{array_in}
 use Rattle.ea_blocks.specs.Structures.{pages_of, is_direct, block_at}
 use Rattle.ea_blocks.specs.Entered.{EnteredSuper, EnteredBlock, EnteredPage}
 use Rattle.ea_blocks.proofs.StructureTests.{is_direct_lem, not_direct}
 use Rattle.ea_walk.specs.Walk.{blocks_from, supers_from}
 use Rattle.ea_walk.proofs.Turns as turns
 
-module _ (f : List ℕ) (array : ExtensibleArray) (r : ElementReader) (first begin end : ℕ) where
+module _ (array : BoundedArray) (r : ElementReader) (first begin end : ℕ) where
   abbrev h : Parameters
-  h = array.geometry.parameters
+  h = array.extents.sizes.parameters
 
   abbrev a : Array
-  a = array_of f array
+  a = array_in array
 
   abbrev es : Elements
-  es = elements_of f r
+  es = elements_of array.file.now r
 
   -- the whole
   abbrev whole : Outcome ℕ
@@ -78,14 +77,14 @@ module _ (f : List ℕ) (array : ExtensibleArray) (r : ElementReader) (first beg
     pub rest : Left total (supers_from a es (end - u) u slot (Ok []))
 
   -- at its data block k
-  pub record AtBlock (total slot u super k : ℕ) : Type 0 where
+  pub record AtBlock (total slot u : ℕ) (super : Option ℕ) (k : ℕ) : Type 0 where
     pub few : total ≤ slot
     pub at : slot ≡ first_slot h u + k * block_elements h u
     pub entered : EnteredSuper a u (Ok (Some super))
     pub rest : Left total (blocks_from a es u (blocks u - k) k slot (behind_super u))
 
   -- at page p of it, which begins at slot `from`
-  pub record AtPage (total from slot u super k block p : ℕ) : Type 0 where
+  pub record AtPage (total from slot u : ℕ) (super : Option ℕ) (k block p : ℕ) : Type 0 where
     pub few : total ≤ from
     pub at : from ≡ slot + p * page_elements h
     pub begins : slot ≡ first_slot h u + k * block_elements h u
@@ -94,7 +93,7 @@ module _ (f : List ℕ) (array : ExtensibleArray) (r : ElementReader) (first beg
     pub rest : Left total (pages_from es (pages_of a u k) (pages h u - p) p from (behind_block u k))
 
   -- behind data block k
-  pub record BehindBlock (total slot u super k : ℕ) : Type 0 where
+  pub record BehindBlock (total slot u : ℕ) (super : Option ℕ) (k : ℕ) : Type 0 where
     pub few : total ≤ slot + block_elements h u
     pub at : slot ≡ first_slot h u + k * block_elements h u
     pub entered : EnteredSuper a u (Ok (Some super))
@@ -126,7 +125,7 @@ module _ (f : List ℕ) (array : ExtensibleArray) (r : ElementReader) (first beg
       super_refused x e =
           ap (plus total) (sym (turns.supers_refused a es end u slot (Ok []) lt b e.0 e.1 x e.2)) ∙ s.rest
 
-      pub super_in : (super : ℕ) → EnteredSuper a u (Ok (Some super)) → AtBlock total slot u super 0
+      pub super_in : (super : Option ℕ) → EnteredSuper a u (Ok (Some super)) → AtBlock total slot u super 0
       super_in super e = record {
         few = s.few;
         at = let x = s.at in omega arith;
@@ -138,12 +137,16 @@ module _ (f : List ℕ) (array : ExtensibleArray) (r : ElementReader) (first beg
         where
           into : supers_from a es (end - u) u slot (Ok [])
               ≡ blocks_from a es u (blocks u - 0) 0 slot (supers_from a es (end - (u + 1)) (u + 1) (slot + blocks u * block_elements h u) (Ok []))
-          into =
-              ⊎_elim (λ (d : (is_direct a u ≡ true) × (super ≡ 0)). turns.supers_direct a es end u slot (Ok []) lt b d.0)
-              (λ d. turns.supers_tested a es end u slot (Ok []) lt b d.0 d.1 d.2) e
+          into = at_entered super e
+            where
+              at_entered : (o : Option ℕ) → EnteredSuper a u (Ok (Some o))
+                  → supers_from a es (end - u) u slot (Ok [])
+                  ≡ blocks_from a es u (blocks u - 0) 0 slot (supers_from a es (end - (u + 1)) (u + 1) (slot + blocks u * block_elements h u) (Ok []))
+              at_entered None d = turns.supers_direct a es end u slot (Ok []) lt b d
+              at_entered (Some at) d = turns.supers_tested a es end u slot (Ok []) lt b d.0 d.1 d.2
 
   -- behind the last data block
-  pub blocks_done : (total slot u super k : ℕ) → AtBlock total slot u super k → k ≡ blocks u → AtSuper total slot (u + 1)
+  pub blocks_done : (total slot u : ℕ) (super : Option ℕ) (k : ℕ) → AtBlock total slot u super k → k ≡ blocks u → AtSuper total slot (u + 1)
   blocks_done total slot u super k s e =
       let last : slot ≡ first_slot h (u + 1) = s.at ∙ ap (λ (x : ℕ). first_slot h u + x * block_elements h u) e ∙ next_slot h u in
       record {
@@ -155,7 +158,7 @@ module _ (f : List ℕ) (array : ExtensibleArray) (r : ElementReader) (first beg
       }
 
   -- behind data block k comes the next
-  pub block-behind : (total slot u super k : ℕ) → BehindBlock total slot u super k → AtBlock total (slot + block_elements h u) u super (k + 1)
+  pub block-behind : (total slot u : ℕ) (super : Option ℕ) (k : ℕ) → BehindBlock total slot u super k → AtBlock total (slot + block_elements h u) u super (k + 1)
   block-behind total slot u super k s = record {
     few = s.few;
     at = next s.at;
@@ -167,7 +170,7 @@ module _ (f : List ℕ) (array : ExtensibleArray) (r : ElementReader) (first beg
       next : slot ≡ first_slot h u + k * block_elements h u → slot + block_elements h u ≡ first_slot h u + (k + 1) * block_elements h u
       next e = omega arith
 
-  module _ (total slot u super k : ℕ) (s : AtBlock total slot u super k) (lt : k < blocks u) where
+  module _ (total slot u : ℕ) (super : Option ℕ) (k : ℕ) (s : AtBlock total slot u super k) (lt : k < blocks u) where
     -- what is left behind this block, as the turn's law has it
     behind_is : blocks_from a es u (blocks u - (k + 1)) (k + 1) (slot + block_elements h u) (behind_super u) ≡ behind_block u k
     behind_is =
@@ -244,7 +247,7 @@ module _ (f : List ℕ) (array : ExtensibleArray) (r : ElementReader) (first beg
               ∙ s.rest;
         }
 
-  module _ (total from slot u super k block p : ℕ) (s : AtPage total from slot u super k block p) where
+  module _ (total from slot u : ℕ) (super : Option ℕ) (k block p : ℕ) (s : AtPage total from slot u super k block p) where
     -- behind the last page
     pub pages_done : pages h u ≤ p → pages h u * page_elements h ≡ block_elements h u → p ≤ pages h u → BehindBlock total slot u super k
     pages_done le exact ge =
@@ -341,10 +344,6 @@ block_few h v small u k lt hk =
     let m = mul-le-mul_right {m = k + 1} {n = blocks u} (block_elements h u) (omega arith) in
     omega arith
 
--- a run counts no more records than it has elements
-pub count_few : (es : Elements) (pos j s m : ℕ) → Ok m ≡ counted_of (elements_from es pos j s (Ok [])) → m ≤ j
-count_few es pos j s m e = let i = counted_inv _ m e in let n = run_length es pos j s i.0 i.1 in omega (arith, i.2)
-
 -- a page of a paged block ends in the block
 pub page_ends : (h : Parameters) (v : Served h) (u p slot from : ℕ) → u < super_blocks h → in_pages h u ≡ true → p < pages h u → from ≡ slot + p * page_elements h
     → from + page_elements h ≤ slot + block_elements h u
@@ -352,10 +351,6 @@ page_ends h v u p slot from lt q hp e =
     let x = pages-exact h v u lt (in_pages_over h u q) in
     let m = mul-le-mul_right {m = p + 1} {n = pages h u} (page_elements h) (omega arith) in
     omega arith
-
-pub paged_behind : (h : Parameters) (u : ℕ) → in_pages h u ≡ true → direct_super_blocks h ≤ u
-unfolding in_pages
-paged_behind h u q = leb-true _ _ (both (leb (direct_super_blocks h) u) (over_page h u) q).0
 
 -- the elements of an unpaged block, from the first on
 pub unpaged_room : (h : Parameters) (o at n m : ℕ) → at + block_element_at h o n ≤ m → at + block_element_at h o 0 + n * element_stride h o ≤ m

@@ -26,15 +26,15 @@ pub fn count_walk(
     ensures { result ≡ counted_of (walk (array_of file.now array) (elements_of file.now reader.now)) }
 {
     test_array(file, array)?;
-    let geometry = array.geometry;
-    if !is_width(geometry.offset_size) {
+    if !is_width(array.geometry.offset_size) {
         return count_unreadable(array, reader);
     }
-    let pos = array.index_at + geometry.inline_element_at(0);
-    let inline = geometry.parameters.idx_blk_elmts as u64;
+    let pointed = array.in_file(file);
+    let extents = pointed.array.extents;
+    let pos = array.index_at + extents.inline_element_at(0);
+    let inline = array.geometry.parameters.idx_blk_elmts as u64;
     let n = count_elements(file, pos, inline, 0, reader)?;
-    let supers = geometry.super_blocks();
-    count_blocks(file, array, reader, n, 0, supers)
+    count_blocks(pointed, reader, n, 0, extents.sizes.super_blocks())
 }
 
 // What is behind the index block's test where the offset size isn't a width: the refusal of the first element, or of

@@ -1,6 +1,6 @@
 -- How many super blocks, data blocks, elements and pages there are: closed forms, and bounds for every served header.
 -- Assumes nothing.
-use Prim.Native.Nat.{ℕ, zero, suc, ◌+◌, ◌-◌, ◌*◌, ◌/◌, ◌^◌, ◌<◌, ◌≤◌}
+use Prim.Native.Nat.{ℕ, min, zero, suc, ◌+◌, ◌-◌, ◌*◌, ◌/◌, ◌%◌, ◌^◌, ◌<◌, ◌≤◌}
 use mathlib.Core.Path.{◌≡◌, refl, sym, ap, subst, ◌∙◌}
 use mathlib.Core.Bool.{true}
 use native.Mathlib.Omega.{arith}
@@ -15,6 +15,10 @@ use Rattle.ea_header.proofs.Log.{exponent_lt}
 use Rattle.ea_header.proofs.Served.{log_small}
 use Rattle.ea_geometry.specs.Sizes.{super_blocks, blocks, block_elements, direct_super_blocks, blocks_before, direct_pointers, elements_before, page_elements, over_page, pages, bitmap_bytes}
 use Rattle.structures.specs.PageBits.{bit_bytes}
+
+-- what is left of n, before and after a turn of a loop
+pub less : (n i : ℕ) → i < n → n - i ≡ suc (n - (i + 1))
+less n i h = omega arith
 
 pub next_power : (u : ℕ) → 2 ^ (u + 1) ≡ 2 * 2 ^ u
 next_power u = pow-add 2 u 1 ∙ mul_comm (2 ^ u) 2
@@ -171,3 +175,8 @@ module _ (h : Parameters) (v : Served h) where
         let s : x - g + g ≡ x = omega arith in
         let q : block_elements h u ≡ 2 ^ (x - g) * 2 ^ g = e ∙ ap (λ (k : ℕ). 2 ^ k) (sym s) ∙ pow-add 2 (x - g) g in
         rw (q, shl-shr (2 ^ (x - g)) g) refl
+
+-- bits in whole bytes, as the library rounds up
+pub bytes_up : (n : ℕ) → n / 8 + min 1 (n % 8) ≡ bit_bytes n
+unfolding bit_bytes
+bytes_up n = omega arith

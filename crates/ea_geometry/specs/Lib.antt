@@ -1,4 +1,3 @@
-pub mod Bounded
 pub mod Extents
 pub mod Place
 pub mod Sizes

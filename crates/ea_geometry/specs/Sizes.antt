@@ -55,3 +55,7 @@ bitmap_bytes h u = cond (over_page h u) (blocks u * bit_bytes (pages h u)) 0
 -- Page p of data block k of super block u has bit number b = k × pages + p.
 unfoldable pub bit_number : Parameters → ℕ → ℕ → ℕ → ℕ
 bit_number h u k p = k * pages h u + p
+
+-- No data block of served parameters has more elements than this.
+abbrev pub most_elements : ℕ
+most_elements = 2 ^ 35

@@ -2,14 +2,16 @@
 // The geometry of an extensible array: how many super blocks, data blocks, elements and pages it has, how many bytes
 // each structure takes, where its parts lie, and the place of a slot.
 ghost use Rattle.std.specs.Prelude.{◌≡◌};
+ghost use Rattle.ea_geometry.specs.Extents.{form_of, element_stride};
 
 use ea_header::{ExtensibleArrayHeader, Parameters};
+use element_form::Form;
 
-mod extents;
-mod sizes;
+pub mod extents;
+pub mod sizes;
 mod slots;
 
-// All that sizes and positions follow from.
+// All that sizes and positions follow from, as a header gives it: nothing of it is tested.
 #[derive(Clone, Copy)]
 pub struct EaGeometry {
     pub parameters: Parameters,
@@ -17,7 +19,7 @@ pub struct EaGeometry {
 }
 
 // Where a slot's element lies.
-#[derive(Clone, Copy)]
+#[derive(Clone, Copy, PartialEq, Eq)]
 pub enum Place {
     // This element of the index block.
     Inline(u64),
@@ -48,5 +50,23 @@ impl EaGeometry {
             parameters,
             offset_size,
         }
+    }
+
+    // The form of the array's elements.
+    pub fn form(self) -> Form
+        ensures { result ≡ form_of self.parameters self.offset_size }
+    {
+        Form {
+            client_id: self.parameters.client_id,
+            element_size: self.parameters.element_size,
+            offset_size: self.offset_size,
+        }
+    }
+
+    // The bytes of an element.
+    pub fn element_stride(self) -> u64
+        ensures { result ≡ element_stride self.parameters self.offset_size }
+    {
+        self.form().stride()
     }
 }

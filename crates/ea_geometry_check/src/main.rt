@@ -2,28 +2,21 @@
 // Compares the place of slots with a plain walk through the super blocks, for every served combination of least block
 // elements, max bits and page exponent; then prints sizes, places and page bits of a worked array.
 ghost use Rattle.std.specs.Prelude.{◌≡◌};
-ghost use Rattle.ea_header.specs.Values.{Served};
 
+use ea_geometry::sizes::Sizes;
 use ea_geometry::{EaGeometry, Place};
 use ea_header::Parameters;
 use std::io;
 use structures::page_bits::page_is_initialized;
 
 // How many places were compared, and how many of them differ.
-#[derive(Clone, Copy)]
+#[derive(Clone, Copy, Default)]
 struct Tally {
     compared: u64,
     wrong: u64,
 }
 
 impl Tally {
-    fn none() -> Self {
-        Self {
-            compared: 0,
-            wrong: 0,
-        }
-    }
-
     fn with(self, same: bool) -> Self {
         let compared = self.compared.wrapping_add(1);
         if same {
@@ -86,65 +79,45 @@ struct Array {
 }
 
 impl Array {
-    // Whether a place is that of element i of data block k of a super block, and its bit that one: none past the last
-    // super block.
-    fn agrees(self, at: Reached, p: Place, k: u64, i: u64, bit: u64) -> bool {
-        let super_block = at.super_block;
-        let paged = self.direct <= super_block && self.page < at.elements;
-        match p {
-            Place::Inline(_) => false,
-            Place::Block {
-                super_block: u,
-                block,
-                element,
-            } => {
-                !paged
-                    && super_block < self.supers
-                    && u == super_block
-                    && block == k
-                    && element == i
-            }
-            Place::Page {
-                super_block: u,
-                block,
-                element,
-                page,
-                bit: b,
-            } => {
-                paged
-                    && super_block < self.supers
-                    && u == super_block
-                    && block == k
-                    && element == i
-                    && page == quotient(i, self.page)
-                    && b == bit
-            }
-            Place::Nowhere => super_block == self.supers,
+    // The place of element i of data block k of a super block, and its bit is that one: none past the last super block.
+    fn place(self, at: Reached, k: u64, i: u64, bit: u64) -> Place {
+        if self.supers <= at.super_block {
+            return Place::Nowhere;
+        }
+        if self.direct <= at.super_block && self.page < at.elements {
+            return Place::Page {
+                super_block: at.super_block,
+                block: k,
+                element: i,
+                page: quotient(i, self.page),
+                bit,
+            };
+        }
+        Place::Block {
+            super_block: at.super_block,
+            block: k,
+            element: i,
         }
     }
 
     // The first, the last and the one-past slot of a super block.
-    fn compare(self, g: EaGeometry, at: Reached) -> Tally
-        requires { Served g.parameters }
-    {
+    fn compare(self, sizes: Sizes, at: Reached) -> Tally {
         let last = at.first.wrapping_add(at.slots).wrapping_sub(1);
         let blocks = at.blocks.wrapping_sub(1);
         let elements = at.elements.wrapping_sub(1);
         let bits = quotient(at.slots, self.page).wrapping_sub(1);
         let past = at.next();
-        let one = self.agrees(at, g.place_of(at.first), 0, 0, 0);
-        let two = self.agrees(at, g.place_of(last), blocks, elements, bits);
-        let three = self.agrees(past, g.place_of(past.first), 0, 0, 0);
-        Tally::none().with(one).with(two).with(three)
+        Tally::default()
+            .with(sizes.place_of(at.first) == self.place(at, 0, 0, 0))
+            .with(sizes.place_of(last) == self.place(at, blocks, elements, bits))
+            .with(sizes.place_of(past.first) == self.place(past, 0, 0, 0))
     }
 
-    fn compare_all(self, g: EaGeometry, start: Reached) -> Tally
-        requires { Served g.parameters }
-    {
-        let mut t = Tally::none();
+    fn compare_all(self, sizes: Sizes, start: Reached) -> Tally {
+        let mut t = Tally::default();
         let mut at = start;
         for _ in 0..self.supers {
-            t = t.plus(self.compare(g, at));
+            t = t.plus(self.compare(sizes, at));
             at = at.next();
         }
         t
@@ -156,25 +129,16 @@ fn quotient(a: u64, b: u64) -> u64 {
     a.checked_div(b).unwrap_or(0)
 }
 
-// Whether a place is inline slot s.
-fn is_inline(p: Place, s: u64) -> bool {
-    match p {
-        Place::Inline(i) => i == s,
-        _ => false,
-    }
-}
-
-fn compare_inline(g: EaGeometry) -> Tally
-    requires { Served g.parameters }
-{
-    let inline = g.parameters.idx_blk_elmts as u64;
+// The first and the last inline slot.
+fn compare_inline(sizes: Sizes) -> Tally {
+    let inline = sizes.parameters.idx_blk_elmts as u64;
     if inline == 0 {
-        return Tally::none();
+        return Tally::default();
     }
     let last = inline - 1;
-    Tally::none()
-        .with(is_inline(g.place_of(0), 0))
-        .with(is_inline(g.place_of(last), last))
+    Tally::default()
+        .with(sizes.place_of(0) == Place::Inline(0))
+        .with(sizes.place_of(last) == Place::Inline(last))
 }
 
 // 2^k, for k below 64.
@@ -203,16 +167,10 @@ fn compare_parameters(log: u8, bits: u8, page: u8, inline: u8, minimum: u8) -> T
     let least = power(log);
     let parameters = parameters_of((least % 256) as u8, bits, page, inline, minimum);
     if !parameters.is_served() {
-        return Tally::none().with(false);
+        return Tally::default().with(false);
     }
-    let g = EaGeometry {
-        parameters,
-        offset_size: 8,
-    };
-    let mut supers: u64 = 1;
-    if log <= bits {
-        supers = (bits - log) as u64 + 1;
-    }
+    let sizes = Sizes { parameters };
+    let supers = bits.saturating_sub(log) as u64 + 1;
     let array = Array {
         supers,
         direct: supers.min(minimum as u64),
@@ -225,12 +183,12 @@ fn compare_parameters(log: u8, bits: u8, page: u8, inline: u8, minimum: u8) -> T
         first: inline as u64,
         slots: least,
     };
-    compare_inline(g).plus(array.compare_all(g, start))
+    compare_inline(sizes).plus(array.compare_all(sizes, start))
 }
 
 // Every page exponent to 32, within all max bits to 62, within all least block elements to 2^7.
 fn print_comparison(rt: &impl Print, inline: u8, minimum: u8) -> io::Result<()> {
-    let mut t = Tally::none();
+    let mut t = Tally::default();
     for log in 0..8 {
         for bits in 0..63 {
             for page in 0..33 {
@@ -273,27 +231,28 @@ fn print_place(rt: &impl Print, slot: u64, p: Place) -> io::Result<()> {
 }
 
 // The array with least block elements 16, max bits 32, page exponent 10, inline 2 and minimum 4.
-fn worked(offset_size: u64) -> EaGeometry
-    ensures { Served result.parameters }
-{
-    EaGeometry {
-        parameters: parameters_of(16, 32, 10, 2, 4),
-        offset_size,
-    }
+fn worked() -> Sizes {
+    let parameters = parameters_of(16, 32, 10, 2, 4);
+    Sizes { parameters }
 }
 
 fn print_worked(rt: &impl Print, offset_size: u64) -> io::Result<()> {
-    let g = worked(offset_size);
+    let sizes = worked();
+    let parameters = sizes.parameters;
+    let geometry = EaGeometry {
+        parameters,
+        offset_size,
+    };
     println!(rt;
         "offset size {offset_size} direct {} super {} index block {}",
-        g.direct_pointers(),
-        g.super_pointers(),
-        g.index_extent()
+        sizes.direct_pointers(),
+        sizes.super_pointers(),
+        geometry.index_extent()
     )
 }
 
 fn print_worked_place(rt: &impl Print, slot: u64) -> io::Result<()> {
-    print_place(rt, slot, worked(8).place_of(slot))
+    print_place(rt, slot, worked().place_of(slot))
 }
 
 // Every bit of some page bits that begin at byte 1.

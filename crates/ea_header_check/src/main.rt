@@ -3,8 +3,8 @@
 // elements are served, and the bytes of a header.
 ghost use Rattle.std.specs.Prelude.{◌<◌};
 
+use check_lines::begin_with_refusal;
 use ea_header::{ExtensibleArrayHeader, Parameters};
-use refusal::Refusal;
 use std::io;
 use structures::header::IndexHeader;
 
@@ -33,10 +33,6 @@ fn print_served(rt: &impl Print, p: Parameters) -> io::Result<()> {
     }
 }
 
-fn print_refusal(rt: &impl Print, r: Refusal) -> io::Result<()> {
-    print!(rt; "refused {} {} {}", r.number(), r.first(), r.second())
-}
-
 fn print_parsed(
     rt: &impl Print,
     file: &[u8],
@@ -49,7 +45,7 @@ fn print_parsed(
             print_header(rt, h)?;
             print_served(rt, h.parameters)?;
         }
-        Err(r) => print_refusal(rt, r)?,
+        Err(r) => begin_with_refusal(rt, r)?,
     }
     println!(rt)
 }

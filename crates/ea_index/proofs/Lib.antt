@@ -1,3 +1,4 @@
+pub mod InBlocks
 pub mod SlotRuns
 pub mod PathEnds
 pub mod Walked

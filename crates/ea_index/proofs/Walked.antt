@@ -21,13 +21,13 @@ use Rattle.walked_index.specs.Walked.{WalkedTo}
 use Rattle.ea_geometry.specs.Extents.{form_of}
 use Rattle.ea_blocks.specs.declared.ExtensibleArray.{ExtensibleArray}
 use Rattle.ea_blocks.specs.Array.{Array}
-use Rattle.ea_blocks.specs.Values.{array_of}
+use Rattle.ea_blocks.specs.Values.{IndexInFile, array_of}
 use Rattle.ea_blocks.specs.Structures.{array_test}
 use Rattle.ea_blocks.proofs.StructureTests.{array_passed, index_in_file}
 use Rattle.ea_walk.specs.Walk.{located, from_inline, walk}
 use Rattle.ea_walk.proofs.Walks.{walk_right}
 use Rattle.ea_count.proofs.Heads.{unreadable_pointer, size_refused, unreadable_element}
-use Rattle.ea_index.specs.Values.{TestedTo}
+use Rattle.ea_index.specs.Values.{PathTested}
 
 module _ (f : List ℕ) (array : ExtensibleArray) (count s : ℕ)
     (w : WalkedTo (walk (array_of f array)) (form_of array.geometry.parameters array.geometry.offset_size) count f s) where
@@ -67,10 +67,9 @@ module _ (f : List ℕ) (array : ExtensibleArray) (count s : ℕ)
           (λ ge. absurd (not_refused _ (unreadable_pointer a e some q (omega arith))))
           (lt_or_ge 0 a.parameters.idx_blk_elmts)
 
-  pub walked_tested : TestedTo f array s
-  walked_tested =
-      let p = array_passed a passed.0 in
-      record {
-        index = index_in_file f array p.0 wide p.1;
-        tests = path-tested (located a e) s _ (right.paths s (omega arith) below);
-      }
+  -- the index block lies in the file, and the structures that lead to slot s have passed their tests
+  pub walked_index : IndexInFile f array
+  walked_index = let p = array_passed a passed.0 in index_in_file f array p.0 wide p.1
+
+  pub walked_tested : PathTested (array_of f array) s
+  walked_tested = path-tested (located a e) s _ (right.paths s (omega arith) below)

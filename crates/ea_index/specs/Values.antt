@@ -1,7 +1,6 @@
 -- What the code's values stand for: an array as an index, the runs of its slots, and where the paths to them end.
-use Rattle.std.specs.Prelude.{ℕ, ◌+◌, ◌-◌, ◌%◌, ◌≡◌, not, cond, ◌&&◌, List, Ok, Option, Some}
+use Rattle.std.specs.Prelude.{ℕ, ◌+◌, ◌-◌, ◌%◌, ◌≡◌, not, cond, ◌&&◌, Ok, Option, Some}
 use Rattle.refusal.specs.Refusals.{largest64, Outcome}
-use Rattle.fields.specs.Fields.{offset_size_test}
 use Rattle.elements.specs.Elements.{Elements}
 use Rattle.located.specs.declared.Run.{Run}
 use Rattle.located.specs.declared.Run.TheVariants.{Gap, Elements as Present}
@@ -14,9 +13,8 @@ use Rattle.ea_geometry.specs.Sizes.{block_elements, page_elements}
 use Rattle.ea_geometry.specs.Extents.{form_of}
 use Rattle.ea_geometry.specs.Place.{in_pages, place}
 use Rattle.ea_geometry.specs.Slots.{first_slot}
-use Rattle.ea_blocks.specs.declared.ExtensibleArray.{ExtensibleArray}
 use Rattle.ea_blocks.specs.Array.{Array}
-use Rattle.ea_blocks.specs.Values.{IndexInFile, array_of, headed}
+use Rattle.ea_blocks.specs.Values.{headed}
 use Rattle.ea_blocks.specs.Structures.{is_direct, super_undefined, block_undefined}
 use Rattle.ea_blocks.specs.Places.{place_test}
 use Rattle.ea_blocks.specs.Entered.{EnteredSuper, EnteredBlock}
@@ -27,11 +25,9 @@ use Rattle.ea_index.specs.declared.ArrayIndex.{ArrayIndex}
 abbrev pub indexed : ExtensibleArrayHeader → ℕ → ArrayIndex
 indexed h o = record { array = headed h o; count = h.num_elements }
 
--- The array's index block lies in the file, and the structures that lead to the place of slot s have passed their
--- tests.
-pub record TestedTo (file : List ℕ) (a : ExtensibleArray) (s : ℕ) : Type 0 where
-  pub index : IndexInFile file a
-  pub tests : place_test (array_of file a) (place a.geometry.parameters s) ≡ Ok tt
+-- The structures that lead to the place of slot s have passed their tests.
+abbrev pub PathTested : Array → ℕ → Type 0
+PathTested a s = place_test a (place a.parameters s) ≡ Ok tt
 
 -- The slots from s on are such a run, whatever elements of the array's form its file holds.
 abbrev pub RunIn : Array → ℕ → Run → Type 0
@@ -66,8 +62,7 @@ abbrev pub ArrayEnds : Array → ℕ → Outcome (Option ℕ) → Type 0
 ArrayEnds a s end = PathEnds (located a) a.file (form_of a.parameters a.offset_size) s end
 
 -- What leads to data block k of super block u and the block itself have passed their tests: the super block lies at
--- super_block_at (unless the index block names the data block), the data block at `at`.
-pub record BlockEntered (a : Array) (u k super_block_at at : ℕ) : Type 0 where
-  pub wide : offset_size_test a.offset_size ≡ Ok tt
-  pub super : EnteredSuper a u (Ok (Some super_block_at))
+-- super_at (or the index block names the data block), the data block at `at`.
+pub record BlockEntered (a : Array) (u k : ℕ) (super_at : Option ℕ) (at : ℕ) : Type 0 where
+  pub super : EnteredSuper a u (Ok (Some super_at))
   pub block : EnteredBlock a u k (Ok (Some at))

@@ -22,6 +22,7 @@ use refusal::Refusal;
 use walked_index::WalkedIndex;
 use walked_index::call::HeadedIndex;
 
+mod in_block;
 pub mod paths;
 pub mod runs;
 
@@ -72,7 +73,7 @@ impl WalkedIndex for ArrayIndex {
     }
 
     fn run_of(self, file: &[u8], slot: u64) -> Run {
-        runs::run_of(file, self.array, slot)
+        runs::run_of(self.array.in_file(file), slot)
     }
 
     fn path_of(self, file: &[u8], slot: u64) -> Result<Option<u64>, Refusal> {
@@ -91,6 +92,7 @@ impl HeadedIndex for ArrayIndex {
 
     ghost headed = { λ f address o l. indexed (header_at f address o l) o };
 
+    #[tactic(auto, using(refusal::proofs::Outcomes::value_is, refusal::proofs::Outcomes::refused_is))]
     fn read(
         file: &[u8],
         address: u64,

@@ -1,93 +1,101 @@
 // Runs of slots: where in the file the elements of a slot and of those that follow it lie.
-ghost use Rattle.std.specs.Prelude.{◌≡◌, Ok, Some};
+ghost use Rattle.std.specs.Prelude.{◌≡◌, Ok};
 ghost use Rattle.ea_geometry.specs.Place.{place};
-ghost use Rattle.ea_geometry.specs.Slots.{InBlock};
-ghost use Rattle.ea_blocks.specs.Values.{array_of};
-ghost use Rattle.ea_blocks.specs.Entered.{EnteredSuper, EnteredBlock};
-ghost use Rattle.ea_index.specs.Values.{TestedTo, RunIn, slots_of, block_slots, run_slots};
+ghost use Rattle.ea_blocks.specs.Values.{array_in};
+ghost use Rattle.ea_blocks.specs.Entered.{EnteredSuper};
+ghost use Rattle.ea_index.specs.Values.{PathTested, BlockEntered, RunIn, slots_of, block_slots, run_slots};
 
-use ea_blocks::ExtensibleArray;
-use ea_blocks::pointers::{block_pointer, page_set, super_pointer};
+use crate::in_block::SlotInBlock;
+use ea_blocks::ArrayInFile;
 use ea_geometry::Place;
 use located::Run;
 
 // The run that a slot begins, where the path to it is accepted.
-pub fn run_of(file: &[u8], array: ExtensibleArray, slot: u64) -> Run
-    requires { TestedTo file.now array slot }
-    ensures { let a = array_of file.now array in
-        RunIn a slot result × (slots_of result ≡ run_slots a slot (place array.geometry.parameters slot)) }
+pub fn run_of(array: ArrayInFile, slot: u64) -> Run
+    requires { PathTested (array_in array.array) slot }
+    ensures { let a = array_in array.entry.array in
+        RunIn a slot result × (slots_of result ≡ run_slots a slot (place a.parameters slot)) }
 {
-    match array.geometry.place_of(slot) {
+    let extents = array.array.extents;
+    match extents.sizes.place_of(slot) {
         Place::Inline(i) => Run::Elements {
-            pos: array.index_at + array.geometry.inline_element_at(i),
-            slots: array.geometry.parameters.idx_blk_elmts as u64 - i,
+            pos: array.array.index_at + extents.inline_element_at(i),
+            slots: extents.sizes.parameters.idx_blk_elmts as u64 - i,
         },
         Place::Block {
-            super_block,
-            block,
-            element,
-        } => block_run(file, array, slot, super_block, block, element),
-        Place::Page {
-            super_block,
-            block,
-            element,
+            super_block: u,
+            block: k,
+            element: i,
+        }
+        | Place::Page {
+            super_block: u,
+            block: k,
+            element: i,
             page: _,
             bit: _,
-        } => block_run(file, array, slot, super_block, block, element),
+        } => {
+            let slot = SlotInBlock {
+                array,
+                slot,
+                u,
+                k,
+                i,
+            };
+            slot.run()
+        }
         Place::Nowhere => Run::Gap(u64::MAX),
     }
 }
 
-// The run of a slot that is element i of data block k of super block u: a gap up to the next super block or data block,
-// where the pointer to its own is undefined.
-fn block_run(file: &[u8], array: ExtensibleArray, slot: u64, u: u64, k: u64, i: u64) -> Run
-    requires { TestedTo file.now array slot × InBlock array.geometry.parameters slot u k i }
-    ensures { let a = array_of file.now array in RunIn a slot result
-        × (slots_of result ≡ block_slots a slot u k i) }
-{
-    let geometry = array.geometry;
-    let mut super_at = 0;
-    if geometry.direct_super_blocks() <= u {
-        let Some(at) = super_pointer(file, array, u) else {
-            return Run::Gap(geometry.first_slot(u + 1) - slot);
+impl<'a> SlotInBlock<'a> {
+    // The run of a slot in a data block: a gap up to the next super block or data block, where the pointer to its own
+    // is undefined.
+    fn run(self) -> Run
+        requires { PathTested (array_in self.array.array) self.slot }
+        ensures { let s = self.entry in let a = array_in s.array.array in RunIn a s.slot result
+            × (slots_of result ≡ block_slots a s.slot s.u s.k s.i) }
+    {
+        let sizes = self.array.array.extents.sizes;
+        let Some(super_at) = self.find_super() else {
+            return Run::Gap(sizes.first_slot(self.u + 1) - self.slot);
         };
-        super_at = at;
+        let Some(at) = self.block_row(super_at).block_pointer(self.k) else {
+            return Run::Gap(sizes.block_elements(self.u) - self.i);
+        };
+        self.run_in_block(super_at, at)
     }
-    let Some(at) = block_pointer(file, array, u, k, super_at) else {
-        return Run::Gap(geometry.block_elements(u) - i);
-    };
-    run_in_block(file, array, slot, u, k, i, super_at, at)
-}
 
-// The same in a data block that lies at `at`, below a super block at super_at: up to the end of the block, or of the
-// page that the element lies in, where the block is read by pages.
-fn run_in_block(
-    file: &[u8],
-    array: ExtensibleArray,
-    slot: u64,
-    u: u64,
-    k: u64,
-    i: u64,
-    super_at: u64,
-    at: u64,
-) -> Run
-    requires { TestedTo file.now array slot × InBlock array.geometry.parameters slot u k i
-        × EnteredSuper (array_of file.now array) u (Ok (Some super_at))
-        × EnteredBlock (array_of file.now array) u k (Ok (Some at)) }
-    ensures { let a = array_of file.now array in RunIn a slot result
-        × (slots_of result ≡ block_slots a slot u k i) }
-{
-    let geometry = array.geometry;
-    if !geometry.in_pages(u) {
-        let pos = at + geometry.block_element_at(i);
-        let slots = geometry.block_elements(u) - i;
-        return Run::Elements { pos, slots };
+    // What stepping into its super block would find, which has passed its test or isn't there.
+    fn find_super(self) -> Option<Option<u64>>
+        requires { PathTested (array_in self.array.array) self.slot }
+        ensures { let s = self.entry in EnteredSuper (array_in s.array.array) s.u (Ok result) }
+    {
+        if self.u < self.array.array.extents.sizes.direct_super_blocks() {
+            return Some(None);
+        }
+        Some(Some(self.array.super_pointer(self.u)?))
     }
-    let page = geometry.page_elements();
-    let slots = page - i % page;
-    if !page_set(file, array, super_at, u, k, i / page) {
-        return Run::Gap(slots);
+
+    // The run of a slot whose data block lies at `at`: up to the end of the block, or of the page that the element lies
+    // in, where the block is read by pages.
+    fn run_in_block(self, super_at: Option<u64>, at: u64) -> Run
+        requires { PathTested (array_in self.array.array) self.slot
+            × BlockEntered (array_in self.array.array) self.u self.k super_at at }
+        ensures { let s = self.entry in let a = array_in s.array.array in RunIn a s.slot result
+            × (slots_of result ≡ block_slots a s.slot s.u s.k s.i) }
+    {
+        let extents = self.array.array.extents;
+        if !extents.sizes.in_pages(self.u) {
+            let pos = at + extents.block_element_at(self.i);
+            let slots = extents.sizes.block_elements(self.u) - self.i;
+            return Run::Elements { pos, slots };
+        }
+        let page = extents.sizes.page_elements();
+        let slots = page - self.i % page;
+        if !self.page_row(super_at, at).page_set(self.i / page) {
+            return Run::Gap(slots);
+        }
+        let pos = at + extents.paged_element_at(self.i);
+        Run::Elements { pos, slots }
     }
-    let pos = at + geometry.paged_element_at(i);
-    Run::Elements { pos, slots }
 }

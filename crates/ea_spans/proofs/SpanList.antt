@@ -10,9 +10,7 @@ use Rattle.refusal.specs.Refusals.{figure, Outcome}
 use Rattle.refusal.specs.Outcome.{◌yields◌, also}
 use Rattle.refusal.specs.Values.{counted_of}
 use Rattle.ea_header.specs.Header.{header_bytes, header_at}
-use Rattle.ea_blocks.specs.declared.ExtensibleArray.{ExtensibleArray}
-use Rattle.ea_blocks.specs.Values.{array_of}
-use Rattle.ea_blocks.specs.Array.{array_from}
+use Rattle.ea_blocks.specs.Array.{Array, array_from}
 use Rattle.span_walk.specs.Spans.{header_span}
 use Rattle.span_walk.specs.Walk.{Spanning, index_spans, head_test, spans}
 use Rattle.span_walk.proofs.Heads.{head_passed}
@@ -36,11 +34,11 @@ module _ (f : List ℕ) (address o l : ℕ) where
 
   -- behind them, the header's span and those of its index
   pub spans_are : Ok tt ≡ head_test f address o l → length f < 2 ^ 63
-      → (array : ExtensibleArray) → array_of f array ≡ array_from f (header_at f address o l) o
+      → (a : Array) → a ≡ array_from f (header_at f address o l) o
       → (n : ℕ) → n ≡ figure (header_bytes o l)
-      → also (record { address = address; length = n }) (index_spans (array_of f array)) ≡ spans f address o l
+      → also (record { address = address; length = n }) (index_spans a) ≡ spans f address o l
   unfolding spans ◌yields◌ header_span figure
-  spans_are e short array q n s =
+  spans_are e short a q n s =
       let p = head_passed f address o l e in
       let z : n ≡ header_bytes o l = omega (arith, p.0) in
       rw (sym e, z, q) refl

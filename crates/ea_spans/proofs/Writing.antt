@@ -16,7 +16,8 @@ use Rattle.span_walk.specs.Walk.{Spanning, joined, block_spans}
 use Rattle.span_walk.proofs.Joined.{Parts, joined_inv, also-joined}
 use Rattle.span_walk.proofs.Turns.{blocks-undefined, blocks_defined}
 use Rattle.ea_spans.specs.SpanList.{each, filled, address_of, length_of}
-use Rattle.ea_spans.specs.Values.{Room, end_of}
+use Rattle.ea_spans.specs.declared.lists.SpanLists.{SpanLists}
+use Rattle.ea_spans.specs.Values.{Room, Written, end_of}
 
 -- two lists of spans, one behind the other
 sets_each : (part : Span → ℕ) (l m : List Span) (out : List ℕ) (n : ℕ)
@@ -36,84 +37,94 @@ length-filled part (Ok l) n out = length-sets out n (each part l)
 module _ (a b : Spanning) (l : List Span) (p : Parts a b l) (n : ℕ) where
   filled-joined : (part : Span → ℕ) (out : List ℕ)
       → filled part (joined a b) n out ≡ filled part b (end_of n a) (filled part a n out)
-  unfolding filled joined end_of
+  unfolding filled joined
   filled-joined part out = rw (p.first_is, p.second_is) (sets_each part p.first p.second out n)
 
   end_joined : (end_of n (joined a b) ≡ end_of (end_of n a) b) × (end_of n a ≡ n + length p.first)
-  unfolding joined end_of
+  unfolding joined
   end_joined = rw (p.first_is, p.second_is) (omega (arith, length-append p.first p.second), refl)
 
--- The spans a, written from number n on, make of two lists what the spans b, written from number m on, make of xs and
--- ls.
-pub record Going (b : Spanning) (m : ℕ) (xs ls : List ℕ) (a : Spanning) (n : ℕ) (addresses lengths : List ℕ) : Type 0 where
-  pub room : Room a n addresses lengths
-  pub first : filled address_of a n addresses ≡ filled address_of b m xs
-  pub second : filled length_of a n lengths ≡ filled length_of b m ls
-  pub end : end_of n a ≡ end_of m b
+-- The spans a, written into `now`, make of two lists what the spans b, written into `from`, make of them.
+pub record Going (b : Spanning) (from : SpanLists) (a : Spanning) (now : SpanLists) : Type 0 where
+  pub room : Room a now
+  pub same_addresses : now.addresses.ghost_name ≡ from.addresses.ghost_name
+  pub same_lengths : now.lengths.ghost_name ≡ from.lengths.ghost_name
+  pub first : filled address_of a now.next now.addresses.now ≡ filled address_of b from.next from.addresses.now
+  pub second : filled length_of a now.next now.lengths.now ≡ filled length_of b from.next from.lengths.now
+  pub end : end_of now.next a ≡ end_of from.next b
 
-pub going_whole : {b : Spanning} {m : ℕ} {xs ls : List ℕ} → Room b m xs ls → Going b m xs ls b m xs ls
-going_whole r = record { room = r; first = refl; second = refl; end = refl }
+pub going_whole : {b : Spanning} {from : SpanLists} → Room b from → Going b from b from
+going_whole r = record { room = r; same_addresses = refl; same_lengths = refl; first = refl; second = refl; end = refl }
 
-module _ {b : Spanning} {m : ℕ} {xs ls : List ℕ} {n : ℕ} {addresses lengths : List ℕ} where
+module _ {b : Spanning} {from now : SpanLists} where
   -- the same said of what is left in another form
-  pub going_as : {a d : Spanning} → a ≡ d → Going b m xs ls a n addresses lengths → Going b m xs ls d n addresses lengths
-  going_as q g = subst (λ (x : Spanning). Going b m xs ls x n addresses lengths) q g
+  pub going_as : {a d : Spanning} → a ≡ d → Going b from a now → Going b from d now
+  going_as q g = subst (λ (x : Spanning). Going b from x now) q g
+
+  -- all that is left is written
+  pub going_done : {a : Spanning} {to : SpanLists} → Going b from a now → Written a now to → Written b from to
+  going_done g w = record {
+    same_addresses = w.same_addresses ∙ g.same_addresses;
+    same_lengths = w.same_lengths ∙ g.same_lengths;
+    addresses = w.addresses ∙ g.first;
+    lengths = w.lengths ∙ g.second;
+    next = w.next ∙ g.end;
+  }
 
   -- nothing is left
-  pub going_none : Going b m xs ls (Ok []) n addresses lengths
-      → (addresses ≡ filled address_of b m xs) × (lengths ≡ filled length_of b m ls) × (n ≡ end_of m b)
-  unfolding filled each end_of
-  going_none g = (g.first, g.second, let z = g.end in omega arith)
+  pub going_none : Going b from (Ok []) now → Written b from now
+  unfolding filled each
+  going_none g =
+      let z : now.next ≡ now.next + 0 = omega arith in
+      going_done g (record { same_addresses = refl; same_lengths = refl; addresses = refl; lengths = refl; next = z })
 
   -- the first part fits, and what is left behind it
-  module _ (a d : Spanning) (g : Going b m xs ls (joined a d) n addresses lengths) where
-    pub going_room : Room a n addresses lengths
+  module _ (a d : Spanning) (g : Going b from (joined a d) now) where
+    pub going_room : Room a now
     going_room =
         let r = g.room in
         let p = joined_inv a d r.list r.is in
         let k = ap length p.is ∙ length-append p.first p.second in
         record { list = p.first; is = p.first_is; first = omega (arith, r.first); second = omega (arith, r.second) }
 
-    pub going_behind : {next : ℕ} {to other : List ℕ} → to ≡ filled address_of a n addresses → other ≡ filled length_of a n lengths
-        → next ≡ end_of n a → Going b m xs ls d next to other
-    going_behind x y z =
+    pub going_behind : {to : SpanLists} → Written a now to → Going b from d to
+    going_behind w =
         let r = g.room in
         let p = joined_inv a d r.list r.is in
         let k = ap length p.is ∙ length-append p.first p.second in
+        let n = now.next in
         let j = end_joined a d _ p n in
         record {
           room = record {
             list = p.second;
             is = p.second_is;
-            first = omega (arith, r.first, j.1, ap length x ∙ length-filled address_of a n addresses);
-            second = omega (arith, r.second, j.1, ap length y ∙ length-filled length_of a n lengths);
+            first = omega (arith, r.first, j.1, w.next, ap length w.addresses ∙ length-filled address_of a n now.addresses.now);
+            second = omega (arith, r.second, j.1, w.next, ap length w.lengths ∙ length-filled length_of a n now.lengths.now);
           };
-          first = rw (x, z) (sym (filled-joined a d _ p n address_of addresses) ∙ g.first);
-          second = rw (y, z) (sym (filled-joined a d _ p n length_of lengths) ∙ g.second);
-          end = rw z (sym j.0 ∙ g.end);
+          same_addresses = w.same_addresses ∙ g.same_addresses;
+          same_lengths = w.same_lengths ∙ g.same_lengths;
+          first = rw (w.addresses, w.next) (sym (filled-joined a d _ p n address_of now.addresses.now) ∙ g.first);
+          second = rw (w.lengths, w.next) (sym (filled-joined a d _ p n length_of now.lengths.now) ∙ g.second);
+          end = rw w.next (sym j.0 ∙ g.end);
         }
 
   -- the next span fits, and what is left behind it
-  module _ (s : Span) (a : Spanning) (g : Going b m xs ls (also s a) n addresses lengths) where
-    pub going_fits : (n < length addresses) × (n < length lengths)
+  module _ (s : Span) (a : Spanning) (g : Going b from (also s a) now) where
+    pub going_fits : (now.next < length now.addresses.now) × (now.next < length now.lengths.now)
     going_fits =
         let r = going_room _ _ (going_as (also-joined s a) g) in
         let z : s ∷ [] ≡ r.list = cc in
         (omega (arith, r.first, ap length z), omega (arith, r.second, ap length z))
 
-    pub going_put : {to other : List ℕ} → to ≡ set addresses n s.address → other ≡ set lengths n s.length
-        → Going b m xs ls a (n + 1) to other
-    unfolding filled each end_of
-    going_put x y = going_behind _ _ (going_as (also-joined s a) g) x y refl
+    pub going_put : {to : SpanLists} → Written (Ok (s ∷ [])) now to → Going b from a to
+    going_put = going_behind _ _ (going_as (also-joined s a) g)
 
   -- one data block of super block u
-  module _ (a : Array) (u j k : ℕ) (lt : k < j)
-      (g : Going b m xs ls (Ok (block_spans a u (j - k) k)) n addresses lengths) where
-    pub going_skip : block_undefined a u k ≡ true
-        → Going b m xs ls (Ok (block_spans a u (j - (k + 1)) (k + 1))) n addresses lengths
+  module _ (a : Array) (u j k : ℕ) (lt : k < j) (g : Going b from (Ok (block_spans a u (j - k) k)) now) where
+    pub going_skip : block_undefined a u k ≡ true → Going b from (Ok (block_spans a u (j - (k + 1)) (k + 1))) now
     going_skip e = going_as (ap Ok (blocks-undefined a u j k lt e)) g
 
     pub going_block : block_undefined a u k ≡ false → (s : Span) → s ≡ span_of a (data_block u k)
-        → Going b m xs ls (also s (Ok (block_spans a u (j - (k + 1)) (k + 1)))) n addresses lengths
+        → Going b from (also s (Ok (block_spans a u (j - (k + 1)) (k + 1)))) now
     unfolding also
     going_block e s q = rw q (going_as (ap Ok (blocks_defined a u j k lt e)) g)

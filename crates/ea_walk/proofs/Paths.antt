@@ -4,7 +4,7 @@ use mathlib.Core.Path.{◌≡◌, refl, sym, ap, ◌∙◌}
 use mathlib.Core.Bool.{true, false, not, cond}
 use mathlib.Core.List.{List, [], ◌∷◌}
 use mathlib.Core.Logic.{◌⊎◌, inl, inr, ⊎_elim}
-use Rattle.std.specs.Prelude.{Err, Ok, Some}
+use Rattle.std.specs.Prelude.{Err, None, Ok, Option, Some}
 use Rattle.refusal.specs.declared.Refusal.{Refusal}
 use Rattle.refusal.specs.Refusals.{◌then◌, Checked}
 use Rattle.refusal.proofs.Tests.{by_cond, then_first, then_second}
@@ -26,9 +26,9 @@ use Rattle.ea_walk.specs.Walk.{located}
 pub record Ready (a : Array) (u : ℕ) : Type 0 where
   pub named : (is_direct a u ≡ true) ⊎ ((is_direct a u ≡ false) × (super_undefined a u ≡ false) × (test_of a (super_block u) ≡ Ok tt))
 
-pub entered_ready : (a : Array) (u super : ℕ) → EnteredSuper a u (Ok (Some super)) → Ready a u
-entered_ready a u super w =
-    record { named = ⊎_elim (λ (d : (is_direct a u ≡ true) × (super ≡ 0)). inl d.0) (λ d. inr (d.0, d.1, d.2)) w }
+pub entered_ready : (a : Array) (u : ℕ) (super : Option ℕ) → EnteredSuper a u (Ok (Some super)) → Ready a u
+entered_ready a u None w = record { named = inl w }
+entered_ready a u (Some at) w = record { named = inr (w.0, w.1, w.2) }
 
 module _ (a : Array) (u k : ℕ) (r : Ready a u) where
   pub ready_tested : (inner : List Structure) → tested a (leading_to a u k inner) ≡ tested a (cond (block_undefined a u k) [] (data_block u k ∷ inner))

@@ -15,13 +15,10 @@ use Rattle.elements.specs.Runs.{elements_from, pages_from}
 use Rattle.ea_geometry.specs.Sizes.{blocks, block_elements, pages}
 use Rattle.ea_geometry.specs.Extents.{block_element_at}
 use Rattle.ea_geometry.specs.Place.{in_pages}
+use Rattle.ea_geometry.proofs.Counts.{less}
 use Rattle.ea_blocks.specs.Array.{Array}
 use Rattle.ea_blocks.specs.Structures.{super_block, data_block, test_of, pages_of, is_direct, block_at, super_undefined, block_undefined}
 use Rattle.ea_walk.specs.Walk.{block, blocks_from, supers_from}
-
--- what is left of n, before and after a turn
-less : (n i : ℕ) → i < n → n - i ≡ suc (n - (i + 1))
-less n i h = omega arith
 
 -- from the count on nothing is walked
 pub supers_past : (a : Array) (e : Elements) (j u s : ℕ) (rest : Listing) → e.count ≤ s → supers_from a e j u s rest ≡ rest

@@ -6,17 +6,25 @@ ghost use Rattle.records.specs.Records.{record_length, list_content};
 ghost use Rattle.list_text.specs.Printed.{Put};
 ghost use Rattle.eals.specs.Program.{listing_of, counted_text, records_counted, program_text};
 
-use calls::CallNumbers;
+use calls::Call;
 use ea_index::ArrayIndex;
 use list_text::{put_list, put_refusal, put_text};
 use questions::{Question, file_of, parse};
 use refusal::Refusal;
 use walked_index::call::list_at;
 
+// A line of 4,095 bytes has 4,096 words at most, and their numbers have 8 bytes each.
+pub const NUMBER_BYTES: usize = 32768;
+
+pub const LIST_BYTES: usize = 65536;
+
+// The text of a list has 4 bytes at most for each of the list's, and 29 for the count.
+pub const OUT_BYTES: usize = 4 * LIST_BYTES + 29;
+
 // Lists the chunks that a question asks for.
 fn list_chunks(
-    list: &mut [u8],
-    numbers: &[u8],
+    list: &mut [u8; LIST_BYTES],
+    numbers: &[u8; NUMBER_BYTES],
     file: &[u8],
     question: Question,
 ) -> Result<u64, Refusal>
@@ -27,34 +35,36 @@ fn list_chunks(
         ≡ list_content (listing_of question numbers.now file.now (length list.old))
         list.old }
 {
-    let chunk_end = 48 + 8 * question.rank as usize;
-    let present_end = 48 + 16 * question.rank as usize;
-    let maximum_end = 48 + 24 * question.rank as usize;
-    let asked = CallNumbers {
+    let rank = question.rank as usize;
+    let chunk_end = 48 + 8 * rank;
+    let present_end = 48 + 16 * rank;
+    let maximum_end = 48 + 24 * rank;
+    let call = Call {
+        file,
         offset_size: question.offset_size,
         length_size: question.length_size,
         address: question.address,
         element_bytes: question.element_bytes,
         order: question.order,
         rank: question.rank,
+        chunk: &numbers[48..chunk_end],
+        present: &numbers[chunk_end..present_end],
         has_maximum: 1,
+        maximum: &numbers[present_end..maximum_end],
     };
-    list_at::<ArrayIndex>(
-        file,
-        asked,
-        &numbers[48..chunk_end],
-        &numbers[chunk_end..present_end],
-        &numbers[present_end..maximum_end],
-        list,
-    )
+    list_at::<ArrayIndex>(&call, list)
 }
 
 // Puts the text of an answer into out, and answers where it ends.
-fn put_counted(out: &mut [u8], list: &[u8], counted: Result<u64, Refusal>, rank: usize) -> usize
-    requires { (records_counted counted * record_length rank ≤ length list.now) × (length list.now ≡ 65536)
-        × (300000 ≤ length out.old) }
+fn put_counted(
+    out: &mut [u8; OUT_BYTES],
+    list: &[u8; LIST_BYTES],
+    counted: Result<u64, Refusal>,
+    rank: usize,
+) -> usize
+    requires { records_counted counted * record_length rank ≤ length list.now }
     ensures put { Put out.old 0 (counted_text rank counted list.now) out.new result }
-    ensures upper_bound { result ≤ 300000 }
+    ensures upper_bound { result ≤ length out.old }
 {
     match counted {
         Ok(n) => put_list(out, list, n as usize, rank),
@@ -63,8 +73,12 @@ fn put_counted(out: &mut [u8], list: &[u8], counted: Result<u64, Refusal>, rank:
 }
 
 // Puts what the program prints of an input into out, and answers where it ends.
-pub fn answer(out: &mut [u8], list: &mut [u8], numbers: &mut [u8], input: &[u8]) -> usize
-    requires { (length list.old ≡ 65536) × (32768 ≤ length numbers.old) × (300000 ≤ length out.old) }
+pub fn answer(
+    out: &mut [u8; OUT_BYTES],
+    list: &mut [u8; LIST_BYTES],
+    numbers: &mut [u8; NUMBER_BYTES],
+    input: &[u8],
+) -> usize
     ensures put { Put out.old 0
         (program_text input.now numbers.old list.old) out.new result }
     ensures prefix_len { IsPrefixLen result out.new }

@@ -1,13 +1,11 @@
 -- What the form of elements and the test of their size say of an element's bytes. Assumes nothing.
-use Prim.Native.Nat.{ℕ, ◌+◌, ◌-◌, ◌<◌, ◌≤◌}
-use mathlib.Core.Path.{◌≡◌, refl, sym, ◌∙◌}
-use mathlib.Core.Bool.{true, false, ◌&&◌}
-use mathlib.Core.Logic.{⊎_elim}
+use Prim.Native.Nat.{ℕ, ◌+◌, ◌≤◌}
+use mathlib.Core.Path.{◌≡◌, refl}
+use mathlib.Core.Bool.{true, false}
 use native.Mathlib.Omega.{arith}
-use borrow.Author.Tests.{lt-ltb, le-ltb, ltb-false, not-false}
-use lib.Dec.{ltb}
+use borrow.Author.Tests.{ltb-false, not-false}
 use Rattle.std.specs.Prelude.{Ok}
-use Rattle.refusal.proofs.Tests.{lt_or_ge, by_cond, refuse_inv, then_inv}
+use Rattle.refusal.proofs.Tests.{by_cond, refuse_inv, then_inv}
 use Rattle.fields.specs.Fields.{is_width, width_test}
 use Rattle.element_form.specs.declared.Form.{Form}
 use Rattle.element_form.specs.Form.{filtered, stride, room_test, element_size_test}
@@ -21,22 +19,6 @@ module _ (f : Form) where
   pub stride-filtered : filtered f ≡ true → stride f ≡ f.element_size
   unfolding stride
   stride-filtered e = rw e refl
-
-  -- whether an element has no room for an address and a mask, by steps that no sum can pass 2^64 − 1 in
-  pub plain_room : filtered f ≡ false → false ≡ (filtered f && ltb f.element_size (f.offset_size + 4))
-  plain_room e = rw e refl
-
-  pub no_room : filtered f ≡ true → f.element_size < 4 → true ≡ (filtered f && ltb f.element_size (f.offset_size + 4))
-  no_room e l = rw (e, lt-ltb f.element_size (f.offset_size + 4) (omega arith)) refl
-
-  pub room_by : filtered f ≡ true → 4 ≤ f.element_size
-      → ltb (f.element_size - 4) f.offset_size ≡ (filtered f && ltb f.element_size (f.offset_size + 4))
-  room_by e l =
-      let n = f.element_size in
-      let o = f.offset_size in
-      rw e
-      (⊎_elim (λ (k : n - 4 < o). lt-ltb (n - 4) o k ∙ sym (lt-ltb n (o + 4) (omega arith)))
-      (λ (k : o ≤ n - 4). le-ltb (n - 4) o k ∙ sym (le-ltb n (o + 4) (omega arith))) (lt_or_ge (n - 4) o))
 
   -- what the test of their size leaves
   module _ (t : element_size_test f ≡ Ok tt) where

@@ -3,7 +3,7 @@
 ghost use Rattle.std.specs.Prelude.{◌≡◌, true, ◌&&◌, ◌+◌, ltb, Ok};
 ghost use Rattle.element_form.specs.Form.{filtered, stride, size_bytes, room_test, element_size_test};
 
-use fields::bytes::ensure_width;
+use fields::bytes::ensure_offset_size;
 use refusal::Refusal;
 
 // What an index says of its elements, and the size of an address.
@@ -47,7 +47,7 @@ impl Form {
         ensures { result ≡ element_size_test self }
     {
         self.test_room()?;
-        ensure_width(self.offset_size, Refusal::OffsetSize(self.offset_size))
+        ensure_offset_size(self.offset_size)
     }
 
     // Tests that a filtered element has room for an address and a mask: 28.
@@ -66,13 +66,6 @@ impl Form {
     fn is_too_small(self) -> bool
         ensures { result ≡ (filtered self && ltb self.element_size (self.offset_size + 4)) }
     {
-        if !self.is_filtered() {
-            return false;
-        }
-        let size = self.element_size as u64;
-        if size < 4 {
-            return true;
-        }
-        size - 4 < self.offset_size
+        self.is_filtered() && (self.element_size as u64) < self.offset_size.saturating_add(4)
     }
 }

@@ -28,7 +28,7 @@ use Rattle.elements.specs.Elements.{Elements, chunk_bytes, undefined_element, si
 use Rattle.elements.specs.Runs.{also_element, elements_from}
 use Rattle.elements.proofs.Elements.{record_here, chunk_here}
 use Rattle.element_runs.specs.Defined.{defined_count, sizes_fit, all_chunks}
-use Rattle.element_runs.proofs.Skipping.{skip_one}
+use Rattle.element_runs.proofs.Steps.{skip_one}
 
 -- a size that passes its test
 small_size : (n : ℕ) → n < 2 ^ 32 → size_test n ≡ Ok tt
@@ -81,7 +81,7 @@ module _ (es : Elements) (bytes : (i : ℕ) → get_or es.file i 0 < 256) (t : e
       defined_one pos j s k h l u = rw (lt-leb es.count s l, chunk_is pos s h u) (plus-also k _ _)
 
       -- a run of slots inside the extents
-      pub inside_counted : (pos j s k : ℕ) → ((i : ℕ) → i < j → offsets_of (in_extent es.grid (s + i)) ≡ Ok true) → s + j ≤ es.count
+      inside_counted : (pos j s k : ℕ) → ((i : ℕ) → i < j → offsets_of (in_extent es.grid (s + i)) ≡ Ok true) → s + j ≤ es.count
           → plus k (elements_from es pos j s rest) ≡ plus (k + defined_count es.file pos j (stride es.form) es.form.offset_size) rest
       unfolding defined_count elements_from
       inside_counted pos zero s k h l = ap (λ (m : ℕ). plus m rest) (omega arith)
@@ -95,6 +95,10 @@ module _ (es : Elements) (bytes : (i : ℕ) → get_or es.file i 0 < 256) (t : e
           (λ u. ap (plus k) (skip_one es t rest pos j s (omega arith) u) ∙ later k ∙ ap (λ (m : ℕ). plus m rest) (omega arith))
           (λ u. defined_one pos j s k here (omega arith) u ∙ later (k + 1) ∙ ap (λ (m : ℕ). plus m rest) (omega arith))
 
+    pub line_counted : (pos j s : ℕ) → s + j ≤ es.count → ((i : ℕ) → i < j → offsets_of (in_extent es.grid (s + i)) ≡ Ok true)
+        → Ok (defined_count es.file pos j (stride es.form) es.form.offset_size) ≡ counted_of (elements_from es pos j s (Ok []))
+    line_counted pos j s l h = ap Ok (omega arith) ∙ sym (inside_counted (Ok []) pos j s 0 h l ∙ plus_none _ _ refl) ∙ plus_zero _
+
   -- the first n slots
   pub all_counted : {rank u : ℕ} {chunk bound down : List ℕ} {numbers : Bool} → GridNumbers rank u chunk down es.grid → Extents rank numbers bound es.grid
       → (n : ℕ) → all_chunks es.form es.grid es.element_bytes n ≡ true → (pos j s : ℕ) → s + j ≤ n → s + j ≤ es.count
@@ -103,5 +107,4 @@ module _ (es : Elements) (bytes : (i : ℕ) → get_or es.file i 0 < 256) (t : e
   all_counted g x n all pos j s h l =
       let parts = both (sizes_fit es.form es.grid es.element_bytes) (all_inside es.grid n) all in
       let reached = all_inside_lem es.grid _ _ _ _ g _ _ x n parts.1 in
-      let e = inside_counted parts.0 (Ok []) pos j s 0 (λ i b. reached (s + i) (omega arith)) l in
-      ap Ok (omega arith) ∙ sym (e ∙ plus_none _ _ refl) ∙ plus_zero _
+      line_counted parts.0 pos j s l (λ i b. reached (s + i) (omega arith))

@@ -1,4 +1,4 @@
 pub mod DefinedRuns
-pub mod Skipping
+pub mod Steps
 pub mod AllChunks
 pub mod Counting

@@ -1,5 +1,6 @@
 #![tactic(auto)]
-// Runs of elements: tested and counted, and by their addresses alone.
+// Runs of elements: tested and counted, what they begin with, and by their addresses alone.
 
 pub mod count;
 pub mod defined;
+pub mod step;

@@ -3,7 +3,6 @@ use Prim.Native.Nat.{ℕ}
 use mathlib.Core.Path.{◌≡◌, refl, ap, ◌∙◌}
 use mathlib.Core.Bool.{Bool, false, not, cond}
 use mathlib.Core.List.{List}
-use native.Mathlib.Omega.{arith}
 use borrow.Author.Tests.{not-true, not-false}
 use Rattle.std.specs.Prelude.{Err, None, Ok, Option, Some, true}
 use Rattle.refusal.specs.Refusals.{Checked, Outcome}
@@ -16,6 +15,7 @@ use Rattle.chunk_grid.specs.Chunks.{chunk_at}
 use Rattle.chunk_grid.proofs.Slots.{passed_inside}
 use Rattle.element_form.specs.Form.{element_size_test}
 use Rattle.index.specs.declared.Entry.{Entry}
+use Rattle.index.proofs.Records.{none_some}
 use Rattle.index.specs.Index.{Rec, Listing}
 use Rattle.index.specs.SlotRecords.{record_of}
 use Rattle.elements.specs.Elements.{Elements, undefined_element, entry_at, entry_test, element}
@@ -58,9 +58,6 @@ unfolding ◌yields◌ also_element
 yields_listed (Ok tt) e a l h = refl
 yields_listed (Err r) e a l h = absurd (never r l h)
 
-none_some : (r : Rec) → ◌≡◌ {A = Outcome (Option Rec)} (Ok None) (Ok (Some r)) → ⊥
-none_some r h = let z : ◌≡◌ {A = ℕ} 0 1 = cc in omega arith
-
 module _ (es : Elements) (pos s : ℕ) where
   pub element-sized : (a : Listing) (l : List Rec) → also_element (element es pos s) a ≡ Ok l → element_size_test es.form ≡ Ok tt
   unfolding element
@@ -72,10 +69,10 @@ module _ (es : Elements) (pos s : ℕ) where
   unfolding element
   chunk_inv x h =
       let g = yields_inv _ _ _ h in
-      by_cond P (undefined_element es pos) (λ u k. absurd (none_some x k))
+      by_cond P (undefined_element es pos) (λ u k. absurd (none_some x (some_is None _ k)))
       (λ u k.
       let o = yields_inv _ _ _ k in
-      by_cond P (not (inside es s)) (λ b m. absurd (none_some x m))
+      by_cond P (not (inside es s)) (λ b m. absurd (none_some x (some_is None _ m)))
       (λ b m.
       let e = yields_inv _ _ _ m in
       (g.0, passed_inside _ s o.0 (not-false (inside es s) b), e.0, cc)) o.1)

@@ -7,7 +7,7 @@ use lib.ListN.{length, take}
 use Rattle.std.specs.Prelude.{Ok, true}
 use Rattle.chunk_grid.specs.Grid.{Grid, offsets}
 use Rattle.chunk_grid.specs.Values.{grid_of, GridNumbers, in_extent, offsets_of}
-use Rattle.chunk_grid.proofs.Grids.{accepted as grid_accepted, length-offsets}
+use Rattle.chunk_grid.proofs.Grids.{accepted as grid_accepted}
 use Rattle.chunk_slots.specs.Values.{handed}
 use Rattle.chunk_slots.proofs.Handed.{handed_corner}
 use Rattle.elements.specs.declared.ElementReader.{ElementReader}
@@ -28,9 +28,6 @@ module _ {rank u : ℕ} {chunk down : List ℕ} {g : Grid} (n : GridNumbers rank
 module _ (r : ElementReader) where
   pub reads_rank : r.numbering.now.grid.now.rank ≤ 32
   reads_rank = small r.numbering.now.numbered
-
-  pub corner_rank : (s : ℕ) → length (offsets (grid_of r.numbering.now.grid.now) s) ≡ r.numbering.now.grid.now.rank
-  corner_rank s = let n = r.numbering.now.numbered in length-offsets _ (grid_accepted _ n.built) s ∙ sym n.ranked
 
   -- the corner of a slot's chunk begins a lent array that its offsets are handed over in
   pub inside_corner : (s : ℕ) → offsets_of (in_extent (grid_of r.numbering.now.grid.now) s) ≡ Ok true → (l l' : List ℕ) → length l ≡ 32

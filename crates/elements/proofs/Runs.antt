@@ -1,5 +1,4 @@
--- Runs of elements: what comes before and what is left of a list, its count, and one turn of a loop over a run.
--- Assumes nothing.
+-- Runs of elements: what comes before and what is left of a list, its count, and its first element. Assumes nothing.
 use Prim.Native.Nat.{ℕ, zero, suc, ◌+◌, ◌-◌, ◌*◌, ◌<◌, ◌≤◌, min}
 use mathlib.Core.Path.{◌≡◌, refl, sym, ap, ◌∙◌}
 use mathlib.Core.List.{List, [], ◌∷◌, ◌++◌}
@@ -15,7 +14,7 @@ use Rattle.refusal.specs.Outcome.{◌yields◌, also}
 use Rattle.refusal.specs.Values.{plus, counted_of}
 use Rattle.refusal.proofs.Tests.{by_cond, lt_or_ge}
 use Rattle.refusal.proofs.Outcomes.{never, also_inv}
-use Rattle.refusal.proofs.Counts.{plus-also}
+use Rattle.refusal.proofs.Counts.{counted_inv, plus-also}
 use Rattle.element_form.specs.Form.{stride}
 use Rattle.elements.specs.Elements.{Elements, element}
 use Rattle.elements.specs.Runs.{also_element, elements_from}
@@ -124,6 +123,10 @@ run_length es pos (suc j) s l h =
     omega arith)
     h
 
+-- a run counts no more records than it has elements
+pub count_few : (es : Elements) (pos j s m : ℕ) → Ok m ≡ counted_of (elements_from es pos j s (Ok [])) → m ≤ j
+count_few es pos j s m e = let i = counted_inv _ m e in let n = run_length es pos j s i.0 i.1 in omega (arith, i.2)
+
 -- elements at or past the published count are none
 pub run_clamp : (es : Elements) (pos n s : ℕ) (rest : Listing) → elements_from es pos n s rest ≡ elements_from es pos (min n (es.count - s)) s rest
 unfolding elements_from
@@ -171,17 +174,3 @@ unfolding elements_from
 run_first es pos n s rest h l =
     let e : n ≡ suc (n - 1) = omega arith in
     ap (λ (j : ℕ). elements_from es pos j s rest) e ∙ rw (lt-leb es.count s l) refl
-
--- one turn of a loop over n elements: element i, then the end
-module _ (es : Elements) (n i at s : ℕ) (rest : Listing) where
-  pub run_more : i < n → s + i < es.count
-      → elements_from es at (n - i) (s + i) rest
-      ≡ also_element (element es at (s + i)) (elements_from es (at + stride es.form) (n - (i + 1)) (s + (i + 1)) rest)
-  run_more h l =
-      let e : n - (i + 1) ≡ n - i - 1 = omega arith in
-      let f : s + (i + 1) ≡ s + i + 1 = omega arith in
-      rw (e, f) (run_first es at (n - i) (s + i) rest (omega arith) l)
-
-  pub run_done : n ≤ i → elements_from es at (n - i) (s + i) rest ≡ rest
-  unfolding elements_from
-  run_done h = let e : n - i ≡ 0 = omega arith in rw e refl

@@ -1,9 +1,11 @@
 #![tactic(auto)]
 // The elements of an index: one read.
-ghost use Rattle.std.specs.Prelude.{◌≡◌};
+ghost use Rattle.std.specs.Prelude.{◌≡◌, Err, Ok};
+ghost use Rattle.std.specs.Result.{MatchResult};
 ghost use Rattle.refusal.specs.Refusals.{figure};
 ghost use Rattle.chunk_grid.specs.Values.{grid_of, in_extent, offsets_of};
 ghost use Rattle.chunk_slots.specs.Values.{handed};
+ghost use Rattle.element_form.specs.Form.{element_size_test};
 ghost use Rattle.elements.specs.Elements.{chunk_bytes as whole_bytes};
 
 use chunk_grid::numbering::Numbering;
@@ -27,6 +29,13 @@ pub struct ElementReader<'a> {
     pub ghost chunked: { chunk_bytes ≡ figure (whole_bytes (grid_of numbering.now.grid.now) element_bytes) },
 }
 
+// A reader whose size of elements has passed its test.
+#[derive(Clone, Copy)]
+pub struct SizedReader<'a> {
+    pub reader: ElementReader<'a>,
+    pub ghost sized: { element_size_test reader.form ≡ Ok tt },
+}
+
 impl<'a> ElementReader<'a> {
     // The reader of elements of this form, of a dataset with this numbering and element size.
     pub fn new(form: Form, count: u64, numbering: &'a Numbering<'a>, element_bytes: u64) -> Self
@@ -40,6 +49,15 @@ impl<'a> ElementReader<'a> {
             chunk_bytes: chunk_bytes(numbering, element_bytes),
             numbering,
         }
+    }
+
+    // This reader, where the size of elements passes its test.
+    pub fn sized(&self) -> Result<SizedReader<'a>, Refusal>
+        ensures { MatchResult result (λ r. r.reader ≡ self.now)
+            (λ e. element_size_test self.now.form ≡ Err e) }
+    {
+        self.form.test()?;
+        Ok(SizedReader { reader: *self })
     }
 
     // The offsets of a slot into the lent array, and whether they lie in the present extents.
@@ -56,10 +74,8 @@ fn chunk_bytes(numbering: &Numbering, element_bytes: u64) -> u64
     ensures { result ≡ figure (whole_bytes (grid_of numbering.now.grid.now) element_bytes) }
 {
     let rank = numbering.grid.rank as usize;
-    let mut bytes = element_bytes;
-    // The product of `bytes` and the lengths from d on, capped, is the answer.
-    for d in 0..rank {
-        bytes = bytes.saturating_mul(numbering.grid.chunk[d]);
-    }
-    bytes
+    numbering.grid.chunk[..rank].iter().fold(
+        element_bytes,
+        |bytes, length| bytes.saturating_mul(*length),
+    )
 }

@@ -1,13 +1,13 @@
 // One element of an index: its tests, and what it holds.
-ghost use Rattle.std.specs.Prelude.{◌≡◌, false, List, ℕ, ◌+◌, ◌≤◌, length, Ok, true};
+ghost use Rattle.std.specs.Prelude.{◌≡◌, List, ℕ, ◌+◌, ◌≤◌, length, Ok, true};
 ghost use Rattle.refusal.specs.Outcome.{◌yields◌};
-ghost use Rattle.fields.specs.Fields.{address_at, undefined_at, size_test};
+ghost use Rattle.fields.specs.Fields.{address_at, size_test};
 ghost use Rattle.chunk_grid.specs.Values.{grid_of, in_extent, offsets_of};
-ghost use Rattle.element_form.specs.Form.{stride, element_size_test};
+ghost use Rattle.element_form.specs.Form.{stride};
 ghost use Rattle.elements.specs.Elements.{entry_at, entry_test, element};
 ghost use Rattle.elements.specs.Values.{found_of, recorded, elements_of};
 
-use crate::ElementReader;
+use crate::{ElementReader, SizedReader};
 use fields::address::is_undefined_addr;
 use fields::bytes::{read_address, read_le, read_u32_le};
 use fields::convert::u32_from;
@@ -24,71 +24,53 @@ pub fn read_element(
     requires { pos + stride reader.now.form ≤ length file.now }
     ensures { result ≡ found_of (element (elements_of file.now reader.now) pos slot) }
 {
-    reader.form.test()?;
+    let sized = reader.sized()?;
     let width = reader.form.offset_size;
     let address = read_address(file, pos, width as usize);
     if is_undefined_addr(address, width) {
         return Ok(None);
     }
     let mut offsets = [0u64; 32];
-    let reached = reader.reach(&mut offsets, slot);
-    read_defined_element(file, pos, reader, reached)
-}
-
-// The element at pos of a slot whose offsets come to `reached`, where the size of elements has passed its test and the
-// address is defined.
-pub fn read_defined_element(
-    file: &[u8],
-    pos: usize,
-    reader: &ElementReader,
-    reached: Result<bool, Refusal>,
-) -> Result<Option<Entry>, Refusal>
-    requires { (element_size_test reader.now.form ≡ Ok tt) × (pos + stride reader.now.form ≤ length file.now)
-        × (undefined_at file.now pos reader.now.form.offset_size ≡ false) }
-    ensures { (s : ℕ) → reached ≡ offsets_of (in_extent (grid_of reader.now.numbering.now.grid.now) s)
-        → result ≡ found_of (element (elements_of file.now reader.now) pos s) }
-{
-    if reached? {
-        read_inside_element(file, pos, reader)
-    } else {
-        Ok(None)
+    if !reader.reach(&mut offsets, slot)? {
+        return Ok(None);
     }
+    read_entry(file, pos, &sized, address.value)
 }
 
-// The element at pos of a slot that lies in the present extents, where the size of elements has passed its test.
+// The element at pos of a slot that lies in the present extents.
 #[inline(always)]
 pub fn read_inside_element(
     file: &[u8],
     pos: usize,
-    reader: &ElementReader,
+    sized: &SizedReader,
 ) -> Result<Option<Entry>, Refusal>
-    requires { (element_size_test reader.now.form ≡ Ok tt) × (pos + stride reader.now.form ≤ length file.now) }
-    ensures { (s : ℕ) → offsets_of (in_extent (grid_of reader.now.numbering.now.grid.now) s) ≡ Ok true
-        → result ≡ found_of (element (elements_of file.now reader.now) pos s) }
+    requires { pos + stride sized.now.reader.form ≤ length file.now }
+    ensures { (s : ℕ) → offsets_of (in_extent (grid_of sized.now.reader.numbering.now.grid.now) s) ≡ Ok true
+        → result ≡ found_of (element (elements_of file.now sized.now.reader) pos s) }
 {
-    let width = reader.form.offset_size;
+    let width = sized.reader.form.offset_size;
     let address = read_address(file, pos, width as usize);
     if is_undefined_addr(address, width) {
         return Ok(None);
     }
-    read_entry(file, pos, reader, address.value)
+    read_entry(file, pos, sized, address.value)
 }
 
 // The entry at pos, whose address is read: 29, then 30. Filtered, its size and its mask lie behind the address.
 fn read_entry(
     file: &[u8],
     pos: usize,
-    reader: &ElementReader,
+    sized: &SizedReader,
     address: u64,
 ) -> Result<Option<Entry>, Refusal>
-    requires { (element_size_test reader.now.form ≡ Ok tt) × (pos + stride reader.now.form ≤ length file.now)
-        × (address ≡ address_at file.now pos reader.now.form.offset_size) }
-    ensures { (corner : List ℕ) → (let e = elements_of file.now reader.now in
+    requires { (pos + stride sized.now.reader.form ≤ length file.now)
+        × (address ≡ address_at file.now pos sized.now.reader.form.offset_size) }
+    ensures { (corner : List ℕ) → (let e = elements_of file.now sized.now.reader in
         result ≡ found_of (entry_test e pos yields recorded corner (entry_at e pos))) }
 {
-    let form = reader.form;
+    let form = sized.reader.form;
     if !form.is_filtered() {
-        return entry_of(address, reader.chunk_bytes, 0);
+        return entry_of(address, sized.reader.chunk_bytes, 0);
     }
     let width = form.size_bytes();
     if 8 < width {
@@ -101,6 +83,7 @@ fn read_entry(
 }
 
 // The entry of these numbers: 30 where 32 bits don't hold the size.
+#[tactic(auto, using(crate::proofs::Sized::entry_narrow, crate::proofs::Sized::entry_too_wide))]
 fn entry_of(address: u64, size: u64, mask: u32) -> Result<Option<Entry>, Refusal>
     ensures { (corner : List ℕ)
         → result ≡ found_of (size_test size

@@ -1,15 +1,15 @@
 -- Laws of a fixed array's structures and their tests: a structure that has passed lies in the file. Assumes nothing.
 use Prim.Native.Nat.{ℕ, ◌+◌, ◌*◌, ◌^◌, ◌<◌, ◌≤◌}
 use mathlib.Core.Path.{◌≡◌, ◌∙◌}
-use mathlib.Core.Bool.{cond}
-use mathlib.Core.List.{List}
+use mathlib.Core.Bool.{true, false, cond}
+use native.Mathlib.Nat.{mul-le-mul_right}
 use native.Mathlib.Omega.{arith}
 use lib.ListN.{length}
 use borrow.Author.Tests.{lt-ltb, le-ltb}
 use Rattle.std.specs.Prelude.{Err, None, Ok, Option, Some}
 use Rattle.refusal.specs.declared.Refusal.TheVariants.{SpanOverflow}
 use Rattle.refusal.specs.Refusals.{figure, largest64, Outcome}
-use Rattle.refusal.proofs.Tests.{refuse_false, refuse_true, then_first, then_second, then_inv}
+use Rattle.refusal.proofs.Tests.{by_cond, refuse_false, refuse_true, then_first, then_second, then_inv}
 use Rattle.structures.specs.declared.Kind.TheVariants.{Page}
 use Rattle.structures.specs.Structures.{structure_test}
 use Rattle.structures.specs.PageBits.{bit_bytes}
@@ -17,12 +17,10 @@ use Rattle.structures.specs.Entered.{entered}
 use Rattle.structures.proofs.Entering.{entered_where}
 use Rattle.structures.proofs.StructureTests.{structure_inside, figures_structure}
 use Rattle.element_form.specs.Form.{room_test}
-use Rattle.fa_geometry.specs.declared.FixedArray.{FixedArray as ArrayValue}
-use Rattle.fa_geometry.specs.Bounded.{Served}
-use Rattle.fa_geometry.specs.Layout.{fixed_form, fixed_pages, fixed_prefix, fixed_head_extent, fixed_page_stride, fixed_page_extent, fixed_tested_extent}
+use Rattle.fa_geometry.specs.Layout.{fixed_form, fixed_stride, is_paged, fixed_pages, fixed_prefix, fixed_element_at, fixed_block_extent, fixed_head_extent, fixed_page_stride, fixed_page_extent, fixed_tested_extent}
 use Rattle.fa_blocks.specs.FixedArray.{FixedArray, fixed_block_at}
 use Rattle.fa_blocks.specs.Blocks.{fixed_block_test, fixed_page_set, fixed_page_test, fixed_page_position}
-use Rattle.fa_blocks.specs.Values.{fixed_of, BlockInFile, PageInBlock, EnteredFixedPage}
+use Rattle.fa_blocks.specs.Values.{BlockInside, EnteredFixedPage}
 
 module _ (a : FixedArray) where
   -- a data block that has passed its test has room in its elements, ..
@@ -31,9 +29,30 @@ module _ (a : FixedArray) where
   block_room t = (then_inv _ _ (then_inv _ _ (then_inv _ _ t).1).1).0
 
   -- .. and what its test covers lies in the file
-  pub block_inside : fixed_block_test a ≡ Ok tt → fixed_block_at a + fixed_tested_extent a.header a.offset_size ≤ length a.file
+  pub block_inside : fixed_block_test a ≡ Ok tt → BlockInside a
   unfolding fixed_block_test
-  block_inside t = structure_inside _ _ _ _ _ (then_inv _ _ (then_inv _ _ (then_inv _ _ t).1).1).1
+  block_inside t = record { tested = structure_inside _ _ _ _ _ (then_inv _ _ (then_inv _ _ (then_inv _ _ t).1).1).1 }
+
+  module _ (inside : BlockInside a) where
+    -- so do the bytes before its elements or page bits, whose number is given as it is
+    pub prefix_inside : fixed_block_at a + fixed_prefix a.offset_size ≤ length a.file
+    unfolding fixed_tested_extent fixed_block_extent fixed_head_extent fixed_element_at
+    prefix_inside =
+        by_cond (λ (n : ℕ). fixed_block_at a + n ≤ length a.file → fixed_block_at a + fixed_prefix a.offset_size ≤ length a.file) (is_paged a.header)
+        (λ e le. omega arith) (λ e le. omega arith) inside.tested
+
+    -- the head of a paged data block lies in the file, with its page bits, ..
+    pub head_inside : is_paged a.header ≡ true → fixed_block_at a + fixed_prefix a.offset_size + bit_bytes (fixed_pages a.header) + 4 ≤ length a.file
+    unfolding fixed_tested_extent fixed_head_extent
+    head_inside paged = let k = rw paged at inside.tested in omega arith
+
+    -- .. and an unpaged one with all of its elements
+    pub unpaged_inside : is_paged a.header ≡ false → (s : ℕ) → s ≤ a.header.num_elements
+        → fixed_block_at a + fixed_prefix a.offset_size + s * fixed_stride a.header a.offset_size + 4 ≤ length a.file
+    unfolding fixed_tested_extent fixed_block_extent fixed_element_at
+    unpaged_inside unpaged s le =
+        let k = rw unpaged at inside.tested in
+        let m = mul-le-mul_right {m = s} {n = a.header.num_elements} (fixed_stride a.header a.offset_size) le in omega arith
 
   module _ (p : ℕ) where
     -- a page that has passed its test lies in the file, ..
@@ -67,13 +86,3 @@ module _ (a : FixedArray) where
     -- a page that was stepped into lies in the file
     pub entered_inside : (at : ℕ) → EnteredFixedPage a p (Ok (Some at)) → at + fixed_page_extent a.header a.offset_size p ≤ length a.file
     entered_inside at e = rw e.2 (page_inside e.1)
-
-module _ (file : List ℕ) (a : ArrayValue) where
-  pub block_in_file : Served a → fixed_block_test (fixed_of file a) ≡ Ok tt → BlockInFile file a
-  block_in_file s t = record { served = s; inside = block_inside (fixed_of file a) t }
-
-  -- the head of a paged data block lies in the file, with its page bits
-  pub head_inside : (p : ℕ) → PageInBlock file a p
-      → a.header.data_block_address + fixed_prefix a.offset_size + bit_bytes (fixed_pages a.header) + 4 ≤ length file
-  unfolding fixed_tested_extent fixed_head_extent
-  head_inside p i = let k = rw i.paged at i.block.inside in omega arith

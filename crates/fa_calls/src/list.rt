@@ -18,6 +18,7 @@ use walked_index::list::list_chunks;
 // Lists the chunks of a dataset: one record for each, in slot order, from the start of the lent list on. `header` is
 // the header of its index, element_bytes the bytes of one of its elements. A list that is too small, like every other
 // refusal, is left as it was.
+#[tactic(auto, unfolding(fa_walk::specs::Walk::fixed_list))]
 pub fn read_fixed_array_chunks(
     file: &[u8],
     header: FixedArrayHeader,

@@ -16,6 +16,7 @@ use walked_index::lookup::lookup_chunk;
 
 // Looks up the chunk at a corner. Its refusals come in this order: 3 to 8 of the grid, 10 of the corner, 27 of the
 // header and, for a slot below the entries, those of the data block, of its page and of its element.
+#[tactic(auto, unfolding(fa_walk::specs::Walk::fixed_list, fa_walk::specs::Walk::fixed_lookup))]
 pub fn lookup_fixed_chunk(
     file: &[u8],
     header: FixedArrayHeader,

@@ -1,11 +1,11 @@
 -- The pages of a fixed array: which slots each has, and where their elements lie. Assumes nothing.
-use Prim.Native.Nat.{ℕ, ◌+◌, ◌-◌, ◌*◌, ◌/◌, ◌%◌, ◌^◌, ◌<◌, ◌≤◌}
+use Prim.Native.Nat.{ℕ, ◌+◌, ◌-◌, ◌*◌, ◌/◌, ◌%◌, ◌<◌, ◌≤◌}
 use mathlib.Core.Path.{◌≡◌}
 use mathlib.Core.Bool.{true, false}
 use native.Mathlib.Omega.{arith}
 use native.Mathlib.Nat.{mul-le-mul_left, div-lt_iff_lt-mul, le-div_iff_mul-le, div-mul-le_self}
 use lib.Arith.{digits_div, digits_mod}
-use lib.Pow.{pow_pos, pow_mono}
+use lib.Pow.{pow_pos}
 use Rattle.chunk_grid.specs.Grid.{ceil_div}
 use Rattle.fa_header.specs.declared.FixedArrayHeader.{FixedArrayHeader}
 use Rattle.fa_geometry.specs.Layout.{fixed_stride, fixed_page_elements, is_paged, fixed_pages, fixed_element_at, fixed_page_at, page_entries, page_of_slot, fixed_place}
@@ -31,10 +31,6 @@ module _ (h : FixedArrayHeader) where
   pub page_pos : 0 < fixed_page_elements h
   unfolding fixed_page_elements
   page_pos = pow_pos h.max_nelmts_bits
-
-  pub page_few : h.max_nelmts_bits ≤ 32 → fixed_page_elements h ≤ 2 ^ 32
-  unfolding fixed_page_elements
-  page_few le = pow_mono {i = h.max_nelmts_bits} {j = 32} le
 
   -- the pages hold all entries, ..
   pub pages_hold : h.num_elements ≤ fixed_pages h * fixed_page_elements h

@@ -3,8 +3,7 @@
 use Prim.{tt}
 use Prim.Native.Nat.{ℕ, ◌+◌, ◌-◌, ◌*◌, ◌<◌, ◌≤◌, min}
 use mathlib.Core.Path.{◌≡◌, refl, sym, ap, ◌∙◌}
-use mathlib.Core.Bool.{true}
-use mathlib.Core.List.{List, []}
+use mathlib.Core.List.{[]}
 use mathlib.Core.Logic.{⊎_elim}
 use native.Mathlib.Omega.{arith}
 use lib.ListN.{length}
@@ -13,7 +12,7 @@ use Rattle.refusal.specs.Refusals.{Outcome}
 use Rattle.refusal.specs.declared.Refusal.{Refusal}
 use Rattle.refusal.specs.Values.{plus, counted_of}
 use Rattle.refusal.proofs.Tests.{lt_or_ge}
-use Rattle.refusal.proofs.Counts.{plus_none, plus_zero, counted_inv}
+use Rattle.refusal.proofs.Counts.{plus_none, plus_zero}
 use Rattle.structures.specs.declared.enter.Ahead.{Ahead}
 use Rattle.structures.specs.Entered.{TestedBy}
 use Rattle.index.specs.Index.{Listing}
@@ -22,39 +21,34 @@ use Rattle.element_form.specs.Form.{stride}
 use Rattle.elements.specs.Elements.{Elements}
 use Rattle.elements.specs.Runs.{elements_from, pages_from}
 use Rattle.elements.specs.Values.{elements_of}
-use Rattle.elements.proofs.Runs.{run_count, run_refused, run_clamp, run_length}
+use Rattle.elements.proofs.Runs.{run_count, run_refused, run_clamp, count_few}
 use Rattle.elements.proofs.Pages.{pages_none, pages_clear, pages_refused, pages_last, pages_set}
 use Rattle.fa_header.specs.declared.FixedArrayHeader.{FixedArrayHeader}
-use Rattle.fa_geometry.specs.declared.FixedArray.{FixedArray as ArrayValue}
-use Rattle.fa_geometry.specs.Layout.{fixed_page_elements, is_paged, fixed_pages, page_entries}
+use Rattle.fa_geometry.specs.Layout.{fixed_page_elements, fixed_pages, page_entries}
 use Rattle.fa_geometry.proofs.Pages.{page_before}
+use Rattle.fa_blocks.specs.declared.PagedBlock.{PagedBlock}
 use Rattle.fa_blocks.specs.FixedArray.{FixedArray}
 use Rattle.fa_blocks.specs.Blocks.{fixed_page_test, fixed_page_position, fixed_pages_of}
-use Rattle.fa_blocks.specs.Values.{fixed_of, BlockInFile, EnteredFixedPage}
+use Rattle.fa_blocks.specs.Values.{fixed_in, EnteredFixedPage}
 use Rattle.fa_walk.proofs.Room.{entries_inside}
 use Rattle.fa_index.specs.Given.{ReadsAll}
 
--- a run counts no more records than it has elements
-count_few : (es : Elements) (pos j s m : ℕ) → Ok m ≡ counted_of (elements_from es pos j s (Ok [])) → m ≤ j
-count_few es pos j s m e = let i = counted_inv _ m e in let n = run_length es pos j s i.0 i.1 in omega (arith, i.2)
-
 -- what the pages are counted with: the function's parameters, and what it computes of them before its loop
 pub record Setting : Type 0 where
-  pub file : List ℕ
-  pub array : ArrayValue
+  pub block : PagedBlock
   pub reader : ElementReader
   pub pages : ℕ
   pub page : ℕ
 
 module _ (w : Setting) where
   abbrev a : FixedArray
-  a = fixed_of w.file w.array
+  a = fixed_in w.block.array
 
   abbrev h : FixedArrayHeader
-  h = w.array.header
+  h = w.block.array.layout.array.header
 
   abbrev es : Elements
-  es = elements_of w.file w.reader
+  es = elements_of w.block.array.file.now w.reader
 
   -- the walk from page p on, and the whole
   abbrev left : ℕ → Listing
@@ -73,9 +67,7 @@ module _ (w : Setting) where
 
   -- what doesn't change
   pub record Fixed : Type 0 where
-    pub by : ReadsAll w.array w.reader
-    pub block : BlockInFile w.file w.array
-    pub paged : is_paged h ≡ true
+    pub by : ReadsAll w.block.array.layout.array w.reader
     pub pages_are : w.pages ≡ fixed_pages h
     pub page_is : w.page ≡ fixed_page_elements h
 
@@ -139,7 +131,7 @@ module _ (w : Setting) where
 
       -- it has passed its test
       module _ {pos entries : ℕ} (e : EnteredFixedPage a p (Ok (Some pos))) (are : entries ≡ page_entries h p) where
-        pub page_run : pos + entries * stride w.reader.form ≤ length w.file
+        pub page_run : pos + entries * stride w.reader.form ≤ length w.block.array.file.now
         page_run = rw (← i.fixed.by.formed, are, e.2) (entries_inside a p e.1)
 
         -- where the count ends in it, it is the last

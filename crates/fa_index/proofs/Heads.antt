@@ -1,7 +1,7 @@
 -- What the walk of a fixed array comes to, by its tests, and whether its data block is stored and paged. Assumes
 -- nothing.
-use Prim.Native.Nat.{ℕ, ◌+◌}
-use mathlib.Core.Path.{◌≡◌, refl}
+use Prim.Native.Nat.{ℕ}
+use mathlib.Core.Path.{◌≡◌, refl, ◌∙◌}
 use mathlib.Core.Bool.{true, false}
 use mathlib.Core.List.{[]}
 use Rattle.std.specs.Prelude.{Err, Ok}
@@ -11,10 +11,11 @@ use Rattle.refusal.specs.Values.{counted_of}
 use Rattle.elements.specs.Elements.{Elements}
 use Rattle.elements.specs.Runs.{elements_from, pages_from}
 use Rattle.fa_header.specs.Served.{fixed_served_test}
-use Rattle.fa_geometry.specs.Layout.{is_paged, fixed_pages, fixed_element_at}
-use Rattle.fa_blocks.specs.FixedArray.{FixedArray, fixed_block_at, never_stored}
-use Rattle.fa_blocks.specs.Blocks.{fixed_block_test, fixed_pages_of}
+use Rattle.fa_geometry.specs.Layout.{is_paged, fixed_pages}
+use Rattle.fa_blocks.specs.FixedArray.{FixedArray, never_stored}
+use Rattle.fa_blocks.specs.Blocks.{fixed_block_test, fixed_pages_of, fixed_position}
 use Rattle.fa_walk.specs.Walk.{fixed_in_block, fixed_walk}
+use Rattle.fa_index.proofs.Positions.{first_is}
 
 module _ (a : FixedArray) (e : Elements) where
   pub walk_unserved : (r : Refusal) → fixed_served_test a.header ≡ Err r → Err r ≡ counted_of (fixed_walk a e)
@@ -36,7 +37,7 @@ module _ (a : FixedArray) (e : Elements) where
         unfolding fixed_in_block fixed_walk ◌yields◌
         walk_paged q = rw (v, n, t, q) refl
 
-        pub walk_unpaged : is_paged a.header ≡ false → (pos : ℕ) → pos ≡ fixed_block_at a + fixed_element_at a.header a.offset_size 0
+        pub walk_unpaged : is_paged a.header ≡ false → (pos : ℕ) → pos ≡ fixed_position a 0
             → counted_of (elements_from e pos a.header.num_elements 0 (Ok [])) ≡ counted_of (fixed_walk a e)
         unfolding fixed_in_block fixed_walk ◌yields◌
-        walk_unpaged q pos p = rw (v, n, t, q, p) refl
+        walk_unpaged q pos p = rw (v, n, t, q, p ∙ first_is a q) refl

@@ -1,44 +1,37 @@
 -- Where the elements of a fixed array lie whose data block has passed its test, and that they lie in the file: behind
 -- the prefix of an unpaged block, or in the pages that have passed theirs. Assumes nothing.
-use Prim.Native.Nat.{ℕ, ◌+◌, ◌*◌, ◌/◌, ◌%◌, ◌^◌, ◌<◌, ◌≤◌}
-use mathlib.Core.Path.{◌≡◌}
+use Prim.Native.Nat.{ℕ, ◌+◌, ◌*◌, ◌/◌, ◌%◌, ◌<◌, ◌≤◌}
+use mathlib.Core.Path.{◌≡◌, refl}
 use mathlib.Core.Bool.{true, false}
-use mathlib.Core.List.{List}
 use native.Mathlib.Omega.{arith}
 use native.Mathlib.Nat.{mod-lt, div-add-mod', mul-le-mul_right}
 use lib.ListN.{length}
 use Rattle.std.specs.Prelude.{Ok}
-use Rattle.refusal.specs.Refusals.{figure}
 use Rattle.fa_header.specs.declared.FixedArrayHeader.{FixedArrayHeader}
-use Rattle.fa_geometry.specs.declared.FixedArray.{FixedArray as ArrayValue}
-use Rattle.fa_geometry.specs.Layout.{fixed_stride, fixed_page_elements, is_paged, fixed_prefix, fixed_element_at, page_entries, page_of_slot, fixed_place}
-use Rattle.fa_geometry.proofs.Pages.{page_pos, slot_page, unpaged_place}
+use Rattle.fa_geometry.specs.Layout.{fixed_stride, fixed_page_elements, is_paged, fixed_element_at, page_entries, page_of_slot, fixed_place}
+use Rattle.fa_geometry.proofs.Pages.{page_pos, unpaged_place}
 use Rattle.fa_blocks.specs.FixedArray.{FixedArray, fixed_block_at}
 use Rattle.fa_blocks.specs.Blocks.{fixed_block_test, fixed_page_test, fixed_page_position, fixed_position}
-use Rattle.fa_blocks.specs.Values.{PageInBlock}
-use Rattle.fa_blocks.proofs.FixedBlocks.{block_in_file}
 use Rattle.fa_walk.proofs.Room.{elements_inside, entries_inside}
-use Rattle.fa_index.specs.Given.{BlockTested}
 
 -- one of n things of so many bytes each, and what lies before it
 one_inside : (st i n at room : ℕ) → i < n → at + n * st ≤ room → at + i * st + st ≤ room
 one_inside st i n at room lt le = let m = mul-le-mul_right {m = i + 1} {n = n} st (omega arith) in omega arith
 
--- the elements of a data block that is read unpaged, behind a prefix that may be given as 2^64 − 1
-module _ (a : FixedArray) (t : fixed_block_test a ≡ Ok tt) (q : is_paged a.header ≡ false) (small : length a.file < 2 ^ 63)
-    (prefix : ℕ) (e : prefix ≡ figure (fixed_prefix a.offset_size)) where
-  pub first_is : fixed_block_at a + prefix ≡ fixed_block_at a + fixed_element_at a.header a.offset_size 0
-  unfolding figure fixed_element_at
-  first_is = let x = elements_inside a t q in omega arith
+-- the elements of a data block that is read unpaged
+module _ (a : FixedArray) (q : is_paged a.header ≡ false) where
+  pub first_is : fixed_position a 0 ≡ fixed_block_at a + fixed_element_at a.header a.offset_size 0
+  unfolding fixed_position fixed_place
+  first_is = rw q refl
 
-  pub element_at_lem : (s : ℕ) → fixed_position a s ≡ fixed_block_at a + prefix + s * fixed_stride a.header a.offset_size
+  pub element_at_lem : (s : ℕ) → fixed_position a s ≡ fixed_block_at a + fixed_element_at a.header a.offset_size 0 + s * fixed_stride a.header a.offset_size
   unfolding fixed_position
-  element_at_lem s = let x = unpaged_place a.header a.offset_size s q in let y = first_is in omega arith
+  element_at_lem s = let x = unpaged_place a.header a.offset_size s q in omega arith
 
-  pub element_inside : (s : ℕ) → s < a.header.num_elements
-      → fixed_block_at a + prefix + s * fixed_stride a.header a.offset_size + fixed_stride a.header a.offset_size ≤ length a.file
-  element_inside s lt =
-      one_inside (fixed_stride a.header a.offset_size) s a.header.num_elements _ _ lt (rw first_is (elements_inside a t q))
+  pub element_inside : fixed_block_test a ≡ Ok tt → (s : ℕ) → s < a.header.num_elements
+      → fixed_position a s + fixed_stride a.header a.offset_size ≤ length a.file
+  element_inside t s lt =
+      rw (element_at_lem s) (one_inside (fixed_stride a.header a.offset_size) s a.header.num_elements _ _ lt (elements_inside a t q))
 
 -- a slot in its page
 module _ (h : FixedArrayHeader) (s : ℕ) where
@@ -68,8 +61,3 @@ entry_at_lem a s q = rw q (omega arith)
 pub entry_inside : (a : FixedArray) (s : ℕ) → s < a.header.num_elements → fixed_page_test a (page_of a.header s) ≡ Ok tt
     → fixed_page_position a (page_of a.header s) + within a.header s * fixed_stride a.header a.offset_size + fixed_stride a.header a.offset_size ≤ length a.file
 entry_inside a s lt t = one_inside _ (within a.header s) (page_entries a.header (page_of a.header s)) _ _ (within_entries a.header s lt) (entries_inside a _ t)
-
--- the page of an entry is one of the block's
-pub page_in_block : (f : List ℕ) (array : ArrayValue) → BlockTested f array → is_paged array.header ≡ true → (s : ℕ) → s < array.header.num_elements
-    → PageInBlock f array (page_of array.header s)
-page_in_block f array t q s lt = record { block = block_in_file f array t.served t.passed; paged = q; page = slot_page array.header s lt }

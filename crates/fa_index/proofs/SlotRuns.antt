@@ -1,13 +1,10 @@
 -- The run that a slot of a fixed array begins, where the path to it is accepted: by whether the data block is stored,
 -- and whether its page is set. Assumes nothing.
-use Prim.Native.Nat.{ℕ, ◌+◌, ◌-◌, ◌*◌, ◌^◌, ◌<◌}
+use Prim.Native.Nat.{ℕ, ◌+◌, ◌-◌, ◌*◌, ◌<◌}
 use mathlib.Core.Path.{◌≡◌, ap}
 use mathlib.Core.Bool.{true, false}
-use mathlib.Core.List.{List}
 use native.Mathlib.Omega.{arith}
-use lib.ListN.{length}
 use Rattle.std.specs.Prelude.{Ok}
-use Rattle.refusal.specs.Refusals.{figure}
 use Rattle.element_form.specs.Form.{stride}
 use Rattle.elements.specs.Elements.{Elements}
 use Rattle.located.specs.declared.Run.{Run}
@@ -15,50 +12,40 @@ use Rattle.located.specs.declared.Run.TheVariants.{Gap, Elements as Present}
 use Rattle.located.specs.Values.{RunOf}
 use Rattle.located.proofs.Runs.{gap_from, run_from}
 use Rattle.fa_header.specs.declared.FixedArrayHeader.{FixedArrayHeader}
-use Rattle.fa_geometry.specs.declared.FixedArray.{FixedArray as ArrayValue}
-use Rattle.fa_geometry.specs.Layout.{fixed_form, fixed_stride, fixed_page_elements, is_paged, fixed_prefix, page_entries, page_of_slot}
-use Rattle.fa_blocks.specs.FixedArray.{FixedArray, fixed_block_at, never_stored}
-use Rattle.fa_blocks.specs.Blocks.{fixed_page_set, fixed_page_test, fixed_page_position}
-use Rattle.fa_blocks.specs.Values.{fixed_of}
+use Rattle.fa_geometry.specs.Layout.{fixed_form, fixed_stride, fixed_page_elements, is_paged, page_entries, page_of_slot}
+use Rattle.fa_blocks.specs.FixedArray.{FixedArray, never_stored}
+use Rattle.fa_blocks.specs.Blocks.{fixed_page_set, fixed_page_test, fixed_page_position, fixed_position}
 use Rattle.fa_walk.specs.Walk.{fixed_located}
 use Rattle.fa_walk.proofs.Room.{elements_inside, entries_inside}
 use Rattle.fa_walk.proofs.Paths.{never_stored_lem}
 use Rattle.fa_walk.proofs.Passed.{block_passed, page_passed}
 use Rattle.fa_walk.proofs.Slots.{block_slots_lem, clear_slot, set_slot}
-use Rattle.fa_index.specs.Given.{BlockTested, TestedTo}
-use Rattle.fa_index.proofs.Positions.{first_is, page_of, within, slot_is, within_entries}
+use Rattle.fa_index.specs.Given.{TestedTo}
+use Rattle.fa_index.proofs.Positions.{element_at_lem, page_of, within, slot_is, within_entries}
 
-module _ (f : List ℕ) (array : ArrayValue) (s : ℕ) (t : TestedTo f array s) where
-  abbrev a : FixedArray
-  a = fixed_of f array
-
+module _ (a : FixedArray) (s : ℕ) (t : TestedTo a s) where
   abbrev h : FixedArrayHeader
-  h = array.header
+  h = a.header
 
   abbrev st : ℕ
-  st = fixed_stride array.header array.offset_size
+  st = fixed_stride a.header a.offset_size
 
   -- the slots from s on are such a run, whatever elements of the array's form its file holds
   abbrev RunIn : Run → Type 0
-  RunIn run = (e : Elements) → e.file ≡ f → fixed_form array.header array.offset_size ≡ e.form → RunOf (fixed_located a e) s run
+  RunIn run = (e : Elements) → e.file ≡ a.file → fixed_form a.header a.offset_size ≡ e.form → RunOf (fixed_located a e) s run
 
-  pub never_run : never_stored a ≡ true → RunIn (Gap (h.num_elements - s))
+  pub never_run : never_stored a ≡ true → RunIn (Gap (a.header.num_elements - s))
   never_run n = λ e file form. (omega (arith, t.entry), λ i lt. (never_stored_lem a e (s + i) n).reach)
 
-  module _ (n : never_stored (fixed_of f array) ≡ false) where
-    pub tested : BlockTested f array
-    tested = record { served = t.served; stored = n; passed = block_passed a s n t.tests }
-
+  module _ (n : never_stored a ≡ false) where
     -- in a data block that is read unpaged
-    pub block_run : is_paged h ≡ false → length f < 2 ^ 63 → (prefix : ℕ) → prefix ≡ figure (fixed_prefix array.offset_size)
-        → RunIn (Present (fixed_block_at a + prefix + s * st) (h.num_elements - s))
-    block_run q small prefix is = λ e file form.
-        run_from (fixed_located a e) a.file file 0 h.num_elements s s t.entry (omega arith) _ _
-        (let x = first_is a tested.passed q small prefix is in rw (← form) (omega arith))
-        (rw (← form) (elements_inside a tested.passed q)) (λ j lt. block_slots_lem a e form n tested.passed q j)
+    pub block_run : is_paged a.header ≡ false → RunIn (Present (fixed_position a s) (a.header.num_elements - s))
+    block_run q = λ e file form.
+        run_from (fixed_located a e) a.file file 0 a.header.num_elements s s t.entry (omega arith) _ _
+        (rw (← form) (element_at_lem a q s)) (rw (← form) (elements_inside a (block_passed a s n t.tests) q)) (λ j lt. block_slots_lem a e form n (block_passed a s n t.tests) q j)
 
     -- in a page
-    module _ (q : is_paged array.header ≡ true) where
+    module _ (q : is_paged a.header ≡ true) where
       abbrev p : ℕ
       p = page_of h s
 
@@ -69,9 +56,9 @@ module _ (f : List ℕ) (array : ArrayValue) (s : ℕ) (t : TestedTo f array s) 
       pub page_gap : fixed_page_set a p ≡ false → RunIn (Gap (page_entries h p - within h s))
       page_gap b = λ e file form.
           gap_from (fixed_located a e) (p * fixed_page_elements h) (page_entries h p) (within h s) s (within_entries h s t.entry) (slot_is h s)
-          (λ j lt. clear_slot a e form n tested.passed q p j (few j lt) b)
+          (λ j lt. clear_slot a e form n (block_passed a s n t.tests) q p j (few j lt) b)
 
-      module _ (b : fixed_page_set (fixed_of f array) (page_of array.header s) ≡ true) where
+      module _ (b : fixed_page_set a (page_of a.header s) ≡ true) where
         pub page_tested : fixed_page_test a p ≡ Ok tt
         unfolding page_of_slot
         page_tested = page_passed a s n t.tests q b
@@ -80,4 +67,4 @@ module _ (f : List ℕ) (array : ArrayValue) (s : ℕ) (t : TestedTo f array s) 
         page_run = λ e file form.
             run_from (fixed_located a e) a.file file (p * fixed_page_elements h) (page_entries h p) (within h s) s (within_entries h s t.entry) (slot_is h s) _ _
             (ap (λ (n : ℕ). fixed_page_position a p + within h s * n) (ap stride form)) (rw (← form) (entries_inside a p page_tested))
-            (λ j lt. set_slot a e form n tested.passed q p j (few j lt) b page_tested)
+            (λ j lt. set_slot a e form n (block_passed a s n t.tests) q p j (few j lt) b page_tested)

@@ -1,59 +1,60 @@
 // The walk of a fixed array that tests and counts.
-ghost use Rattle.std.specs.Prelude.{◌≡◌, true, [], ℕ, Ok};
+ghost use Rattle.std.specs.Prelude.{◌≡◌, [], Ok};
 ghost use Rattle.refusal.specs.Values.{counted_of};
-ghost use Rattle.chunk_grid.specs.Grid.{Grid};
 ghost use Rattle.elements.specs.Runs.{pages_from};
 ghost use Rattle.elements.specs.Values.{elements_of};
-ghost use Rattle.fa_geometry.specs.Layout.{is_paged, fixed_pages};
+ghost use Rattle.fa_geometry.specs.Layout.{fixed_pages};
 ghost use Rattle.fa_blocks.specs.Blocks.{fixed_pages_of};
-ghost use Rattle.fa_blocks.specs.Values.{fixed_of, BlockInFile};
+ghost use Rattle.fa_blocks.specs.Values.{fixed_of, fixed_in};
 ghost use Rattle.fa_walk.specs.Walk.{fixed_walk};
 ghost use Rattle.fa_index.specs.Given.{ReadsAll};
 
 use element_runs::count::count_elements;
 use elements::ElementReader;
-use fa_blocks::enter::enter_page_in_turn;
-use fa_blocks::{never_stored, test_block};
-use fa_geometry::FixedArray;
+use fa_blocks::{ArrayInFile, PagedBlock, UnpagedBlock, never_stored};
+use fa_geometry::{FixedArray, Layout};
 use refusal::Refusal;
 
 // Tests the structures of an array in slot order, and counts the records of its elements.
+#[tactic(auto, using(fa_header::proofs::Served::tested_serves))]
 pub fn count_walk(file: &[u8], array: FixedArray, reader: &ElementReader) -> Result<u64, Refusal>
     requires { ReadsAll array reader.now }
     ensures { result ≡ counted_of (fixed_walk (fixed_of file.now array) (elements_of file.now reader.now)) }
 {
     array.header.served_test()?;
+    let layout = Layout { array };
     if never_stored(array) {
         return Ok(0);
     }
-    test_block(file, array)?;
-    if array.is_paged() {
-        return count_pages(file, array, reader);
+    let stored = ArrayInFile { file, layout };
+    stored.test_block()?;
+    if layout.is_paged() {
+        return count_pages(PagedBlock { array: stored }, reader);
     }
-    let pos = array.header.data_block_address + array.prefix();
-    let entries = array.header.num_elements;
-    count_elements(file, pos, entries, 0, reader)
+    let pos = UnpagedBlock { array: stored }.element_position(0);
+    count_elements(file, pos, array.header.num_elements, 0, reader)
 }
 
 // The same of the pages of a data block that is tested.
-fn count_pages(file: &[u8], array: FixedArray, reader: &ElementReader) -> Result<u64, Refusal>
-    requires { ReadsAll array reader.now × BlockInFile file.now array × (is_paged array.header ≡ true) }
-    ensures { result ≡ counted_of (pages_from (elements_of file.now reader.now)
-        (fixed_pages_of (fixed_of file.now array)) (fixed_pages array.header) 0 0 (Ok [])) }
+fn count_pages(block: PagedBlock, reader: &ElementReader) -> Result<u64, Refusal>
+    requires { ReadsAll block.array.layout.array reader.now }
+    ensures { let a = fixed_in block.entry.array in result ≡ counted_of (pages_from (elements_of a.file reader.now)
+        (fixed_pages_of a) (fixed_pages a.header) 0 0 (Ok [])) }
 {
-    let pages = array.pages();
-    let page = array.page_elements();
+    let layout = block.array.layout;
+    let pages = layout.pages();
+    let page = layout.page_elements();
     let mut total = 0;
     let mut ahead = None;
     // What is counted, and the walk from page p on, are the whole.
     'pages: for p in 0..pages {
-        let turn = enter_page_in_turn(file, array, p, ahead);
+        let turn = block.enter_page_in_turn(p, ahead);
         ahead = turn.ahead;
         let Some(pos) = turn.found? else {
             continue 'pages;
         };
-        let entries = array.page_entries(p);
-        total += count_elements(file, pos, entries, p * page, reader)?;
+        let entries = layout.page_entries(p);
+        total += count_elements(block.array.file, pos, entries, p * page, reader)?;
     }
     Ok(total)
 }

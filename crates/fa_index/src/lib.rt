@@ -1,10 +1,8 @@
 #![tactic(auto)]
 // A fixed array as an index that is listed and looked up.
-ghost use Rattle.std.specs.Prelude.{◌≡◌, ℕ, refl};
+ghost use Rattle.std.specs.Prelude.{◌≡◌, refl};
 ghost use Rattle.std.proofs.Common.{sym};
 ghost use Rattle.checksum.specs.Lookup3.{lookup3};
-ghost use Rattle.chunk_grid.specs.Grid.{Grid};
-ghost use Rattle.elements.specs.Values.{elements_of};
 ghost use Rattle.fa_header.specs.Header.{fixed_header_at, fixed_header_test};
 ghost use Rattle.fa_header.specs.Served.{fixed_served_test};
 ghost use Rattle.fa_geometry.specs.Layout.{fixed_form};
@@ -15,7 +13,8 @@ ghost use Rattle.fa_index.specs.Given.{indexed};
 
 use element_form::Form;
 use elements::ElementReader;
-use fa_geometry::FixedArray;
+use fa_blocks::ArrayInFile;
+use fa_geometry::{FixedArray, Layout};
 use fa_header::FixedArrayHeader;
 use located::Run;
 use refusal::Refusal;
@@ -73,12 +72,16 @@ impl WalkedIndex for FixedIndex {
         count::count_walk(file, self.array, reader)
     }
 
+    #[tactic(auto, using(crate::proofs::Walked::walked_tested))]
     fn run_of(self, file: &[u8], slot: u64) -> Run {
-        runs::run_of(file, self.array, slot)
+        let layout = Layout { array: self.array };
+        runs::run_of(ArrayInFile { file, layout }, slot)
     }
 
+    #[tactic(auto, using(fa_header::proofs::Served::tested_serves))]
     fn path_of(self, file: &[u8], slot: u64) -> Result<Option<u64>, Refusal> {
-        paths::path_of(file, self.array, slot)
+        let layout = Layout { array: self.array };
+        paths::path_of(ArrayInFile { file, layout }, slot)
     }
 
     ghost elements_are = { λ i f e. refl };
@@ -93,6 +96,7 @@ impl HeadedIndex for FixedIndex {
 
     ghost headed = { λ f address o l. indexed (fixed_header_at f address o l) o };
 
+    #[tactic(auto, using(refusal::proofs::Outcomes::value_is, refusal::proofs::Outcomes::refused_is))]
     fn read(
         file: &[u8],
         address: u64,

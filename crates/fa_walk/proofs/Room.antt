@@ -5,17 +5,17 @@ use mathlib.Core.Bool.{false}
 use native.Mathlib.Omega.{arith}
 use lib.ListN.{length}
 use Rattle.std.specs.Prelude.{Ok}
-use Rattle.fa_geometry.specs.Layout.{fixed_stride, is_paged, fixed_element_at, fixed_block_extent, page_entries, fixed_page_extent, fixed_tested_extent}
+use Rattle.fa_geometry.specs.Layout.{fixed_stride, is_paged, fixed_element_at, page_entries, fixed_page_extent}
 use Rattle.fa_blocks.specs.FixedArray.{FixedArray, fixed_block_at}
 use Rattle.fa_blocks.specs.Blocks.{fixed_block_test, fixed_page_test, fixed_page_position}
-use Rattle.fa_blocks.proofs.FixedBlocks.{block_inside, page_inside}
+use Rattle.fa_blocks.proofs.FixedBlocks.{block_inside, unpaged_inside, page_inside}
 
 module _ (a : FixedArray) where
   -- those of an unpaged data block
   pub elements_inside : fixed_block_test a ≡ Ok tt → is_paged a.header ≡ false
       → fixed_block_at a + fixed_element_at a.header a.offset_size 0 + a.header.num_elements * fixed_stride a.header a.offset_size ≤ length a.file
-  unfolding fixed_tested_extent fixed_block_extent fixed_element_at
-  elements_inside t q = let x = block_inside a t in let y = rw q at x in omega arith
+  unfolding fixed_element_at
+  elements_inside t q = let x = unpaged_inside a (block_inside a t) q a.header.num_elements (omega arith) in omega arith
 
   -- and of a page
   pub entries_inside : (p : ℕ) → fixed_page_test a p ≡ Ok tt

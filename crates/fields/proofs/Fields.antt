@@ -14,7 +14,7 @@ use Rattle.refusal.specs.Refusals.{figure, largest64}
 use Rattle.refusal.proofs.Outcomes.{value_is, refused_is, yields_passed, yields_refused}
 use Rattle.fields.specs.Fields.{is_width, width_test, in_file, undefined, address_at, undefined_at}
 use Rattle.fields.specs.Values.{field_test, size_field_test, offset_field, optional_offset_field}
-use Rattle.refusal.proofs.Tests.{lt_or_ge, refuse_false, refuse_true, refuse_inv, then_second, then_first, then_inv}
+use Rattle.refusal.proofs.Tests.{lt_or_ge, refuse_false, refuse_true, refuse_inv, then_second, then_first}
 
 module _ (s : List ℕ) (pos len : ℕ) where
   pub in_file_lem : pos + len ≤ length s → Ok tt ≡ in_file s pos len
@@ -41,13 +41,6 @@ module _ (wrong : Refusal) (w : ℕ) where
   pub width_is : width_test wrong w ≡ Ok tt → is_width w ≡ true
   unfolding width_test
   width_is h = not-false (is_width w) (refuse_inv wrong _ h)
-
-  -- a field of such a width that is read lies in the file
-  pub field_is : (s : List ℕ) (pos : ℕ) → Ok tt ≡ field_test wrong s pos w → (pos + w ≤ length s) × (is_width w ≡ true)
-  unfolding field_test
-  field_is s pos h =
-      let b = then_inv (width_test wrong w) (in_file s pos w) (sym h) in
-      (inside s pos w (sym b.1), width_is b.0)
 
 module _ (s : List ℕ) (pos w : ℕ) where
   pub to_eight : w ≤ 8 → in_file s pos w ≡ size_field_test s pos w

@@ -4,8 +4,12 @@ use mathlib.Core.List.{List, ◌++◌, append_assoc}
 use Prim.Native.Nat.{ℕ, zero, suc, ◌+◌, ◌-◌, ◌*◌, ◌/◌, ◌%◌, ◌^◌, ◌<◌, ◌≤◌}
 use native.Mathlib.Nat.{mul-suc, mod-eq_of_lt}
 use native.Mathlib.Omega.{arith}
-use lib.ListN.{length, take, drop, set}
-use lib.Seq.{sets, sets-eq, length-take-le, take_at, drop_at}
+use lib.ListN.{length, take, drop, set, drop_of_length-le}
+use lib.Seq.{sets, sets-eq, length-take-le, take_all, take_at, drop_at}
+use borrow.Rule.Slice.PartMut.{put_mid}
+use Rattle.std.proofs.lemmas.Slice.{put_mid-paste}
+use native.Mathlib.Numerals.{add-one}
+use Rattle.std.proofs.lemmas.List.{append-nil}
 use lib.Pow.{mod-pow-add}
 use Rattle.fields.specs.LittleEndian.{le_value, le_at, le_bytes}
 
@@ -35,17 +39,26 @@ module _ (s : List ℕ) (pos w n : ℕ) (room : pos + w ≤ length s) where
   read_back h = read_back_mod ∙ mod-eq_of_lt h
 
 -- one byte stored: the others go behind it
-pub byte_stored : (s : List ℕ) (pos w i n : ℕ) → i < w
-    → sets (set s (pos + i) (n % 256)) (pos + (i + 1)) (le_bytes (w - (i + 1)) (n / 256)) ≡ sets s (pos + i) (le_bytes (w - i) n)
+pub byte_stored : (s : List ℕ) (w i n : ℕ) → i < w → sets (set s i (n % 256)) (i + 1) (le_bytes (w - (i + 1)) (n / 256)) ≡ sets s i (le_bytes (w - i) n)
 unfolding le_bytes
-byte_stored s pos w i n h =
+byte_stored s w i n h =
     let more : w - i ≡ suc (w - (i + 1)) = omega arith in
-    let next : pos + (i + 1) ≡ suc (pos + i) = omega arith in
-    rw (more, next)
+    rw (more, add-one)
 
 -- no byte left to store
-pub all_stored : (s : List ℕ) (pos w i n : ℕ) → w ≤ i → s ≡ sets s (pos + i) (le_bytes (w - i) n)
+pub all_stored : (s : List ℕ) (w i n : ℕ) → w ≤ i → s ≡ sets s i (le_bytes (w - i) n)
 unfolding le_bytes
-all_stored s pos w i n h =
+all_stored s w i n h =
     let none : w - i ≡ 0 = omega arith in
     rw none
+
+-- bytes that take all of a list
+pub stored_over : (s bytes : List ℕ) → length s ≡ length bytes → sets s 0 bytes ≡ bytes
+stored_over s bytes e = sets-eq bytes s 0 (omega arith) ∙ rw (drop_of_length-le s {i = 0 + length bytes} (omega arith)) (append-nil bytes)
+
+-- .. and a part of it
+pub part_stored : (s bytes : List ℕ) (pos k : ℕ) → pos + k ≤ length s → k ≡ length bytes → put_mid pos k s bytes ≡ sets s pos bytes
+part_stored s bytes pos k room e =
+    rw e
+    (put_mid-paste pos (length bytes) s bytes bytes (length bytes) refl refl refl
+    ∙ rw (take_all (length bytes) bytes (omega arith), sets-eq bytes s pos (omega arith), append_assoc (take pos s) bytes (drop (pos + length bytes) s)))

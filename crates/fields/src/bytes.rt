@@ -2,8 +2,8 @@
 ghost use Rattle.std.specs.Prelude.{◌≡◌, true, ◌+◌, ◌*◌, ◌^◌, ◌<◌, ◌≤◌, length};
 ghost use Rattle.std.proofs.lemmas.List.Edits.{sets};
 ghost use Rattle.fields.specs.LittleEndian.{le_at, le_bytes};
-ghost use Rattle.fields.specs.Fields.{is_width, width_test, in_file, address_at};
-ghost use Rattle.fields.specs.Values.{field_test, offset_field, optional_offset_field, length_field, size_field};
+ghost use Rattle.fields.specs.Fields.{is_width, width_test, offset_size_test, length_size_test, in_file, address_at};
+ghost use Rattle.fields.specs.Values.{offset_field, optional_offset_field, length_field, size_field};
 
 use crate::address::{Address, is_undefined_addr};
 use refusal::Refusal;
@@ -31,30 +31,33 @@ pub fn ensure_len(s: &[u8], pos: u64, needed: u64) -> Result<(), Refusal>
     }
 }
 
-// Tests that an offset or length can be `width` bytes wide: `refusal` where it can't.
-pub fn ensure_width(width: u64, refusal: Refusal) -> Result<(), Refusal>
-    ensures { result ≡ width_test refusal width }
+// Tests the size of offsets: 1 where no offset is so wide.
+pub fn ensure_offset_size(size: u64) -> Result<(), Refusal>
+    ensures { result ≡ offset_size_test size }
 {
-    if is_width(width) {
-        Ok(())
-    } else {
-        Err(refusal)
-    }
+    ensure_width(size, Refusal::OffsetSize(size))
 }
 
-// The tests of an offset or length: its width, then that it lies in s.
-fn ensure_field(s: &[u8], pos: u64, width: u64, refusal: Refusal) -> Result<(), Refusal>
-    ensures { result ≡ field_test refusal s.now pos width }
+// Tests the size of lengths: 2 where no length is so wide.
+pub fn ensure_length_size(size: u64) -> Result<(), Refusal>
+    ensures { result ≡ length_size_test size }
 {
-    ensure_width(width, refusal)?;
-    ensure_len(s, pos, width)
+    ensure_width(size, Refusal::LengthSize(size))
+}
+
+// What both tests share: `wrong` where nothing is so wide.
+pub fn ensure_width(width: u64, wrong: Refusal) -> Result<(), Refusal>
+    ensures { result ≡ width_test wrong width }
+{
+    if is_width(width) { Ok(()) } else { Err(wrong) }
 }
 
 // The address in the `width` bytes of s from pos on: 1 where no offset is so wide, 20 past the end.
 pub fn read_offset(s: &[u8], pos: u64, width: u64) -> Result<u64, Refusal>
     ensures { result ≡ offset_field s.now pos width }
 {
-    ensure_field(s, pos, width, Refusal::OffsetSize(width))?;
+    ensure_offset_size(width)?;
+    ensure_len(s, pos, width)?;
     let address = read_address(s, pos as usize, width as usize);
     Ok(address.value)
 }
@@ -75,7 +78,8 @@ pub fn read_optional_offset(s: &[u8], pos: u64, width: u64) -> Result<Option<u64
 pub fn read_length(s: &[u8], pos: u64, width: u64) -> Result<u64, Refusal>
     ensures { result ≡ length_field s.now pos width }
 {
-    ensure_field(s, pos, width, Refusal::LengthSize(width))?;
+    ensure_length_size(width)?;
+    ensure_len(s, pos, width)?;
     Ok(read_le(s, pos as usize, width as usize))
 }
 
@@ -121,39 +125,43 @@ fn read_le_bytes(s: &[u8], pos: usize, width: usize) -> u64
     ensures { (result ≡ le_at s.now pos width) × (result < 2 ^ (8 * width)) }
 {
     let mut v = 0u64;
-    // v is the number in the bytes from pos + i to pos + width.
-    for i in (0..width).rev() {
-        v = v * 256 + u64::from(s[pos + i]);
+    // v is the number in the bytes behind those that are left.
+    for byte in s[pos..pos + width].iter().rev() {
+        v = v * 256 + u64::from(*byte);
     }
     v
 }
 
-// The number in the 2 bytes of s from pos on. (This and the next two are written as sums, which compile to one load.)
+// The number in the 2 bytes of s from pos on. (In this and the next two the bytes are listed: from an array that is
+// made of a part of s, they would be tested once more.)
 fn read_u16_le(s: &[u8], pos: usize) -> u16
     requires { pos + 2 ≤ length s.now }
     ensures { result ≡ le_at s.now pos 2 }
 {
-    let low = u16::from(s[pos]);
-    let high = u16::from(s[pos + 1]);
-    low + 0x100 * high
+    u16::from_le_bytes([s[pos], s[pos + 1]])
 }
 
 pub fn read_u32_le(s: &[u8], pos: usize) -> u32
     requires { pos + 4 ≤ length s.now }
     ensures { result ≡ le_at s.now pos 4 }
 {
-    let low = u32::from(read_u16_le(s, pos));
-    let high = u32::from(read_u16_le(s, pos + 2));
-    low + 0x1_0000 * high
+    u32::from_le_bytes([s[pos], s[pos + 1], s[pos + 2], s[pos + 3]])
 }
 
 pub fn read_u64_le(s: &[u8], pos: usize) -> u64
     requires { pos + 8 ≤ length s.now }
     ensures { result ≡ le_at s.now pos 8 }
 {
-    let low = u64::from(read_u32_le(s, pos));
-    let high = u64::from(read_u32_le(s, pos + 4));
-    low + 0x1_0000_0000 * high
+    u64::from_le_bytes([
+        s[pos],
+        s[pos + 1],
+        s[pos + 2],
+        s[pos + 3],
+        s[pos + 4],
+        s[pos + 5],
+        s[pos + 6],
+        s[pos + 7],
+    ])
 }
 
 // The number in the 4 bytes of s from pos on, where s may end before: a byte that is not there counts as 0.
@@ -177,9 +185,9 @@ pub fn put_le(s: &mut [u8], pos: usize, width: usize, value: u64)
     ensures { s.new ≡ sets s.old pos (le_bytes width value) }
 {
     let mut rest = value;
-    // The lowest i bytes are stored, and `rest` is the number without them.
-    for i in 0..width {
-        s[pos + i] = (rest % 256) as u8;
+    // The lowest bytes are stored in front of those that are left, and `rest` is the number without them.
+    for byte in s[pos..pos + width].iter_mut() {
+        *byte = (rest % 256) as u8;
         rest /= 256;
     }
 }

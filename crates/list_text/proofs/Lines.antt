@@ -1,10 +1,11 @@
 -- Laws of the texts of numbers and of records. Assumes nothing.
-use mathlib.Core.Path.{◌≡◌, refl, ap}
+use mathlib.Core.Path.{◌≡◌, refl, sym, ap, ◌∙◌}
 use mathlib.Core.List.{List, [], ◌∷◌, ◌++◌, append_assoc, append-nil}
-use Prim.Native.Nat.{ℕ, zero, suc, ◌+◌, ◌-◌, ◌*◌, ◌≤◌, ◌<◌}
+use Prim.Native.Nat.{ℕ, zero, suc, ◌+◌, ◌-◌, ◌*◌, ◌/◌, ◌≤◌, ◌<◌}
 use native.Mathlib.Omega.{arith}
-use lib.ListN.{length, drop}
-use lib.Seq.{drop-drop}
+use lib.ListN.{length, take, drop, length-append, length-take, length-drop}
+use lib.Seq.{drop-drop, drop-append_seam}
+use Rattle.std.proofs.lemmas.List.{take-append-le, take-append-drop}
 use Rattle.fields.specs.LittleEndian.{le_at}
 use Rattle.shapes.specs.Shapes.{numbers_in}
 use Rattle.records.specs.Records.{record_length}
@@ -16,23 +17,37 @@ at_part : (s : List ℕ) (from pos w : ℕ) → le_at (drop from s) pos w ≡ le
 unfolding le_at
 at_part s from pos w = rw (drop-drop pos from s) refl
 
--- numbers behind spaces, one by one
-module _ (s : List ℕ) (from n i : ℕ) where
-  pub offsets_on : i < n → spaced (numbers_in (n - i) (drop (from + 8 * i) s))
-      ≡ (32 ∷ decimal (le_at s (from + 8 * i) 8)) ++ spaced (numbers_in (n - (i + 1)) (drop (from + 8 * (i + 1)) s))
-  unfolding numbers_in spaced
-  offsets_on h =
-      let more : n - i ≡ suc (n - (i + 1)) = omega arith in
-      let next : from + 8 * i + 8 ≡ from + 8 * (i + 1) = omega arith in
-      let here : from + 8 * i + 0 ≡ from + 8 * i = omega arith in
-      let first = at_part s (from + 8 * i) 0 8 in
-      rw (more, drop-drop 8 (from + 8 * i) s, next, first, here) refl
+-- the number that a list of 8 bytes begins with, whatever follows it
+at_front : (x l : List ℕ) → length x ≡ 8 → le_at (x ++ l) 0 8 ≡ le_at x 0 8
+unfolding le_at
+at_front x l h = rw (take-append-le 8 x l (omega (arith, h))) refl
 
-  pub offsets_end : n ≤ i → spaced (numbers_in (n - i) (drop (from + 8 * i) s)) ≡ []
-  unfolding numbers_in spaced
-  offsets_end h =
-      let none : n - i ≡ 0 = omega arith in
-      rw none refl
+-- n numbers, as the part of a list that holds them, with what comes behind it
+pub offsets_first : (l : List ℕ) (from n : ℕ) → from + 8 * n ≤ length l → (s : List ℕ) → s ≡ take (from + 8 * n - from) (drop from l)
+    → (length s / 8 ≡ n) × (s ++ drop (from + 8 * n) l ≡ drop from l)
+offsets_first l from n h s e =
+    let wide : from + 8 * n - from ≡ 8 * n = omega arith in
+    let part : s ≡ take (8 * n) (drop from l) = rw wide at e in
+    let long : length s ≡ 8 * n = rw (part, length-take, length-drop) (omega arith) in
+    (omega arith, rw part (rw (← drop-drop (8 * n) from l) (take-append-drop (8 * n) (drop from l))))
+
+-- the next of the numbers in s, behind a space
+pub offsets_on : (s x rest tail : List ℕ) → s ≡ x ++ rest → length x ≡ 8
+    → (length s / 8 ≡ suc (length rest / 8))
+    × (spaced (numbers_in (length s / 8) (s ++ tail)) ≡ (32 ∷ decimal (le_at x 0 8)) ++ spaced (numbers_in (length rest / 8) (rest ++ tail)))
+unfolding numbers_in spaced
+offsets_on s x rest tail e k =
+    let long : length s ≡ length x + length rest = ap length e ∙ length-append x rest in
+    let more : length s / 8 ≡ suc (length rest / 8) = omega arith in
+    let parts : s ++ tail ≡ x ++ (rest ++ tail) = ap (λ t. t ++ tail) e ∙ append_assoc x rest tail in
+    let behind : drop 8 (x ++ (rest ++ tail)) ≡ rest ++ tail = ap (λ n. drop n (x ++ (rest ++ tail))) (sym k) ∙ drop-append_seam x (rest ++ tail) in
+    (more, rw (more, parts, behind, at_front x (rest ++ tail) k) refl)
+
+pub offsets_end : (s tail : List ℕ) → length s < 8 → (length s / 8 ≡ 0) × (spaced (numbers_in (length s / 8) (s ++ tail)) ≡ [])
+unfolding numbers_in spaced
+offsets_end s tail h =
+    let none : length s / 8 ≡ 0 = omega arith in
+    (none, rw none refl)
 
 -- a record's line, part by part
 pub record_parts : (s : List ℕ) (from rank : ℕ) → decimal (le_at s from 8) ++ ((32 ∷ decimal (le_at s (from + 8) 4)) ++ ((32 ∷ decimal (le_at s (from + 12) 4)) ++ (spaced (numbers_in rank (drop (from + 16) s)) ++ 10 ∷ [])))

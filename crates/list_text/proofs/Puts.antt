@@ -5,9 +5,11 @@ use Prim.Native.Nat.{ℕ, ◌+◌, ◌-◌, ◌≤◌}
 use native.Mathlib.Omega.{arith}
 use borrow.Rule.Slice.PartMut.{put_mid}
 use lib.ListN.{length, take, drop, length-append}
-use lib.Seq.{sets, sets-eq, drop-drop, length-sets}
+use lib.Seq.{sets, sets-eq, drop-drop}
 use Rattle.records.proofs.Records.{sets_append}
 use Rattle.list_text.specs.Printed.{Put}
+use Rattle.list_text.specs.Appended.{Appended}
+use Rattle.list_text.specs.declared.Text.{Text}
 
 -- a text that is copied into the part of a buffer from `at` on
 pub text_put : (out text : List ℕ) (at : ℕ) → at + length text ≤ length out → put_mid at (at + length text - at) out text ≡ sets out at text
@@ -15,35 +17,50 @@ text_put out text at h =
     let wide : at + length text - at ≡ length text = omega arith in
     rw (wide, drop-drop (length text) at out, sets-eq text out at h) (sym (append_assoc (take at out) text (drop (at + length text) out)))
 
-module _ {out : List ℕ} {at : ℕ} {a mid : List ℕ} {next : ℕ} (p : Put out at a mid next) where
+pub put_as : {out : List ℕ} {at : ℕ} {a mid : List ℕ} {next : ℕ} → Put out at a mid next → (b : List ℕ) → a ≡ b → Put out at b mid next
+put_as p b e = rw e at p
+
+module _ {t : Text} {a : List ℕ} {t' : Text} (p : Appended t a t') where
   -- another text behind it
-  pub put_then : {b last : List ℕ} {end : ℕ} → Put mid next b last end → Put out at (a ++ b) last end
-  put_then {b} q = record {
-    ends = omega (arith, length-append a b, p.ends, q.ends);
-    holds = q.holds ∙ rw (p.holds, p.ends) (sym (sets_append out at a b));
-  }
+  pub appended_then : {b : List ℕ} {t'' : Text} → Appended t' b t'' → Appended t (a ++ b) t''
+  appended_then {b} q =
+      let e = p.put in
+      let f = q.put in
+      record {
+        same_reference = q.same_reference ∙ p.same_reference;
+        put = record {
+          ends = omega (arith, length-append a b, e.ends, f.ends);
+          holds = f.holds ∙ rw (e.holds, e.ends) (sym (sets_append t.out.now t.end a b));
+        };
+      }
 
-  pub put_as : (b : List ℕ) → a ≡ b → Put out at b mid next
-  put_as b e = rw e at p
+  pub appended_as : (b : List ℕ) → a ≡ b → Appended t b t'
+  appended_as b e = rw e at p
 
--- While a whole text is put at `at`, its rest goes behind what is put.
-pub record Putting (out₀ : List ℕ) (at : ℕ) (whole out : List ℕ) (now : ℕ) (rest : List ℕ) : Type 0 where
-  pub content : sets out now rest ≡ sets out₀ at whole
-  pub end : now + length rest ≡ at + length whole
-  pub same : length out ≡ length out₀
+  -- what a buffer holds that the text is put into
+  pub put_left : {out : List ℕ} → (t.out.ghost_name ≡ t'.out.ghost_name → out ≡ t'.out.now) → Put t.out.now t.end a out t'.end
+  put_left h = rw (h (sym p.same_reference)) p.put
 
-pub put_none : (out : List ℕ) (at : ℕ) (whole : List ℕ) → Putting out at whole out at whole
-put_none out at whole = record { content = refl; end = refl; same = refl }
+-- While a whole text is put behind what a text has, its rest goes behind what is put.
+pub record Putting (t₀ : Text) (whole : List ℕ) (t : Text) (rest : List ℕ) : Type 0 where
+  pub same_reference : t.out.ghost_name ≡ t₀.out.ghost_name
+  pub content : sets t.out.now t.end rest ≡ sets t₀.out.now t₀.end whole
+  pub ends : t.end + length rest ≡ t₀.end + length whole
 
-module _ {out₀ : List ℕ} {at : ℕ} {whole out : List ℕ} {now : ℕ} where
+pub put_none : (t : Text) (whole : List ℕ) → Putting t whole t whole
+put_none t whole = record { same_reference = refl; content = refl; ends = refl }
+
+module _ {t₀ : Text} {whole : List ℕ} {t : Text} where
   -- the next part is put
-  pub put_more : {part rest out' : List ℕ} {next : ℕ} → Putting out₀ at whole out now (part ++ rest) → Put out now part out' next → Putting out₀ at whole out' next rest
-  put_more {part} {rest} p q = record {
-    content = rw (q.holds, q.ends) (sym (sets_append out now part rest) ∙ p.content);
-    end = omega (arith, length-append part rest, q.ends, p.end);
-    same = rw q.holds (length-sets out now part ∙ p.same);
-  }
+  pub put_more : {part rest : List ℕ} {t' : Text} → Putting t₀ whole t (part ++ rest) → Appended t part t' → Putting t₀ whole t' rest
+  put_more {part} {rest} p q =
+      let f = q.put in
+      record {
+        same_reference = q.same_reference ∙ p.same_reference;
+        content = rw (f.holds, f.ends) (sym (sets_append t.out.now t.end part rest) ∙ p.content);
+        ends = omega (arith, length-append part rest, f.ends, p.ends);
+      }
 
   -- nothing is left
-  pub put_all : Putting out₀ at whole out now [] → Put out₀ at whole out now
-  put_all p = record { ends = omega (arith, p.end); holds = p.content }
+  pub put_all : Putting t₀ whole t [] → Appended t₀ whole t
+  put_all p = record { same_reference = p.same_reference; put = record { ends = omega (arith, p.ends); holds = p.content } }

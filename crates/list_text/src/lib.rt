@@ -10,6 +10,7 @@ use fields::bytes::{read_u32_le, read_u64_le};
 use refusal::Refusal;
 
 // Stores a text from `at` on, and answers where it ends.
+#[tactic(auto, using(crate::proofs::Puts::text_put))]
 pub fn put_text(out: &mut [u8], at: usize, text: &[u8]) -> usize
     requires { at + length text.now ≤ length out.old }
     ensures { Put out.old at text.now out.new result }
@@ -24,82 +25,97 @@ fn store_digits(digits: &mut [u8; 20], n: u64) -> usize
     ensures in_bounds { result ≤ 20 }
     ensures digits { drop result digits.new ≡ decimal n }
 {
-    let mut first = 19;
     let mut rest = n;
-    // The digits of n are those of `rest`, the last of which belongs at `first`, and those that are stored behind it.
-    while 9 < rest {
+    // The digits of n are those of `rest`, and behind them those that are stored from `first` on.
+    for first in (0..20).rev() {
         digits[first] = b'0' + (rest % 10) as u8;
         rest /= 10;
-        first -= 1;
+        if rest == 0 {
+            return first;
+        }
     }
-    digits[first] = b'0' + rest as u8;
-    first
+    0
 }
 
-// Puts a number's digits in the same way.
-fn put_number(out: &mut [u8], at: usize, n: u64) -> usize
-    requires { at + 20 ≤ length out.old }
-    ensures put { Put out.old at (decimal n) out.new result }
-    ensures upper_bound { result ≤ at + 20 }
-{
-    let mut digits = [0u8; 20];
-    let first = store_digits(&mut digits, n);
-    put_text(out, at, &digits[first..])
+// A text that is put into a lent buffer: its bytes stand before `end`.
+#[derive(Drop)]
+struct Text<'a> {
+    out: &'a mut [u8],
+    end: usize,
+    ghost within: { end ≤ length out.now },
 }
 
-// The same, behind a space.
-fn put_spaced(out: &mut [u8], at: usize, n: u64) -> usize
-    requires { at + 21 ≤ length out.old }
-    ensures put { Put out.old at (32 ∷ decimal n) out.new result }
-    ensures upper_bound { result ≤ at + 21 }
-{
-    let next = put_text(out, at, b" ");
-    put_number(out, next, n)
-}
+impl Text<'_> {
+    ghost use Rattle.list_text.specs.Appended.{Appended, room};
 
-// The same of n numbers of 8 bytes each, which a list holds from `from` on, each behind a space.
-fn put_offsets(out: &mut [u8], at: usize, list: &[u8], from: usize, n: usize) -> usize
-    requires { (from + 8 * n ≤ length list.now) × (at + 21 * n ≤ length out.old) }
-    ensures put { Put out.old at (spaced (numbers_in n (drop from list.now)))
-        out.new result }
-    ensures upper_bound { result ≤ at + 21 * n }
-{
-    let mut to = at;
-    // The first i numbers stand before `to`.
-    for i in 0..n {
-        to = put_spaced(out, to, read_u64_le(list, from + 8 * i));
+    // Puts a text behind what is put.
+    fn put(&mut self, text: &[u8])
+        requires { length text.now ≤ room self.old }
+        ensures appended { Appended self.old text.now self.new }
+        ensures room { room self.old ≡ room self.new + length text.now }
+    {
+        self.end = put_text(self.out, self.end, text);
     }
-    to
-}
 
-// The same of the line of the record that a list holds from `from` on.
-#[tactic(auto, unfolding(records::specs::Records::record_length))]
-fn put_record(out: &mut [u8], at: usize, list: &[u8], from: usize, rank: usize) -> usize
-    requires { (from + record_length rank ≤ length list.now) × (at + 4 * record_length rank ≤ length out.old) }
-    ensures put { Put out.old at (record_line (record_in rank (drop from list.now)))
-        out.new result }
-    ensures upper_bound { result ≤ at + 4 * record_length rank }
-{
-    let address = put_number(out, at, read_u64_le(list, from));
-    let size = put_spaced(out, address, read_u32_le(list, from + 8) as u64);
-    let mask = put_spaced(out, size, read_u32_le(list, from + 12) as u64);
-    let offsets = put_offsets(out, mask, list, from + 16, rank);
-    put_text(out, offsets, b"\n")
-}
-
-// The lines of the first `count` records of a list.
-fn put_records(out: &mut [u8], list: &[u8], count: usize, rank: usize) -> usize
-    requires { (count * record_length rank ≤ length list.now) × (4 * length list.now ≤ length out.old) }
-    ensures put { Put out.old 0 (record_lines (records_in rank count list.now))
-        out.new result }
-    ensures upper_bound { result ≤ 4 * length list.now }
-{
-    let mut to = 0;
-    // The lines of the first i records stand before `to`.
-    for i in 0..count {
-        to = put_record(out, to, list, i * (16 + 8 * rank), rank);
+    // Puts a number's digits.
+    fn put_number(&mut self, n: u64)
+        requires { 20 ≤ room self.old }
+        ensures appended { Appended self.old (decimal n) self.new }
+        ensures room { room self.old ≤ room self.new + 20 }
+    {
+        let mut digits = [0u8; 20];
+        let first = store_digits(&mut digits, n);
+        self.put(&digits[first..]);
     }
-    to
+
+    // The same, behind a space.
+    fn put_spaced(&mut self, n: u64)
+        requires { 21 ≤ room self.old }
+        ensures appended { Appended self.old (32 ∷ decimal n) self.new }
+        ensures room { room self.old ≤ room self.new + 21 }
+    {
+        self.put(b" ");
+        self.put_number(n);
+    }
+
+    // Puts n numbers of 8 bytes each, which a list holds from `from` on, each behind a space.
+    fn put_offsets(&mut self, list: &[u8], from: usize, n: usize)
+        requires { (from + 8 * n ≤ length list.now) × (21 * n ≤ room self.old) }
+        ensures appended { Appended self.old (spaced (numbers_in n (drop from list.now))) self.new }
+        ensures room { room self.old ≤ room self.new + 21 * n }
+    {
+        // The numbers in front of `number` are put.
+        for number in list[from..from + 8 * n].chunks_exact(8) {
+            self.put_spaced(read_u64_le(number, 0));
+        }
+    }
+
+    // Puts the line of the record that a list holds from `from` on.
+    #[tactic(auto, unfolding(records::specs::Records::record_length))]
+    fn put_record(&mut self, list: &[u8], from: usize, rank: usize)
+        requires { (from + record_length rank ≤ length list.now) × (4 * record_length rank ≤ room self.old) }
+        ensures appended { Appended self.old (record_line (record_in rank (drop from list.now))) self.new }
+        ensures room { room self.old ≤ room self.new + 4 * record_length rank }
+    {
+        self.put_number(read_u64_le(list, from));
+        self.put_spaced(read_u32_le(list, from + 8) as u64);
+        self.put_spaced(read_u32_le(list, from + 12) as u64);
+        self.put_offsets(list, from + 16, rank);
+        self.put(b"\n");
+    }
+
+    // Puts the lines of the first `count` records of a list.
+    #[tactic(auto, using(crate::proofs::Lines::room_on), unfolding(records::specs::Records::record_length))]
+    fn put_records(&mut self, list: &[u8], count: usize, rank: usize)
+        requires { (count * record_length rank ≤ length list.now) × (4 * length list.now ≤ room self.old) }
+        ensures appended { Appended self.old (record_lines (records_in rank count list.now)) self.new }
+        ensures room { room self.old ≤ room self.new + 4 * length list.now }
+    {
+        // The lines of the first i records are put.
+        for i in 0..count {
+            self.put_record(list, i * (16 + 8 * rank), rank);
+        }
+    }
 }
 
 // The text of a list of `count` records, from the start of out on; answers where it ends.
@@ -109,10 +125,12 @@ pub fn put_list(out: &mut [u8], list: &[u8], count: usize, rank: usize) -> usize
         out.new result }
     ensures upper_bound { result ≤ 4 * length list.now + 29 }
 {
-    let lines = put_records(out, list, count, rank);
-    let word = put_text(out, lines, b"records");
-    let number = put_spaced(out, word, count as u64);
-    put_text(out, number, b"\n")
+    let mut text = Text { out, end: 0 };
+    text.put_records(list, count, rank);
+    text.put(b"records");
+    text.put_spaced(count as u64);
+    text.put(b"\n");
+    text.end
 }
 
 // The text of a refusal.
@@ -121,9 +139,11 @@ pub fn put_refusal(out: &mut [u8], refusal: Refusal) -> usize
     ensures put { Put out.old 0 (refusal_text refusal) out.new result }
     ensures upper_bound { result ≤ 71 }
 {
-    let word = put_text(out, 0, b"refused");
-    let number = put_spaced(out, word, refusal.number());
-    let first = put_spaced(out, number, refusal.first());
-    let second = put_spaced(out, first, refusal.second());
-    put_text(out, second, b"\n")
+    let mut text = Text { out, end: 0 };
+    text.put(b"refused");
+    text.put_spaced(refusal.number());
+    text.put_spaced(refusal.first());
+    text.put_spaced(refusal.second());
+    text.put(b"\n");
+    text.end
 }

@@ -1,11 +1,10 @@
 -- Laws of an input's line and file. Assumes nothing.
 use mathlib.Core.Path.{◌≡◌, refl, ap}
 use mathlib.Core.Bool.{true, false, ◌&&◌, and-false}
-use mathlib.Core.List.{List, []}
-use Prim.Native.Nat.{ℕ, suc, ◌+◌, ◌-◌, ◌≤◌, ◌<◌}
+use mathlib.Core.List.{List}
+use Prim.Native.Nat.{ℕ, ◌≤◌, ◌<◌}
 use native.Mathlib.Omega.{arith}
-use lib.ListN.{length, take, drop, drop_of_length-le, length-drop, length-take}
-use lib.Seq.{take_all}
+use lib.ListN.{length, length-take}
 use lib.Dec.{leb, ltb}
 use borrow.Author.Tests.{lt-ltb, le-ltb, le-leb, lt-leb, leb-true}
 use Rattle.refusal.proofs.Tests.{both}
@@ -19,22 +18,6 @@ module _ (s : List ℕ) where
   line_within =
       let part = ap (λ (l : List ℕ). length l) (take-before 10 s) in
       omega (arith, part, length-take (length (before 10 s)) s)
-
-  -- the line is found
-  module _ (line : List ℕ) (is : line ≡ before 10 s) where
-    pub file_part : take (length s - (length line + 1)) (drop (length line + 1) s) ≡ file_of s
-    unfolding line_of file_of
-    file_part =
-        let next : suc (length (before 10 s)) ≡ length line + 1 = rw is (omega arith) in
-        rw next (take_all (length s - (length line + 1)) (drop (length line + 1) s) (omega (arith, length-drop (length line + 1) s)))
-
-    pub file_none : length line ≡ length s → take (length s - length line) (drop (length line) s) ≡ file_of s
-    unfolding line_of file_of
-    file_none e =
-        let none : drop (length line) s ≡ [] = drop_of_length-le s {i = length line} (omega arith) in
-        let wide = ap (λ (l : List ℕ). length l) is in
-        let behind : drop (suc (length (before 10 s))) s ≡ [] = drop_of_length-le s {i = suc (length (before 10 s))} (omega arith) in
-        rw (none, behind) (take_all (length s - length line) [] (omega arith))
 
   pub line_unended : length (line_of s) ≡ length s → fits s ≡ false
   unfolding fits

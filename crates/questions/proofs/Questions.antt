@@ -21,6 +21,14 @@ pub record Parsing (out₀ line out : List ℕ) (q : Question) (i : ℕ) : Type 
   pub question : question_from q i (drop i (words line)) ≡ line_question (words line)
   pub stored : sets out (8 * i) (offset_bytes (numbers_from q i (drop i (words line)))) ≡ line_stored (words line) out₀
 
+-- the default of a question, whose fields are 0
+of_zeros : (o l a n r k : ℕ) → o ≡ 0 → l ≡ 0 → a ≡ 0 → n ≡ 0 → r ≡ 0 → k ≡ 0
+    → record { offset_size = o; length_size = l; address = a; element_bytes = n; order = r; rank = k } ≡ no_question
+of_zeros o l a n r k e f g h i j = rw (e, f, g, h, i, j) refl
+
+pub question_default : (q : Question) → (q.offset_size ≡ 0) × ((q.length_size ≡ 0) × ((q.address ≡ 0) × ((q.element_bytes ≡ 0) × ((q.order ≡ 0) × (q.rank ≡ 0))))) → q ≡ no_question
+question_default q z = of_zeros q.offset_size q.length_size q.address q.element_bytes q.order q.rank z.0 z.1.0 z.1.1.0 z.1.1.1.0 z.1.1.1.1.0 z.1.1.1.1.1
+
 pub parsing_first : (out line : List ℕ) → Parsing out line out no_question 0
 unfolding line_question line_stored
 parsing_first out line = record { size = refl; question = refl; stored = refl }

@@ -6,12 +6,12 @@ ghost use Rattle.questions.specs.Line.{order_number, word_number, no_question, w
 ghost use Rattle.questions.specs.Line.{file_of, question_of, numbers_stored};
 
 use fields::bytes::put_le;
-use text::{is_only, parse_number, until};
+use text::{parse_number, until};
 
 mod text;
 
 // What a line asks for, but for the lengths, which are stored beside it. (The order as C gives it.)
-#[derive(Clone, Copy)]
+#[derive(Clone, Copy, Default)]
 pub struct Question {
     pub offset_size: u64,
     pub length_size: u64,
@@ -22,19 +22,6 @@ pub struct Question {
 }
 
 impl Question {
-    fn none() -> Self
-        ensures { result ≡ no_question }
-    {
-        Self {
-            offset_size: 0,
-            length_size: 0,
-            address: 0,
-            element_bytes: 0,
-            order: 0,
-            rank: 0,
-        }
-    }
-
     // The question with the number of word i; lengths are no part of it.
     #[tactic(auto, unfolding(crate::specs::Line::with_number))]
     fn with(self, i: usize, n: u64) -> Self
@@ -62,36 +49,28 @@ impl Question {
 }
 
 // The order that a word names.
+#[tactic(auto, unfolding(crate::specs::Line::order_number, crate::specs::Text::is_only))]
 fn parse_order(word: &[u8]) -> Option<u64>
     ensures { result ≡ order_number word.now }
 {
-    if is_only(word, b'R') {
-        return Some(0);
+    match word {
+        b"R" => Some(0),
+        b"U" => Some(1),
+        _ => None,
     }
-    if is_only(word, b'U') {
-        return Some(1);
-    }
-    None
 }
 
 // The number of word i.
+#[tactic(auto, unfolding(crate::specs::Line::word_number, crate::specs::Text::is_only))]
 fn parse_word(word: &[u8], i: usize, rank: u64) -> Option<u64>
     ensures { result ≡ word_number rank i word.now }
 {
-    if i < 2 {
-        return parse_number(word, 255);
+    match i {
+        0 | 1 => parse_number(word, 255),
+        4 => parse_order(word),
+        _ if 6 <= i && rank <= (i - 6) as u64 / 2 && matches!(word, b"*") => Some(u64::MAX),
+        _ => parse_number(word, u64::MAX),
     }
-    if i == 4 {
-        return parse_order(word);
-    }
-    if 6 <= i {
-        if rank <= (i - 6) as u64 / 2 {
-            if is_only(word, b'*') {
-                return Some(u64::MAX);
-            }
-        }
-    }
-    parse_number(word, u64::MAX)
 }
 
 // Reads a line, and stores its numbers up to the first word that has none.
@@ -100,7 +79,7 @@ fn parse_line(numbers: &mut [u8], line: &[u8]) -> Option<Question>
     ensures value { result ≡ line_question (words line.now) }
     ensures numbers_after { numbers.new ≡ line_stored (words line.now) numbers.old }
 {
-    let mut question = Question::none();
+    let mut question = Question::default();
     let mut count = 0;
     // The numbers of the first `count` words are stored, and in the question.
     for (i, word) in line.split(|b| *b == b' ').enumerate() {
@@ -110,24 +89,19 @@ fn parse_line(numbers: &mut [u8], line: &[u8]) -> Option<Question>
         count = i + 1;
     }
     let rank = question.rank;
-    if rank <= 4096 {
-        if count as u64 == 6 + 3 * rank {
-            return Some(question);
-        }
+    if rank <= 4096 && count as u64 == 6 + 3 * rank {
+        return Some(question);
     }
     None
 }
 
 // The file, which is what stands behind the line.
+#[tactic(auto, unfolding(crate::specs::Line::file_of, crate::specs::Line::line_of))]
 pub fn file_of(input: &[u8]) -> &[u8]
     ensures { result.now ≡ file_of input.now }
 {
     let end = until(input, b'\n').len();
-    if end == input.len() {
-        return &input[end..];
-    }
-    let start = end + 1;
-    &input[start..]
+    input.get(end + 1..).unwrap_or(&[])
 }
 
 // Reads the line in front of a file, and stores its numbers.
@@ -138,13 +112,7 @@ pub fn parse(numbers: &mut [u8], input: &[u8]) -> Option<Question>
 {
     let line = until(input, b'\n');
     let file = file_of(input);
-    if line.len() == input.len() {
-        return None;
-    }
-    if 4095 < line.len() {
-        return None;
-    }
-    if 60000 < file.len() {
+    if line.len() == input.len() || 4095 < line.len() || 60000 < file.len() {
         return None;
     }
     parse_line(numbers, line)

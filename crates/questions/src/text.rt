@@ -1,6 +1,6 @@
 // Words and numbers of a text.
 ghost use Rattle.std.specs.Prelude.{◌≡◌, ◌≤◌, length};
-ghost use Rattle.questions.specs.Text.{before, is_only, number_of};
+ghost use Rattle.questions.specs.Text.{before, number_of};
 
 // The part up to the first b, or all where there is none.
 pub fn until(s: &[u8], b: u8) -> &[u8]
@@ -11,14 +11,6 @@ pub fn until(s: &[u8], b: u8) -> &[u8]
         Some(end) => &s[..end],
         None => s,
     }
-}
-
-// Whether a word is one byte, b.
-#[tactic(auto, unfolding(crate::specs::Text::is_only))]
-pub fn is_only(word: &[u8], b: u8) -> bool
-    ensures { result ≡ is_only b word.now }
-{
-    matches!(word, [only] if *only == b)
 }
 
 // The number that a word's digits write, where it is `largest` at most.

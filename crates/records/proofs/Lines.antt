@@ -1,35 +1,20 @@
--- Slots of a line: their offsets, as they are computed, and the corner in a lent array. Assumes nothing.
-use Prim.Native.Nat.{ℕ, ◌+◌, ◌*◌, ◌^◌, ◌<◌, ◌≤◌, min}
-use mathlib.Core.Path.{◌≡◌, sym, ap, ◌∙◌}
+-- Slots of a line: their offsets, as they are computed. Assumes nothing.
+use Prim.Native.Nat.{ℕ, ◌+◌, ◌*◌, ◌^◌, ◌<◌, ◌≤◌}
+use mathlib.Core.Path.{◌≡◌, sym}
 use mathlib.Core.List.{List, []}
 use native.Mathlib.Omega.{arith}
-use lib.ListN.{length, get_or, take, set, length-take}
+use lib.ListN.{get_or, set}
 use Rattle.std.specs.Prelude.{Ok, true}
 use Rattle.chunk_grid.specs.Grid.{offsets}
 use Rattle.chunk_grid.specs.Values.{grid_of, in_extent, offsets_of}
-use Rattle.chunk_slots.specs.Values.{handed}
-use Rattle.chunk_slots.specs.Lines.{InLine}
 use Rattle.chunk_slots.specs.declared.Line.{Line}
 use Rattle.index.specs.Index.{Rec}
 use Rattle.elements.specs.declared.ElementReader.{ElementReader}
 use Rattle.elements.specs.Runs.{elements_from}
 use Rattle.elements.specs.Values.{elements_of}
-use Rattle.elements.proofs.Readers.{corner_rank, inside_corner}
-use Rattle.records.specs.Values.{ReadsLine}
-
--- the line of a slot inside the extents, whose offsets are handed over in a lent array
-pub reads_line : (r : ElementReader) (s : ℕ) (a : List ℕ) {a' : List ℕ} → a' ≡ handed (grid_of r.numbering.now.grid.now) s a → length a ≡ 32
-    → offsets_of (in_extent (grid_of r.numbering.now.grid.now) s) ≡ Ok true → {line : Line} → InLine (grid_of r.numbering.now.grid.now) r.numbering.now.grid.now.chunk s line
-    → ReadsLine r a' line s
-reads_line r s a {a' = a'} told array inside lies = record { begins = inside_corner r s inside a a' array told; lies = lies }
+use Rattle.element_runs.specs.Steps.{ReadsLine}
 
 module _ {r : ElementReader} {corner : List ℕ} {line : Line} {s : ℕ} (q : ReadsLine r corner line s) where
-  -- the array holds the corner
-  pub line_array : r.numbering.now.grid.now.rank ≤ length corner
-  line_array =
-      let e : min r.numbering.now.grid.now.rank (length corner) ≡ r.numbering.now.grid.now.rank = sym (length-take r.numbering.now.grid.now.rank corner) ∙ ap length q.begins ∙ corner_rank r s in
-      omega arith
-
   abbrev pub step_of : ℕ
   step_of = get_or r.numbering.now.grid.now.chunk line.dim 0
 
@@ -41,23 +26,20 @@ module _ {r : ElementReader} {corner : List ℕ} {line : Line} {s : ℕ} (q : Re
     pub line_fits : line.first * step_of + i * step_of < 2 ^ 64
     line_fits = omega (arith, together, q.lies.fits i h)
 
-    pub line_grows : i * step_of < 2 ^ 64
-    line_grows = omega (arith, line_fits)
-
-    pub line_corner : set (take r.numbering.now.grid.now.rank corner) line.dim (line.first * step_of + i * step_of) ≡ offsets (grid_of r.numbering.now.grid.now) (s + i)
+    pub line_corner : set corner line.dim (line.first * step_of + i * step_of) ≡ offsets (grid_of r.numbering.now.grid.now) (s + i)
     line_corner = rw (q.begins, ← together) (sym (q.lies.corner i h))
 
   -- its first
   pub line_begins : line.first * step_of < 2 ^ 64
   line_begins = omega (arith, line_fits 0 q.lies.some)
 
--- A run of slots that lie in a line, below the count, is accepted: their corners are an array's, but for dimension
+-- A run of slots that lie in a line, below the count, is accepted: their corners are the first one's, but for dimension
 -- `dim`, whose offset grows from `first` by `step`.
 pub record Lined (file : List ℕ) (r : ElementReader) (corner : List ℕ) (dim first step pos n : ℕ) (s : ℕ) (l : List Rec) : Type 0 where
   pub is : elements_from (elements_of file r) pos n s (Ok []) ≡ Ok l
   pub below : s + n ≤ r.count
   pub inside : (i : ℕ) → i < n → offsets_of (in_extent (grid_of r.numbering.now.grid.now) (s + i)) ≡ Ok true
-  pub corners : (i : ℕ) → i < n → set (take r.numbering.now.grid.now.rank corner) dim (first + i * step) ≡ offsets (grid_of r.numbering.now.grid.now) (s + i)
+  pub corners : (i : ℕ) → i < n → set corner dim (first + i * step) ≡ offsets (grid_of r.numbering.now.grid.now) (s + i)
 
 pub lined : {file : List ℕ} {r : ElementReader} {corner : List ℕ} {line : Line} {pos n : ℕ} → n ≤ line.slots → {s : ℕ} {l : List Rec}
     → ReadsLine r corner line s → elements_from (elements_of file r) pos n s (Ok []) ≡ Ok l → s + n ≤ r.count

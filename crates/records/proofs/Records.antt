@@ -4,8 +4,8 @@ use mathlib.Core.Path.{◌≡◌, refl, sym, ap, ◌∙◌}
 use mathlib.Core.List.{List, [], ◌∷◌, ◌++◌, append_assoc}
 use native.Mathlib.Numerals.{add-one}
 use native.Mathlib.Omega.{arith}
-use lib.ListN.{length, get_or, take, drop, set, length-take, length-set, length-append, drop_of_length-le}
-use lib.Seq.{sets, drop-cons, get_or-take, get_or-set_same, get_or-set_other}
+use lib.ListN.{length, get_or, drop, set, length-append, drop_of_length-le}
+use lib.Seq.{sets, drop-cons, get_or-set_same, get_or-set_other}
 use Rattle.fields.specs.LittleEndian.{le_bytes}
 use Rattle.fields.proofs.Stored.{length_bytes}
 use Rattle.index.specs.Index.{Rec}
@@ -63,16 +63,13 @@ module _ (corner : List ℕ) (at : ℕ) where
   unfolding offset_bytes
   offsets-stored out i h = rw (drop_of_length-le corner {i = i} h) refl
 
--- a corner that is an array's, but for one dimension
-module _ (rank : ℕ) (offsets : List ℕ) (fits : rank ≤ length offsets) (dim offset : ℕ) where
-  pub length_set_corner : length (set (take rank offsets) dim offset) ≡ rank
-  length_set_corner = simp (length-set, length-take) (omega arith)
+-- a corner whose offset in one dimension is another
+module _ (offsets : List ℕ) (dim offset : ℕ) where
+  pub set_here : (i : ℕ) → i < length offsets → i ≡ dim → offset ≡ get_or (set offsets dim offset) i 0
+  set_here i h e = rw e (sym (get_or-set_same offsets dim offset 0 (omega arith)))
 
-  pub set_here : (i : ℕ) → i < rank → i ≡ dim → offset ≡ get_or (set (take rank offsets) dim offset) i 0
-  set_here i h e = rw e (sym (get_or-set_same (take rank offsets) dim offset 0 (rw length-take (omega arith))))
-
-  pub set_elsewhere : (i : ℕ) → i < rank → (i ≡ dim → ⊥) → get_or offsets i 0 ≡ get_or (set (take rank offsets) dim offset) i 0
-  set_elsewhere i h n = sym (get_or-set_other (take rank offsets) dim i offset 0 n ∙ get_or-take rank offsets i 0 h)
+  pub set_elsewhere : (i : ℕ) → (i ≡ dim → ⊥) → get_or offsets i 0 ≡ get_or (set offsets dim offset) i 0
+  set_elsewhere i n = sym (get_or-set_other offsets dim i offset 0 n)
 
 -- a record, field by field
 pub record_stored : (out : List ℕ) (at : ℕ) (r : Rec)

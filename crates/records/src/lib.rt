@@ -1,59 +1,51 @@
 #![tactic(auto)]
 // Records written into a lent list.
-ghost use Rattle.std.specs.Prelude.{◌≡◌, List, [], ℕ, ◌+◌, ◌*◌, ◌≤◌, length, take, set, Ok};
+ghost use Rattle.std.specs.Prelude.{◌≡◌, List, [], ℕ, ◌+◌, ◌*◌, ◌≤◌, length, set, Ok};
 ghost use Rattle.std.proofs.lemmas.List.Edits.{sets};
 ghost use Rattle.element_form.specs.Form.{stride};
 ghost use Rattle.index.specs.Index.{Rec};
 ghost use Rattle.elements.specs.Runs.{elements_from};
 ghost use Rattle.elements.specs.Values.{elements_of};
+ghost use Rattle.element_runs.specs.Steps.{ReadsLine};
 ghost use Rattle.records.specs.Records.{record_length, offset_bytes, record_bytes, list_bytes};
-ghost use Rattle.records.specs.Values.{ReadsLine};
 
-use chunk_slots::{Line, line_from};
+use chunk_slots::Line;
 use element_runs::count::below_count;
-use element_runs::defined::undefined_run;
-use elements::ElementReader;
+use element_runs::step::{Step, step_from};
 use elements::read::read_inside_element;
+use elements::{ElementReader, SizedReader};
 use fields::bytes::put_le;
 use index::Entry;
 
-// Writes the record of an entry, and of the chunk whose corner the first `rank` offsets are, but for dimension `dim`,
-// whose offset is `offset`, from `at` on.
-pub fn put_record(
-    out: &mut [u8],
-    at: usize,
-    entry: Entry,
-    rank: usize,
-    offsets: &[u64; 32],
-    dim: usize,
-    offset: u64,
-)
-    requires { (rank ≤ 32) × (rank ≤ length offsets.now) × (at + record_length rank ≤ length out.old) }
+// Writes the record of an entry, and of the chunk whose corner these offsets are, but for dimension `dim`, whose offset
+// is `offset`, from `at` on.
+#[tactic(auto, unfolding(crate::specs::Records::record_length))]
+pub fn put_record(out: &mut [u8], at: usize, entry: Entry, offsets: &[u64], dim: usize, offset: u64)
+    requires { at + record_length (length offsets.now) ≤ length out.old }
     ensures { out.new
-        ≡ sets out.old at
-        (record_bytes (record { entry = entry; corner = set (take rank offsets.now) dim offset })) }
+        ≡ sets out.old at (record_bytes (record { entry = entry; corner = set offsets.now dim offset })) }
 {
     put_le(out, at, 8, entry.address);
     put_le(out, at + 8, 4, entry.size as u64);
     put_le(out, at + 12, 4, entry.mask as u64);
-    put_offsets(out, at + 16, rank, offsets, dim, offset);
+    put_offsets(out, at + 16, offsets, dim, offset);
 }
 
-// Writes these offsets from `at` on.
-fn put_offsets(out: &mut [u8], at: usize, rank: usize, offsets: &[u64; 32], dim: usize, offset: u64)
-    requires { (rank ≤ 32) × (rank ≤ length offsets.now) × (at + 8 * rank ≤ length out.old) }
-    ensures { out.new
-        ≡ sets out.old at (offset_bytes (set (take rank offsets.now) dim offset)) }
+// Writes these offsets from `at` on, but for dimension `dim`.
+fn put_offsets(out: &mut [u8], at: usize, offsets: &[u64], dim: usize, offset: u64)
+    requires { at + 8 * length offsets.now ≤ length out.old }
+    ensures { out.new ≡ sets out.old at (offset_bytes (set offsets.now dim offset)) }
 {
     // The first i offsets are written.
-    for i in 0..rank {
-        let value = if i == dim { offset } else { offsets[i] };
+    for (i, own) in offsets.iter().enumerate() {
+        let value = if i == dim { offset } else { *own };
         put_le(out, at + 8 * i, 8, value);
     }
 }
 
-// Writes the records of n elements from pos on, whose slots lie in a line, into the list from `at` on; the first `rank`
-// offsets are those of the first slot. Gives where they end.
+// Writes the records of n elements from pos on, whose slots lie in a line, into the list from `at` on; the first slot's
+// offsets are the corner. Gives where they end.
+#[tactic(auto, using(crate::proofs::Lines::line_fits, crate::proofs::Lines::line_begins))]
 #[inline(never)]
 fn write_line(
     out: &mut [u8],
@@ -61,35 +53,33 @@ fn write_line(
     file: &[u8],
     pos: usize,
     n: u64,
-    reader: &ElementReader,
-    offsets: &[u64; 32],
+    sized: &SizedReader,
+    corner: &[u64],
     line: Line,
 ) -> usize
-    requires { ((s : ℕ) × (l : List Rec) × ReadsLine reader.now offsets.now line s
-        × (elements_from (elements_of file.now reader.now) pos n s (Ok []) ≡ Ok l)
-        × (at + length (list_bytes l) ≤ length out.old) × (s + n ≤ reader.now.count))
-        × (n ≤ line.slots) × (pos + n * stride reader.now.form ≤ length file.now) }
-    ensures { (s : ℕ) (l : List Rec) → ReadsLine reader.now offsets.now line s
-        → elements_from (elements_of file.now reader.now) pos n s (Ok []) ≡ Ok l
-        → s + n ≤ reader.now.count
+    requires { ((s : ℕ) × (l : List Rec) × ReadsLine sized.now.reader corner.now line s
+        × (elements_from (elements_of file.now sized.now.reader) pos n s (Ok []) ≡ Ok l)
+        × (at + length (list_bytes l) ≤ length out.old) × (s + n ≤ sized.now.reader.count))
+        × (n ≤ line.slots) × (pos + n * stride sized.now.reader.form ≤ length file.now) }
+    ensures { (s : ℕ) (l : List Rec) → ReadsLine sized.now.reader corner.now line s
+        → elements_from (elements_of file.now sized.now.reader) pos n s (Ok []) ≡ Ok l
+        → s + n ≤ sized.now.reader.count
         → (out.new ≡ sets out.old at (list_bytes l)) × (result ≡ at + length (list_bytes l)) }
 {
     // (A copy: behind a reference its fields would be loaded anew for every record.)
-    let own = *reader;
-    let stride = own.form.stride() as usize;
-    let rank = own.numbering.grid.rank as usize;
+    let own = *sized;
+    let stride = own.reader.form.stride() as usize;
     let dim = line.dim as usize;
-    let step = own.numbering.grid.chunk[dim];
+    let step = own.reader.numbering.grid.chunk[dim];
     let first = line.first * step;
     let mut to = at;
-    let mut from = pos;
-    // The first i elements are passed, their records written up to `to`, and the next element is at `from`.
+    // The records of the first i elements are written up to `to`.
     for i in 0..n {
+        let from = pos + i as usize * stride;
         if let Ok(Some(entry)) = read_inside_element(file, from, &own) {
-            put_record(out, to, entry, rank, offsets, dim, first + i * step);
-            to += 16 + 8 * rank;
+            put_record(out, to, entry, corner, dim, first + i * step);
+            to += 16 + 8 * corner.len();
         }
-        from += stride;
     }
     to
 }
@@ -111,34 +101,33 @@ pub fn write_elements(
     ensures { (l : List Rec) → elements_from (elements_of file.now reader.now) pos n slot (Ok []) ≡ Ok l
         → (out.new ≡ sets out.old at (list_bytes l)) × (result ≡ at + length (list_bytes l)) }
 {
-    let left = below_count(n, slot, reader.count);
+    let below = below_count(n, slot, reader.count);
+    if below == 0 {
+        return at;
+    }
+    let sized = SizedReader { reader: *reader };
     let stride = reader.form.stride() as usize;
-    let width = reader.form.offset_size;
+    let rank = reader.numbering.grid.rank as usize;
     let mut offsets = [0u64; 32];
     let mut to = at;
     let mut from = pos as usize;
-    let mut i = 0;
-    // The first i elements are passed, their records written up to `to`, and the next element is at `from`. (By index:
-    // a step is a whole line or gap.)
-    while i < left {
-        let gap = undefined_run(file, from, left - i, stride, width);
-        if 0 < gap {
-            from += gap as usize * stride;
-            i += gap;
-            continue;
-        }
-        let here = slot + i;
-        let reached = reader.reach(&mut offsets, here);
-        let passed = if let Ok(true) = reached {
-            let line = line_from(here, reader.numbering);
-            let n = below_count(line.slots, i, left);
-            to = write_line(out, to, file, from, n, reader, &offsets, line);
-            n
-        } else {
-            1
+    let mut here = slot;
+    let mut left = below;
+    // The records of the elements that are passed are written up to `to`, and `left` elements are left, from `from` and
+    // slot `here` on. (A step is a whole line or gap.)
+    while 0 < left {
+        let passed = match step_from(&mut offsets, file, from, left, here, &sized) {
+            Ok(Step::Gap(slots)) => slots,
+            Ok(Step::Line(line)) => {
+                let slots = line.slots.min(left);
+                to = write_line(out, to, file, from, slots, &sized, &offsets[..rank], line);
+                slots
+            }
+            Err(_) => left,
         };
         from += passed as usize * stride;
-        i += passed;
+        here += passed;
+        left -= passed;
     }
     to
 }

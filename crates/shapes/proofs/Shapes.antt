@@ -1,7 +1,7 @@
 -- Shapes read from bytes. Assumes nothing.
 use Prim.Native.Nat.{ℕ, zero, suc, ◌+◌, ◌*◌, ◌<◌, ◌≤◌}
 use mathlib.Core.Path.{◌≡◌, refl, sym, ap, ◌∙◌}
-use mathlib.Core.List.{List, [], ◌∷◌}
+use mathlib.Core.List.{List, [], ◌∷◌, ◌++◌}
 use native.Mathlib.Omega.{arith}
 use native.Mathlib.Numerals.{add-one}
 use borrow.Author.Tests.{eq-eqb, ne_eqb}
@@ -10,7 +10,7 @@ use lib.ListN.{length, get_or, take, drop, set, drop_of_length-le}
 use lib.Seq.{drop-cons, drop-drop, sets, sets-eq, length-sets, take_at}
 use Rattle.std.proofs.Common.{Bool, true, false, Bor}
 use Rattle.std.specs.Bool.{then_some}
-use Rattle.std.specs.Option.{is_some, unwrap_or, option_copied}
+use Rattle.std.specs.Option.{is_some, unwrap_or, option_copied, option_map}
 use Rattle.chunk_grid.specs.Grid.{given}
 use Rattle.chunk_grid.specs.declared.GridOrder.{GridOrder}
 use Rattle.fields.specs.LittleEndian.{le_at}
@@ -63,6 +63,11 @@ stored_on vs l i v h e = rw (add-one, e, drop-cons vs i 0 h) refl
 pub stored_end : (vs l : List ℕ) (i : ℕ) → length vs ≤ i → l ≡ sets l i (drop i vs)
 stored_end vs l i h = rw (drop_of_length-le vs {i = i} h) refl
 
+pub stored_front : (vs l : List ℕ) (n : ℕ) → length vs ≡ n → n ≤ length l → vs ++ drop n l ≡ sets l 0 vs
+stored_front vs l n e room =
+    let k : 0 + length vs ≡ n = omega arith in
+    sym (sets-eq vs l 0 (omega arith) ∙ ap (λ (j : ℕ). vs ++ drop j l) k)
+
 -- A list that begins with a shape of n numbers.
 abbrev pub BeginsWith : ℕ → List ℕ → List ℕ → ℕ → Type 0
 BeginsWith rank s out n = (n ≤ length out) × (take n out ≡ shape_of rank s) × (n ≡ length (take n out))
@@ -78,7 +83,7 @@ stored_shape rank s l out n small room e f =
 
 -- a maximum that isn't given is no part of a grid
 pub where_given : (rank : ℕ) (c p : List ℕ) (has : Bool) (m : Bor (List ℕ)) (o : GridOrder)
-    → given rank c p (is_some (option_copied (then_some has m))) (unwrap_or (option_copied (then_some has m)) []) o ≡ given rank c p has m.now o
+    → let t = option_map (shape_of rank) (option_copied (then_some has m)) in given rank c p (is_some t) (unwrap_or t []) o ≡ given rank c p has (shape_of rank m.now) o
 unfolding given
 where_given rank c p true m o = refl
 where_given rank c p false m o = refl

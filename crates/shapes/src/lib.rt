@@ -1,6 +1,7 @@
 #![tactic(auto)]
 // Shapes and corners as bytes: read, and made into a grid.
-ghost use Rattle.std.specs.Prelude.{◌≡◌, ◌≤◌, length};
+ghost use Rattle.std.specs.Prelude.{◌≡◌, ◌≤◌, length, []};
+ghost use Rattle.std.specs.Option.{is_some, unwrap_or, option_copied, option_map};
 ghost use Rattle.std.proofs.lemmas.List.Edits.{sets};
 ghost use Rattle.chunk_grid.specs.Grid.{given};
 ghost use Rattle.chunk_grid.specs.Values.{grids, built};
@@ -15,13 +16,12 @@ pub fn grid_from_bytes(
     rank: u64,
     chunk: &[u8],
     present: &[u8],
-    has_maximum: bool,
-    maximum: &[u8],
+    maximum: Option<&[u8]>,
     order: GridOrder,
 ) -> Result<ChunkGrid, Refusal>
-    ensures { grids result
-        ≡ built (given rank (shape_of rank chunk.now) (shape_of rank present.now)
-        has_maximum (shape_of rank maximum.now) order) }
+    ensures { let m = option_map (shape_of rank) (option_copied maximum.entry) in
+        grids result
+        ≡ built (given rank (shape_of rank chunk.now) (shape_of rank present.now) (is_some m) (unwrap_or m []) order) }
 {
     if 32 < rank {
         return Err(Refusal::Rank);
@@ -31,8 +31,13 @@ pub fn grid_from_bytes(
     let mut limits = [0u64; 32];
     let n = read_shape(&mut lengths, rank, chunk) as usize;
     let p = read_shape(&mut extents, rank, present) as usize;
-    let m = read_shape(&mut limits, rank, maximum) as usize;
-    let maximum = has_maximum.then_some(&limits[..m]);
+    let maximum = match maximum {
+        Some(bytes) => {
+            let m = read_shape(&mut limits, rank, bytes) as usize;
+            Some(&limits[..m])
+        }
+        None => None,
+    };
     ChunkGrid::new(rank, &lengths[..n], &extents[..p], maximum, order)
 }
 
@@ -51,8 +56,8 @@ pub fn read_shape(shape: &mut [u64], rank: u64, bytes: &[u8]) -> u64
         return 0;
     }
     // The first i numbers are read.
-    for i in 0..n {
-        shape[i] = read_u64_le(bytes, 8 * i);
+    for (i, number) in shape[..n].iter_mut().enumerate() {
+        *number = read_u64_le(bytes, 8 * i);
     }
     rank
 }

@@ -1,12 +1,13 @@
 -- How many spans there are, step by step, and that they are few. Assumes nothing.
 use Prim.Native.Nat.{ℕ, zero, suc, ◌+◌, ◌-◌, ◌^◌, ◌<◌, ◌≤◌}
 use mathlib.Core.Path.{◌≡◌, refl, sym, ap, ◌∙◌}
-use mathlib.Core.Bool.{true, false}
+use mathlib.Core.Bool.{Bool, true, false, not}
 use mathlib.Core.List.{List, []}
 use native.Mathlib.Omega.{arith}
 use native.Mathlib.Nat.{sub-zero}
 use native.Mathlib.Numerals.{add-one}
 use lib.ListN.{length, length-append}
+use Rattle.std.specs.List.{filter, range_with_len}
 use Rattle.std.specs.Prelude.{Err, Ok}
 use Rattle.refusal.specs.declared.Refusal.{Refusal}
 use Rattle.refusal.specs.Outcome.{also}
@@ -23,7 +24,7 @@ use Rattle.ea_blocks.specs.Structures.{is_direct, super_undefined, block_undefin
 use Rattle.span_walk.specs.declared.Span.{Span}
 use Rattle.span_walk.specs.Walk.{Spanning, block_spans, super_spans, supers_from, index_spans}
 use Rattle.span_walk.proofs.Joined.{joined_inv, plus-joined, plus_refused}
-use Rattle.span_walk.proofs.Turns.{supers_none, supers_next, blocks_none, blocks-undefined, blocks_defined}
+use Rattle.span_walk.proofs.Turns.{supers_none, supers_next}
 
 -- a count, or a refusal, with one span more
 pub counted_more : (s : Span) (a : Spanning) (n : ℕ) → Ok n ≡ counted_of a → Ok (n + 1) ≡ counted_of (also s a)
@@ -104,24 +105,19 @@ index_bounded a n v h =
     let o = also_inv _ _ i.0 (yields_inv _ _ i.0 i.1).1 in
     omega (arith, i.2, ap length o.2, supers_bound a o.0 v o.1)) h
 
--- At data block k of n of super block u: of those before it `total` are pointed to.
-module _ (a : Array) (u n : ℕ) where
-  pub record AtBlock (total k : ℕ) : Type 0 where
-    pub few : total ≤ k
-    pub rest : total + length (block_spans a u (n - k) k) ≡ length (block_spans a u n 0)
+-- As many of j data blocks from k on have spans as are pointed to.
+abbrev pub pointed : Array → ℕ → ℕ → Bool
+pointed a u k = not (block_undefined a u k)
 
-  pub block-first : AtBlock 0 0
-  block-first = record { few = omega arith; rest = rw sub-zero (omega arith) }
-
-  module _ {total k : ℕ} (s : AtBlock total k) where
-    pub blocks_done : n ≤ k → total ≡ length (block_spans a u n 0)
-    blocks_done le = omega (arith, s.rest, ap length (blocks_none a u n k le))
-
-    pub block_skip : k < n → block_undefined a u k ≡ true → AtBlock total (k + 1)
-    block_skip lt e = record { few = let x = s.few in omega arith; rest = omega (arith, s.rest, ap length (blocks-undefined a u n k lt e)) }
-
-    pub block_counted : k < n → block_undefined a u k ≡ false → AtBlock (total + 1) (k + 1)
-    block_counted lt e = record { few = let x = s.few in omega arith; rest = omega (arith, s.rest, ap length (blocks_defined a u n k lt e)) }
+pub pointed_spans : (a : Array) (u j k : ℕ) → length (filter (pointed a u) (range_with_len k j)) ≡ length (block_spans a u j k)
+unfolding block_spans
+pointed_spans a u zero k = refl
+pointed_spans a u (suc j) k = go (block_undefined a u k) refl (pointed_spans a u j (k + 1))
+  where
+    go : (b : Bool) → block_undefined a u k ≡ b → length (filter (pointed a u) (range_with_len (k + 1) j)) ≡ length (block_spans a u j (k + 1))
+        → length (filter (pointed a u) (range_with_len k (suc j))) ≡ length (block_spans a u (suc j) k)
+    go true e i = rw e i
+    go false e i = rw e (ap suc i)
 
 -- At super block u of n: those before it are accepted, and have `total` spans.
 module _ (a : Array) (n : ℕ) where

@@ -9,12 +9,11 @@ use Rattle.refusal.specs.declared.Refusal.TheVariants.{SpanOverflow}
 use Rattle.refusal.specs.Refusals.{figure, largest64}
 use Rattle.refusal.proofs.Tests.{refuse_false, refuse_true, then_first, then_second}
 use Rattle.ea_header.specs.Header.{header_bytes}
-use Rattle.ea_geometry.specs.declared.EaGeometry.{EaGeometry}
-use Rattle.ea_geometry.specs.Bounded.{Bounded}
-use Rattle.ea_geometry.specs.Extents.{index_extent}
+use Rattle.ea_geometry.specs.declared.extents.Extents.{Extents}
+use Rattle.ea_geometry.specs.Extents.{index_extent, super_extent}
 use Rattle.ea_geometry.proofs.Positions.{index_extent_few}
 use Rattle.ea_blocks.specs.Array.{Array}
-use Rattle.ea_blocks.specs.Structures.{Structure, start_of, test_of}
+use Rattle.ea_blocks.specs.Structures.{Structure, super_block, start_of, extent_of, test_of, super_block_at}
 use Rattle.span_walk.specs.declared.Span.{Span}
 use Rattle.span_walk.specs.Spans.{header_span, bytes_of, span_of, span_test, spanned_test}
 
@@ -29,6 +28,11 @@ module _ (s : Span) where
   span_past n e lt =
       ap (λ (x : ℕ). Err (SpanOverflow s.address x)) e
       ∙ refuse_true _ _ (lt-ltb largest64 (s.address + s.length) lt)
+
+  -- where the length fits 64 bits
+  pub span_exact : s.length ≤ largest64 → largest64 < s.address + s.length → Err (SpanOverflow s.address s.length) ≡ span_test s
+  unfolding figure
+  span_exact le = span_past s.length (omega arith)
 
 -- the same of the header, by the address of its last byte, each sum at most 2^64 − 1
 module _ (address o l a b d last : ℕ) (first : a ≡ figure (l * 6)) (second : b ≡ figure (a + o)) (third : d ≡ figure (b + 15))
@@ -57,8 +61,14 @@ module _ (a : Array) (x : Structure) where
   unfolding spanned_test
   spanned_refused s r e h = then_first _ _ (h ∙ ap span_test e)
 
+-- the span of a super block
+pub super_span_is : (a : Array) (u at n : ℕ) → at ≡ super_block_at a u → n ≡ super_extent a.parameters a.offset_size u
+    → record { address = at; length = n } ≡ span_of a (super_block u)
+unfolding start_of extent_of bytes_of
+super_span_is a u at n e q = span_is a (super_block u) at n e q
+
 -- the bytes of the index block fit 64 bits
-pub index-exact : (g : EaGeometry) → g.parameters.element_size < 256 → g.parameters.idx_blk_elmts < 256 → Bounded g
-    → figure (index_extent g.parameters g.offset_size) ≡ index_extent g.parameters g.offset_size
+pub index-exact : (x : Extents) → x.sizes.parameters.element_size < 256 → x.sizes.parameters.idx_blk_elmts < 256
+    → figure (index_extent x.sizes.parameters x.offset_size) ≡ index_extent x.sizes.parameters x.offset_size
 unfolding figure
-index-exact g e i b = let few = index_extent_few g.parameters g.offset_size b.width e i b.served in omega arith
+index-exact x e i = let few = index_extent_few x.sizes.parameters x.offset_size x.legal e i x.sizes.served in omega arith

@@ -1,29 +1,28 @@
 // The walk that tests and counts.
-ghost use Rattle.std.specs.Prelude.{◌≡◌, true, ◌<◌, length, Ok, Some};
+ghost use Rattle.std.specs.Prelude.{◌≡◌, true, ◌<◌, length};
 ghost use Rattle.refusal.specs.Values.{counted_of};
 ghost use Rattle.fields.specs.Fields.{is_width, undefined};
-ghost use Rattle.ea_geometry.specs.Bounded.{Bounded};
 ghost use Rattle.ea_geometry.specs.Sizes.{super_blocks, blocks};
-ghost use Rattle.ea_blocks.specs.Entered.{EnteredSuper};
-ghost use Rattle.ea_blocks.specs.Values.{IndexInFile, array_of};
+ghost use Rattle.ea_blocks.specs.Values.{array_in, NamedAt};
 ghost use Rattle.span_walk.specs.Walk.{block_spans, super_spans, supers_from, index_spans};
 
+use crate::spans::array_alone;
 use crate::tests::{test_index, test_super};
-use ea_blocks::ExtensibleArray;
-use ea_blocks::pointers::{block_pointer, super_pointer};
+use ea_blocks::enter::BlockRow;
+use ea_blocks::{ArrayInFile, BoundedArray, ExtensibleArray};
 use fields::address::{Address, is_undefined_addr};
 use refusal::Refusal;
 
 // Tests the index block and what it leads to, and counts the spans behind the header's.
-pub fn count_index(file: &[u8], array: ExtensibleArray) -> Result<u64, Refusal>
-    requires { Bounded array.geometry × (is_width array.geometry.offset_size ≡ true) }
-    ensures { let a = array_of file.now array in result ≡ counted_of (index_spans a) }
+pub fn count_index(array: BoundedArray) -> Result<u64, Refusal>
+    requires { is_width array.extents.offset_size ≡ true }
+    ensures { result ≡ counted_of (index_spans (array_in array.entry)) }
 {
-    if index_undefined(array) {
+    if index_undefined(array_alone(array)) {
         return Ok(0);
     }
-    test_index(file, array)?;
-    Ok(count_supers(file, array)? + 1)
+    test_index(array)?;
+    Ok(count_supers(ArrayInFile { array })? + 1)
 }
 
 // Whether there is no index block.
@@ -37,49 +36,41 @@ pub fn index_undefined(array: ExtensibleArray) -> bool
 }
 
 // Tests and counts the super blocks, and counts their data blocks.
-fn count_supers(file: &[u8], array: ExtensibleArray) -> Result<u64, Refusal>
-    requires { IndexInFile file.now array }
-    ensures { let a = array_of file.now array in
-        result ≡ counted_of (supers_from a (super_blocks a.parameters) 0) }
+fn count_supers(array: ArrayInFile) -> Result<u64, Refusal>
+    ensures { let a = array_in array.entry.array in result ≡ counted_of (supers_from a (super_blocks a.parameters) 0) }
 {
-    let supers = array.geometry.super_blocks();
+    let supers = array.array.extents.sizes.super_blocks();
     let mut total = 0;
     // The super blocks before u are accepted, and have `total` spans with their data blocks.
     for u in 0..supers {
-        total += count_super(file, array, u)?;
+        total += count_super(array, u)?;
     }
     Ok(total)
 }
 
 // Tests and counts super block u, unless the index block names its data blocks, and counts these.
-fn count_super(file: &[u8], array: ExtensibleArray, u: u64) -> Result<u64, Refusal>
-    requires { (u < super_blocks array.geometry.parameters) × IndexInFile file.now array }
-    ensures { let a = array_of file.now array in result ≡ counted_of (super_spans a u) }
+fn count_super(array: ArrayInFile, u: u64) -> Result<u64, Refusal>
+    requires { u < super_blocks array.array.extents.sizes.parameters }
+    ensures { result ≡ counted_of (super_spans (array_in array.entry.array) u) }
 {
-    if u < array.geometry.direct_super_blocks() {
-        return Ok(count_blocks(file, array, u, 0));
+    if u < array.array.extents.sizes.direct_super_blocks() {
+        let super_at = None;
+        return Ok(count_blocks(BlockRow { array, u, super_at }));
     }
-    let Some(at) = super_pointer(file, array, u) else {
+    let Some(at) = array.super_pointer(u) else {
         return Ok(0);
     };
-    test_super(file, array, u, at)?;
-    Ok(count_blocks(file, array, u, at) + 1)
+    test_super(array.array, u, at)?;
+    let super_at = Some(at);
+    Ok(count_blocks(BlockRow { array, u, super_at }) + 1)
 }
 
-// Counts the data blocks of super block u that are pointed to. The super block lies at super_at, which plays no part
-// where the index block names the data blocks.
-fn count_blocks(file: &[u8], array: ExtensibleArray, u: u64, super_at: u64) -> u64
-    requires { (u < super_blocks array.geometry.parameters) × IndexInFile file.now array
-        × EnteredSuper (array_of file.now array) u (Ok (Some super_at)) }
-    ensures { let a = array_of file.now array in result ≡ length (block_spans a u (blocks u) 0) }
+// Counts the data blocks of a super block that are pointed to.
+fn count_blocks(row: BlockRow) -> u64
+    requires { NamedAt (array_in row.array.array) row.u row.super_at }
+    ensures { let r = row.entry in result ≡ length (block_spans (array_in r.array.array) r.u (blocks r.u) 0) }
 {
-    let blocks = array.geometry.blocks(u);
-    let mut total = 0;
-    // Of the data blocks before k `total` are pointed to.
-    for k in 0..blocks {
-        if block_pointer(file, array, u, k, super_at).is_some() {
-            total += 1;
-        }
-    }
-    total
+    let blocks = row.array.array.extents.sizes.blocks(row.u);
+    let pointed = (0..blocks).filter(|k| row.block_pointer(*k).is_some());
+    pointed.count() as u64
 }

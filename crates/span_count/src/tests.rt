@@ -2,16 +2,15 @@
 ghost use Rattle.std.specs.Prelude.{◌≡◌, ◌<◌, Ok};
 ghost use Rattle.refusal.specs.Outcome.{◌yields◌};
 ghost use Rattle.ea_header.specs.Header.{header_at};
-ghost use Rattle.ea_geometry.specs.Bounded.{Bounded};
 ghost use Rattle.ea_geometry.specs.Sizes.{super_blocks};
-ghost use Rattle.ea_blocks.specs.Values.{array_of};
+ghost use Rattle.ea_blocks.specs.Values.{array_in};
 ghost use Rattle.ea_blocks.specs.Structures.{index_block, super_block, super_block_at};
 ghost use Rattle.span_walk.specs.Spans.{header_span, span_test, spanned_test};
 ghost use Rattle.span_walk.specs.Walk.{head_test};
 
-use crate::spans::{index_span, super_span};
-use ea_blocks::ExtensibleArray;
-use ea_blocks::tests::{test_index_block, test_super_block};
+use crate::spans::{array_alone, index_span, super_span};
+use ea_blocks::BoundedArray;
+use ea_blocks::tests::test_index_block;
 use ea_header::ExtensibleArrayHeader;
 use refusal::Refusal;
 use span_walk::Span;
@@ -49,10 +48,11 @@ pub fn parse_served(
 }
 
 // 31 where a span's end is past 2^64 - 1.
+#[tactic(auto, using(crate::proofs::SpanTests::span_fits, crate::proofs::SpanTests::span_exact))]
 fn test_span(span: Span) -> Result<(), Refusal>
     ensures { result ≡ span_test span }
 {
-    if span.length <= u64::MAX - span.address {
+    if span.address.checked_add(span.length).is_some() {
         Ok(())
     } else {
         Err(Refusal::SpanOverflow(span.address, span.length))
@@ -60,20 +60,18 @@ fn test_span(span: Span) -> Result<(), Refusal>
 }
 
 // Tests the index block: 31, then 20, 23, 26.
-pub fn test_index(file: &[u8], array: ExtensibleArray) -> Result<(), Refusal>
-    requires { Bounded array.geometry }
-    ensures { let a = array_of file.now array in result ≡ spanned_test a index_block }
+pub fn test_index(array: BoundedArray) -> Result<(), Refusal>
+    ensures { result ≡ spanned_test (array_in array.entry) index_block }
 {
     test_span(index_span(array))?;
-    test_index_block(file, array)
+    test_index_block(array.file, array_alone(array))
 }
 
 // Tests super block u, which lies at `at`: 31, then 20, 25, 26.
-pub fn test_super(file: &[u8], array: ExtensibleArray, u: u64, at: u64) -> Result<(), Refusal>
-    requires { (u < super_blocks array.geometry.parameters) × Bounded array.geometry }
-    ensures { let a = array_of file.now array in at ≡ super_block_at a u
-        → result ≡ spanned_test a (super_block u) }
+pub fn test_super(array: BoundedArray, u: u64, at: u64) -> Result<(), Refusal>
+    requires { u < super_blocks array.extents.sizes.parameters }
+    ensures { let a = array_in array.entry in at ≡ super_block_at a u → result ≡ spanned_test a (super_block u) }
 {
     test_span(super_span(array, u, at))?;
-    test_super_block(file, array, u, at)
+    array.test_super_block(u, at)
 }

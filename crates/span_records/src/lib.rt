@@ -67,8 +67,8 @@ fn copy_spans(spans: &mut [Span], addresses: &[u64], lengths: &[u64], n: usize)
     ensures { spans.new ≡ stored n addresses.now lengths.now spans.old }
 {
     // The first i records hold the first i spans.
-    for i in 0..n {
-        spans[i] = Span {
+    for (i, span) in spans[..n].iter_mut().enumerate() {
+        *span = Span {
             address: addresses[i],
             length: lengths[i],
         };

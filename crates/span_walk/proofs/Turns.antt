@@ -1,6 +1,6 @@
 -- The spans of the index block and of a super block, and one turn of a loop over super blocks or data blocks. Assumes
 -- nothing.
-use Prim.Native.Nat.{ℕ, suc, ◌+◌, ◌-◌, ◌<◌, ◌≤◌}
+use Prim.Native.Nat.{ℕ, ◌+◌, ◌-◌, ◌<◌, ◌≤◌}
 use mathlib.Core.Path.{◌≡◌, refl}
 use mathlib.Core.Bool.{true, false}
 use mathlib.Core.List.{[], ◌∷◌}
@@ -9,14 +9,11 @@ use Rattle.std.specs.Prelude.{Ok}
 use Rattle.refusal.specs.Outcome.{◌yields◌, also}
 use Rattle.fields.specs.Fields.{undefined}
 use Rattle.ea_geometry.specs.Sizes.{super_blocks, blocks}
+use Rattle.ea_geometry.proofs.Counts.{less}
 use Rattle.ea_blocks.specs.Array.{Array}
 use Rattle.ea_blocks.specs.Structures.{index_block, super_block, data_block, is_direct, super_undefined, block_undefined}
 use Rattle.span_walk.specs.Spans.{span_of, spanned_test}
 use Rattle.span_walk.specs.Walk.{joined, block_spans, super_spans, supers_from, index_spans}
-
--- what is left of n, before and after a turn
-less : (n i : ℕ) → i < n → n - i ≡ suc (n - (i + 1))
-less n i h = omega arith
 
 module _ (a : Array) where
   -- the index block

@@ -9,7 +9,7 @@ ghost use Rattle.structures.specs.Header.{form_test, sizes_test, signed_header_t
 
 use crate::{Kind, test_signature};
 use checksum::verify_trailing;
-use fields::bytes::{ensure_len, ensure_width};
+use fields::bytes::{ensure_len, ensure_length_size, ensure_offset_size};
 use refusal::Refusal;
 
 // The header of a kind of index.
@@ -84,6 +84,6 @@ fn test_form(file: &[u8], wrong: Refusal, signature: u32, pos: usize) -> Result<
 fn test_sizes(offset_size: u64, length_size: u64) -> Result<(), Refusal>
     ensures { result ≡ sizes_test offset_size length_size }
 {
-    ensure_width(length_size, Refusal::LengthSize(length_size))?;
-    ensure_width(offset_size, Refusal::OffsetSize(offset_size))
+    ensure_length_size(length_size)?;
+    ensure_offset_size(offset_size)
 }

@@ -1,4 +1,5 @@
 pub mod Walked
+pub mod PathEnds
 pub mod Lists
 pub mod Lookups
 pub mod Calls

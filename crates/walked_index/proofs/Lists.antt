@@ -9,9 +9,9 @@ use Rattle.refusal.specs.declared.Refusal.{Refusal}
 use Rattle.refusal.specs.Refusals.{largest64, Outcome}
 use Rattle.refusal.specs.Outcome.{in_room, ◌yields◌}
 use Rattle.refusal.specs.Values.{counted_of}
-use Rattle.refusal.proofs.Outcomes.{value_is, refused_is, yields_inv, yields_passed, yields_refused, room_refused}
+use Rattle.refusal.proofs.Outcomes.{yields_inv, yields_passed, yields_refused, room_refused}
 use Rattle.chunk_grid.specs.Grid.{Grid, grid_test}
-use Rattle.chunk_grid.specs.Values.{grid_of, built}
+use Rattle.chunk_grid.specs.Values.{grid_of}
 use Rattle.element_form.specs.declared.Form.{Form}
 use Rattle.index.specs.Index.{Rec, Listing}
 use Rattle.index.specs.ExactList.{ExactList}

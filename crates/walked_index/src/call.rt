@@ -17,7 +17,7 @@ ghost use Rattle.walked_index.specs.Walked.{elements_read};
 use crate::WalkedIndex;
 use crate::list::list_chunks;
 use crate::lookup::lookup_chunk;
-use calls::{CallNumbers, read_grid};
+use calls::Call;
 use index::Entry;
 use refusal::Refusal;
 use shapes::read_shape;
@@ -36,67 +36,41 @@ pub trait HeadedIndex: WalkedIndex {
             yields Ok (headed file.now address offset_size length_size)) };
 }
 
-// Reads the header at a call's address.
-fn read_index<I: HeadedIndex>(file: &[u8], numbers: CallNumbers) -> Result<I, Refusal>
-    ensures { result ≡ (I.header_test file.now numbers.address numbers.offset_size numbers.length_size
-        yields Ok (I.headed file.now numbers.address numbers.offset_size numbers.length_size)) }
-{
-    let offset_size = numbers.offset_size;
-    let length_size = numbers.length_size;
-    I::read(file, numbers.address, offset_size, length_size)
-}
-
-// Reads the header at an address and the shapes of a dataset, and lists its chunks.
-pub fn list_at<I: HeadedIndex>(
-    file: &[u8],
-    numbers: CallNumbers,
-    chunk: &[u8],
-    present: &[u8],
-    maximum: &[u8],
-    list: &mut [u8],
-) -> Result<u64, Refusal>
-    ensures { let call =
-        call_from file.now numbers chunk.now present.now maximum.now in
-        let i = I.headed call.file call.address call.offset_size call.length_size in
-        let e = elements_read call.file (I.form i) call.grid call.element_bytes (I.count i) in
-        let answer = I.header_test call.file call.address call.offset_size call.length_size
-        yields in_room (grid_test call.grid yields I.walk i call.file e)
-        (length list.old / record_length numbers.rank) in
+// Reads a call's header and grid, and lists the dataset's chunks.
+pub fn list_at<I: HeadedIndex>(call: &Call, list: &mut [u8]) -> Result<u64, Refusal>
+    ensures { let given = call_from call.now in
+        let i = I.headed given.file given.address given.offset_size given.length_size in
+        let e = elements_read given.file (I.form i) given.grid given.element_bytes (I.count i) in
+        let answer = I.header_test given.file given.address given.offset_size given.length_size
+        yields in_room (grid_test given.grid yields I.walk i given.file e)
+        (length list.old / record_length call.now.rank) in
         (result ≡ counted_of answer)
         × (list.new ≡ list_content answer list.old)
-        × ((n : ℕ) → result ≡ Ok n → 0 < numbers.rank
-        → ExactList (index_of (I.located i call.file e)) (records_in numbers.rank n list.new) n) }
+        × ((n : ℕ) → result ≡ Ok n → 0 < call.now.rank
+        → ExactList (index_of (I.located i given.file e)) (records_in call.now.rank n list.new) n) }
 {
-    let index = read_index::<I>(file, numbers)?;
-    let grid = read_grid(numbers, chunk, present, maximum)?;
-    list_chunks(file, index, grid, numbers.element_bytes, list)
+    let index = I::read(call.file, call.address, call.offset_size, call.length_size)?;
+    let grid = call.read_grid()?;
+    list_chunks(call.file, index, grid, call.element_bytes, list)
 }
 
-// Reads the header at an address, the shapes of a dataset and a corner, and looks up the chunk at the corner.
-pub fn lookup_at<I: HeadedIndex>(
-    file: &[u8],
-    numbers: CallNumbers,
-    chunk: &[u8],
-    present: &[u8],
-    maximum: &[u8],
-    corner: &[u8],
-) -> Result<Option<Entry>, Refusal>
-    ensures { let call =
-        call_from file.now numbers chunk.now present.now maximum.now in
-        let at = shape_of numbers.rank corner.now in
-        let i = I.headed call.file call.address call.offset_size call.length_size in
-        let e = elements_read call.file (I.form i) call.grid call.element_bytes (I.count i) in
-        let test = I.header_test call.file call.address call.offset_size call.length_size in
-        let answer = test yields (grid_test call.grid then corner_test call.grid at then I.entry i call.file
-        yields slot_path (I.located i call.file e) (slot_of call.grid at)) in
+// Reads a call's header and grid, and looks up the chunk at a corner.
+pub fn lookup_at<I: HeadedIndex>(call: &Call, corner: &[u8]) -> Result<Option<Entry>, Refusal>
+    ensures { let given = call_from call.now in
+        let at = shape_of call.now.rank corner.now in
+        let i = I.headed given.file given.address given.offset_size given.length_size in
+        let e = elements_read given.file (I.form i) given.grid given.element_bytes (I.count i) in
+        let test = I.header_test given.file given.address given.offset_size given.length_size in
+        let answer = test yields (grid_test given.grid then corner_test given.grid at then I.entry i given.file
+        yields slot_path (I.located i given.file e) (slot_of given.grid at)) in
         (result ≡ found_of answer)
-        × Answered answer (index_of (I.located i call.file e)) at result
-        × ((room : ℕ) → Agreed (test yields in_room (grid_test call.grid yields I.walk i call.file e) room) call.grid at
-        result) }
+        × Answered answer (index_of (I.located i given.file e)) at result
+        × ((room : ℕ) → Agreed (test yields in_room (grid_test given.grid yields I.walk i given.file e) room)
+        given.grid at result) }
 {
-    let headed = read_index::<I>(file, numbers)?;
-    let grid = read_grid(numbers, chunk, present, maximum)?;
+    let headed = I::read(call.file, call.address, call.offset_size, call.length_size)?;
+    let grid = call.read_grid()?;
     let mut offsets = [0u64; 32];
-    let n = read_shape(&mut offsets, numbers.rank, corner) as usize;
-    lookup_chunk(file, headed, grid, numbers.element_bytes, &offsets[..n])
+    let n = read_shape(&mut offsets, call.rank, corner) as usize;
+    lookup_chunk(call.file, headed, grid, call.element_bytes, &offsets[..n])
 }

@@ -37,9 +37,9 @@ pub fn lookup_chunk<I: WalkedIndex>(
 {
     let count = index.slot_count();
     grid.test()?;
-    let numbering = grid.numbering();
-    corner_test(&numbering, corner)?;
+    corner_test(&grid, corner)?;
     index.test_entry(file)?;
+    let numbering = grid.numbering();
     let slot = slot_of(corner, &numbering);
     let form = index.element_form();
     let reader = ElementReader::new(form, count, &numbering, element_bytes);

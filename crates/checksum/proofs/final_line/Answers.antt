@@ -1,12 +1,9 @@
 -- `checksum::final_line` meets its contract. Assumes nothing.
-use Rattle.checksum.specs.Lookup3.{final_line, sub32}
-use Rattle.std.proofs.Common.{◌≡◌, arith}
-use lib.Bits.{bit_xor}
+use mathlib.Core.Path.{◌∙◌}
+use Rattle.checksum.specs.Lookup3.{final_line}
+use Rattle.checksum.proofs.Lookup3.{rotate_is}
 use Rattle.checksum.proofs.final_line.Goals as goal
 
 pub returns : goal.returns
 unfolding final_line
-returns c =
-    let w = c.args.w in
-    let d : c.wrapping_sub_u32-c.result ≡ sub32 (bit_xor w.c w.b) c.rot.result = omega arith in
-    cc
+returns c = rw (c.rotate_left.ensures ∙ rotate_is _ _ c.requires.0 c.requires.1)

@@ -1,12 +1,14 @@
 -- `chunk_grid::multiplier_test` meets its contract: the loop has what `Tested` says. Assumes nothing.
 use mathlib.Core.Path.{◌≡◌, sym, ap, ◌∙◌}
 use native.Mathlib.Omega.{arith}
+use Rattle.std.specs.Prelude.{Err}
+use Rattle.std.proofs.Common.{rules}
 use Prim.Native.Nat.{ℕ, ◌-◌, ◌<◌, max}
 use lib.ListN.{length, get_or}
 use Rattle.chunk_grid.specs.Grid.{to_front}
 use Rattle.chunk_grid.proofs.Order.{length_front}
 use Rattle.chunk_grid.proofs.Places.{read_at}
-use Rattle.chunk_grid.proofs.Building.{tested_none, tested-unlimited, tested_over, tested_more, tested_all}
+use Rattle.chunk_grid.proofs.Building.{tested_none, tested-unlimited, tested_over, tested_more, tested_all, taken, too_many}
 use Rattle.chunk_grid.proofs.multiplier_test.Goals.{After-max, After-dim_at}
 use Rattle.chunk_grid.proofs.multiplier_test.Goals as goal
 
@@ -27,15 +29,18 @@ returns-then-count c =
 limited : (c : After-max) → c.max.result ≡ max (get_or (to_front c.args.rotated c.args.counts.now) (c.loop-i.i - 1) 0) 1
 limited c = c.max.ensures ∙ ap (λ (n : ℕ). max n 1) (counted (goal.at.After-max c).After-dim_at).1
 
-pub returns-in_default : goal.returns-in_default
-returns-in_default c =
-    let e = limited (goal.at.returns-in_default c).After-max in
-    sym (tested_over _ _ _ c.loop-i.invariant c.loop-i-test.true (λ p. c.if-count.false ((counted (goal.at.returns-in_default c).After-dim_at).1 ∙ p)) (rw (← e) (omega (arith, c.in_default.ensures))))
+pub returns-in_err-multiplier : goal.returns-in_err-multiplier
+returns-in_err-multiplier c =
+    let r : c.from_residual.result ≡ Err c.in_err-multiplier.field-0.0 = search rules in
+    let t = too_many _ _ _ c.checked_mul.ensures (sym c.ok_or.ensures.value ∙ c.in_err-multiplier.was) in
+    let e = limited (goal.at.returns-in_err-multiplier c).After-max in
+    r ∙ ap Err t.1 ∙ sym (tested_over _ _ _ c.loop-i.invariant c.loop-i-test.true (λ p. c.if-count.false ((counted (goal.at.returns-in_err-multiplier c).After-dim_at).1 ∙ p)) (rw (← e) t.0))
 
 pub loop-i-preserved : goal.loop-i-preserved
 loop-i-preserved c =
-    let f = rw (limited (goal.at.loop-i-preserved c).After-max) at c.in-Some.ensures in
-    rw f.1 (tested_more _ _ _ c.loop-i.invariant c.loop-i-test.true (λ p. c.if-count.false ((counted (goal.at.loop-i-preserved c).After-dim_at).1 ∙ p)) (omega (arith, f.0)))
+    let t = taken _ _ _ c.checked_mul.ensures (sym c.ok_or.ensures.value ∙ c.in_ok-multiplier.was) in
+    let f = rw (limited (goal.at.loop-i-preserved c).After-max) at t in
+    rw f.1 (tested_more _ _ _ c.loop-i.invariant c.loop-i-test.true (λ p. c.if-count.false ((counted (goal.at.loop-i-preserved c).After-dim_at).1 ∙ p)) f.0)
 
 pub returns : goal.returns
 returns c = sym (tested_all _ _ _ c.loop-i.invariant c.loop-i-test.false)

@@ -7,7 +7,7 @@ use native.Mathlib.Omega.{arith}
 use Rattle.std.proofs.Common.{rules}
 use Rattle.std.specs.Prelude.{Ok}
 use Rattle.ea_blocks.specs.Entered.{EnteredSuper, EnteredBlock, EnteredPage}
-use Rattle.ea_count.proofs.Invariants.{Open, supers_first, supers_ends, count_ends, super_fits, super_absent, super_ends, blocks-first, supers_next, block_pointed, block_found, block-fits, direct_ends, blocks_next, block_absent, block_ends, pages-first, unpaged_begins, unpaged_run, unpaged_ends, unpaged_fits, unpaged_behind, pages-behind, page_pointed, page_found, page_fits, pages_clear, page_ends_walk, page_run, page_run_ends, page_total_fits, page_last, pages_on}
+use Rattle.ea_count.proofs.Invariants.{Open, supers_first, supers_ends, count_ends, super_fits, super_absent, super_ends, blocks-first, supers_next, super_here, row_direct, row_inside, paged_super, block_there_lem, pages_inside, block_found, block-fits, direct_ends, blocks_next, block_absent, block_ends, pages-first, unpaged_begins, unpaged_run, unpaged_ends, unpaged_fits, unpaged_behind, pages-behind, page_there, page_found, page_fits, pages_clear, page_ends_walk, page_run, page_run_ends, page_total_fits, page_last, pages_on}
 use Rattle.ea_count.proofs.count_blocks.Goals.{Joined-u-directs, then-u-directs+else-count-slot-2, else-u-directs, then-in_pages+else-pages-test, then-in_pages+then-pages-test+in_ok-pos+in-Some-3+in_ok-total+then-count-from, else-in_pages+in_ok-total-2}
 use Rattle.ea_count.proofs.count_blocks.Goals as goal
 
@@ -48,7 +48,7 @@ blocks-2-init c =
     (subst (EnteredSuper _ _) (c.in_ok-super_at.was ∙ ap Ok c.in-Some.is) c.enter_super.ensures)
 
 pub enter_block_in_turn-turn-requires : goal.enter_block_in_turn-turn-requires
-enter_block_in_turn-turn-requires c = block_pointed c.blocks-2.invariant c.blocks-2-test.true
+enter_block_in_turn-turn-requires c = block_there_lem c.blocks-2.invariant c.blocks-2-test.true
 
 -- data block k is open: it is not one that the index block names, or the count goes on
 opens : (c : Joined-u-directs) → Open c.supers.u c.direct_super_blocks-directs.result c.blocks-2.slot c.args.reader.now.count
@@ -87,13 +87,13 @@ pages-init c =
     (subst (EnteredBlock _ _ _) (c.in_ok-at.was ∙ ap Ok c.in-Some-2.is) e.0) (sym c.in_pages.ensures ∙ c.if-in_pages.true) c.pages-pages.ensures
 
 pub enter_page_in_turn-turn-requires : goal.enter_page_in_turn-turn-requires
-enter_page_in_turn-turn-requires c = page_pointed c.pages.invariant c.pages-test.true
+enter_page_in_turn-turn-requires c = page_there c.pages.invariant c.pages-test.true
 
 pub returns-in_err-pos : goal.returns-in_err-pos
 returns-in_err-pos c =
     let i = c.pages.invariant in
     let x = c.enter_page_in_turn-turn in
-    let e = page_found i c.pages-test.true x.result.found x.result.ahead x.ensures in
+    let e = page_found i c.pages-test.true c.unwrap.ensures x.result.found x.result.ahead x.ensures in
     let h = page_ends_walk i c.pages-test.true _ (subst (EnteredPage _ _ _ _) c.in_err-pos.was e.0) in
     search rules
 
@@ -105,21 +105,21 @@ pub pages-preserved-in_default-3 : goal.pages-preserved-in_default-3
 pages-preserved-in_default-3 c =
     let i = c.pages.invariant in
     let x = c.enter_page_in_turn-turn in
-    let e = page_found i c.pages-test.true x.result.found x.result.ahead x.ensures in
+    let e = page_found i c.pages-test.true c.unwrap.ensures x.result.found x.result.ahead x.ensures in
     pages_clear i c.pages-test.true (subst (EnteredPage _ _ _ _) (c.in_ok-pos.was ∙ ap Ok c.in_default-3.is) e.0) e.1
 
 pub count_elements-requires : goal.count_elements-requires
 count_elements-requires c =
     let i = c.pages.invariant in
     let x = c.enter_page_in_turn-turn in
-    let e = page_found i c.pages-test.true x.result.found x.result.ahead x.ensures in
+    let e = page_found i c.pages-test.true c.unwrap.ensures x.result.found x.result.ahead x.ensures in
     page_run i c.pages-test.true (subst (EnteredPage _ _ _ _) (c.in_ok-pos.was ∙ ap Ok c.in-Some-3.is) e.0)
 
 pub returns-in_err-total : goal.returns-in_err-total
 returns-in_err-total c =
     let i = c.pages.invariant in
     let x = c.enter_page_in_turn-turn in
-    let e = page_found i c.pages-test.true x.result.found x.result.ahead x.ensures in
+    let e = page_found i c.pages-test.true c.unwrap.ensures x.result.found x.result.ahead x.ensures in
     let h = page_run_ends i c.pages-test.true (subst (EnteredPage _ _ _ _) (c.in_ok-pos.was ∙ ap Ok c.in-Some-3.is) e.0) _ (sym c.in_err-total.was ∙ c.count_elements.ensures) in
     search rules
 
@@ -127,7 +127,7 @@ pub overflow_add-total : goal.overflow_add-total
 overflow_add-total c =
     let i = c.pages.invariant in
     let x = c.enter_page_in_turn-turn in
-    let e = page_found i c.pages-test.true x.result.found x.result.ahead x.ensures in
+    let e = page_found i c.pages-test.true c.unwrap.ensures x.result.found x.result.ahead x.ensures in
     omega (
       arith,
       page_total_fits i c.pages-test.true (subst (EnteredPage _ _ _ _) (c.in_ok-pos.was ∙ ap Ok c.in-Some-3.is) e.0)
@@ -142,7 +142,7 @@ pub pages-preserved : goal.pages-preserved
 pages-preserved c =
     let i = c.pages.invariant in
     let x = c.enter_page_in_turn-turn in
-    let e = page_found i c.pages-test.true x.result.found x.result.ahead x.ensures in
+    let e = page_found i c.pages-test.true c.unwrap.ensures x.result.found x.result.ahead x.ensures in
     pages_on i c.pages-test.true (subst (EnteredPage _ _ _ _) (c.in_ok-pos.was ∙ ap Ok c.in-Some-3.is) e.0)
     (sym c.in_ok-total.was ∙ c.count_elements.ensures) c.if-count-from.false e.1
 
@@ -202,7 +202,7 @@ blocks-2-preserved c =
           blocks_next i lt w.total-is (pages-behind w.pages.invariant w.pages-test.false) e.1
       | then-in_pages+then-pages-test+in_ok-pos+in-Some-3+in_ok-total+then-count-from w ↦
           let y = w.enter_page_in_turn-turn in
-          let d = page_found w.pages.invariant w.pages-test.true y.result.found y.result.ahead y.ensures in
+          let d = page_found w.pages.invariant w.pages-test.true w.unwrap.ensures y.result.found y.result.ahead y.ensures in
           blocks_next i lt w.total-is
           (page_last w.pages.invariant w.pages-test.true (subst (EnteredPage _ _ _ _) (w.in_ok-pos.was ∙ ap Ok w.in-Some-3.is) d.0) (sym w.in_ok-total.was ∙ w.count_elements.ensures) w.if-count-from.true) e.1
       | else-in_pages+in_ok-total-2 w ↦
@@ -224,3 +224,28 @@ returns-then-count-slot c = count_ends c.supers.invariant c.if-count-slot.true
 pub returns-then-count-slot-2 : goal.returns-then-count-slot-2
 returns-then-count-slot-2 c =
     direct_ends c.blocks-2.invariant c.blocks-2-test.true c.if-u-directs.true c.if-count-slot-2.true
+
+-- what a row of data blocks, or of pages, keeps to
+pub invariant_of-row : goal.invariant_of-row
+invariant_of-row c =
+    let i = c.blocks-2.invariant in
+    record { below = super_here i; direct = row_direct i; inside = row_inside i }
+
+pub invariant_of-page_row : goal.invariant_of-page_row
+invariant_of-page_row c =
+    let i = c.blocks-2.invariant in
+    let lt = c.blocks-2-test.true in
+    let x = c.enter_block_in_turn-turn in
+    let e = block_found i lt x.result.found x.result.ahead x.ensures in
+    let q = sym c.in_pages.ensures ∙ c.if-in_pages.true in
+    record {
+      super_below = super_here i;
+      below = block_there_lem i lt;
+      paged = q;
+      inside = (row_inside i _ c.unwrap.ensures).1;
+      begins = pages_inside i lt (opens (goal.at.invariant_of-page_row c).Joined-u-directs) (subst (EnteredBlock _ _ _) (c.in_ok-at.was ∙ ap Ok c.in-Some-2.is) e.0) q;
+    }
+
+-- a data block that is read by pages is named by its super block
+pub unwrap-requires : goal.unwrap-requires
+unwrap-requires c = paged_super c.blocks-2.invariant (sym c.in_pages.ensures ∙ c.if-in_pages.true)

@@ -5,10 +5,10 @@ use Rattle.ea_count.proofs.Invariants.{InSupers, InBlocks, InPages}
 use Rattle.ea_count.proofs.count_blocks.Given as goal
 
 abbrev pub invariant-pages : goal.invariant-pages
-invariant-pages l = InPages (record { file = l.file; array = l.array; reader = l.reader; first = l.first; begin = l.begin; end = l.end; count = l.count; directs = l.directs; page = l.page }) l.u l.blocks l.elements l.super_at l.k l.at l.pages l.slot l.total l.from l.page_ahead l.p
+invariant-pages l = InPages (record { array = l.array.array; reader = l.reader; first = l.first; begin = l.begin; end = l.end; count = l.count; directs = l.directs; page = l.page }) l.u l.blocks l.elements l.super_at l.k l.at l.pages l.slot l.total l.from l.page_ahead l.p
 
 abbrev pub invariant-blocks-2 : goal.invariant-blocks-2
-invariant-blocks-2 l = InBlocks (record { file = l.file; array = l.array; reader = l.reader; first = l.first; begin = l.begin; end = l.end; count = l.count; directs = l.directs; page = l.page }) l.u l.blocks l.elements l.super_at l.total l.slot l.block_ahead l.k
+invariant-blocks-2 l = InBlocks (record { array = l.array.array; reader = l.reader; first = l.first; begin = l.begin; end = l.end; count = l.count; directs = l.directs; page = l.page }) l.u l.blocks l.elements l.super_at l.total l.slot l.block_ahead l.k
 
 abbrev pub invariant-supers : goal.invariant-supers
-invariant-supers l = InSupers (record { file = l.file; array = l.array; reader = l.reader; first = l.first; begin = l.begin; end = l.end; count = l.count; directs = l.directs; page = l.page }) l.total l.slot l.u
+invariant-supers l = InSupers (record { array = l.array.array; reader = l.reader; first = l.first; begin = l.begin; end = l.end; count = l.count; directs = l.directs; page = l.page }) l.total l.slot l.u

@@ -1,6 +1,6 @@
 -- `ea_spans::list_spans` meets its contract. Assumes nothing.
 use Prim.Native.Nat.{ℕ, ◌+◌, min}
-use mathlib.Core.Path.{◌≡◌, sym, ◌∙◌}
+use mathlib.Core.Path.{◌≡◌, refl, sym, ap, ◌∙◌}
 use mathlib.Core.List.{List}
 use native.Mathlib.Omega.{arith}
 use lib.ListN.{length}
@@ -9,19 +9,20 @@ use Rattle.refusal.specs.Outcome.{also, in_room}
 use Rattle.refusal.specs.Values.{counted_of}
 use Rattle.refusal.proofs.Outcomes.{room_refused, room_small, room_fits}
 use Rattle.refusal.proofs.Counts.{counted_inv, refused_inv}
-use Rattle.ea_blocks.specs.Values.{array_of}
+use Rattle.ea_blocks.specs.Values.{array_in}
 use Rattle.span_walk.specs.declared.Span.{Span}
 use Rattle.span_walk.specs.Walk.{Spanning, index_spans}
+use Rattle.ea_spans.specs.declared.lists.SpanLists.{SpanLists}
 use Rattle.ea_spans.specs.SpanList.{room_of}
 use Rattle.span_count.proofs.Counting.{counted_more, refused_more, index_bounded}
-use Rattle.ea_spans.proofs.Writing.{Going, going_whole, going_put}
+use Rattle.ea_spans.proofs.Writing.{Going, going_whole, going_done, going_put}
 use Rattle.ea_spans.proofs.SpanList.{listed_refused}
-use Rattle.ea_spans.proofs.list_spans.Goals.{After-put_span, Else-room-needed, In_ok-needed, Start}
+use Rattle.ea_spans.proofs.list_spans.Goals.{Else-room-needed, In_ok-needed, Start}
 use Rattle.ea_spans.proofs.list_spans.Goals as goal
 
 -- the spans behind the header's, all spans, and the room for them
 abbrev inner : Start → Spanning
-inner s = index_spans (array_of s.args.file.now s.args.array)
+inner s = index_spans (array_in s.args.array)
 
 abbrev whole : Start → Spanning
 whole s = also s.args.header (inner s)
@@ -33,7 +34,7 @@ pub overflow_add-needed : goal.overflow_add-needed
 overflow_add-needed c =
     omega (
       arith,
-      index_bounded (array_of c.args.file.now c.args.array) _ c.requires.0.served
+      index_bounded (array_in c.args.array) _ c.args.array.extents.sizes.served
           (sym c.in_ok-needed.was ∙ c.count_index.ensures),
     )
 
@@ -61,21 +62,22 @@ roomy c =
     let i = listed (goal.at.Else-room-needed c).In_ok-needed in
     room_fits _ _ i.0 i.1 _ i.2 (omega (arith, c.if-room-needed.false, c.min-room.ensures, c.min.ensures))
 
--- the spans behind the header's come next
-behind : (c : After-put_span)
-    → Going (whole (goal.at.After-put_span c).Start) 0 c.args.addresses.now c.args.lengths.now (inner (goal.at.After-put_span c).Start) 1 c.put_span.new.addresses c.put_span.new.lengths
-behind c =
-    let i = listed (goal.at.After-put_span c).In_ok-needed in
-    let m = c.min-room.ensures in
-    let n = c.min.ensures in
-    going_put _ _ (going_whole (record { list = i.0; is = i.1; first = omega (arith, i.2, c.if-room-needed.false); second = omega (arith, i.2, c.if-room-needed.false) }))
-    c.put_span.ensures.0 c.put_span.ensures.1
+-- all of them are left to write into the lists
+begun : (c : Else-room-needed) (from : SpanLists) → from.next ≡ 0 → from.addresses.now ≡ c.args.addresses.now → from.lengths.now ≡ c.args.lengths.now
+    → Going (whole (goal.at.Else-room-needed c).Start) from (whole (goal.at.Else-room-needed c).Start) from
+begun c from n a l =
+    let i = listed (goal.at.Else-room-needed c).In_ok-needed in
+    let m = (c.min-room.ensures ∙ ap (λ (x : ℕ). min x c.args.limit) c.min.ensures) in
+    let x = ap length a in
+    let y = ap length l in
+    going_whole (record { list = i.0; is = i.1; first = omega (arith, i.2, n, c.if-room-needed.false); second = omega (arith, i.2, n, c.if-room-needed.false) })
 
 pub write_index-requires : goal.write_index-requires
 write_index-requires c =
-    (c.requires.0, c.requires.1, (behind (goal.at.write_index-requires c).After-put_span).room)
+    (c.requires, (going_put _ _ (begun (goal.at.write_index-requires c).Else-room-needed _ refl refl refl) c.push.ensures).room)
 
 pub returns : goal.returns
 returns c =
-    let g = behind (goal.at.returns c).After-put_span in
-    rw (roomy (goal.at.returns c).Else-room-needed) (counted (goal.at.returns c).In_ok-needed, c.write_index.ensures.0 ∙ g.first, c.write_index.ensures.1 ∙ g.second)
+    let g = begun (goal.at.returns c).Else-room-needed _ refl refl refl in
+    let w = going_done (going_put _ _ g c.push.ensures) c.write_index.ensures in
+    rw (roomy (goal.at.returns c).Else-room-needed) (counted (goal.at.returns c).In_ok-needed, search rules, search rules)

@@ -2,14 +2,15 @@
 -- other. Assumes nothing.
 use mathlib.Core.List.{append_assoc, append-nil}
 use Rattle.list_text.specs.Printed.{spaced, refusal_text}
-use Rattle.list_text.proofs.Puts.{put_then, put_as}
+use Rattle.std.proofs.Common.{rules}
+use Rattle.list_text.proofs.Puts.{appended_then, appended_as, put_left}
 use Rattle.list_text.proofs.put_refusal.Goals as goal
 
 pub returns-clause-put : goal.returns-clause-put
 unfolding refusal_text spaced
 returns-clause-put c =
-    let number = rw c.number.ensures at c.put_spaced-number.ensures.put in
-    let first = rw c.first.ensures at c.put_spaced-first.ensures.put in
-    let second = rw c.second.ensures at c.put_spaced-second.ensures.put in
-    let put = put_then c.put_text-word.ensures (put_then number (put_then first (put_then second c.put_text.ensures))) in
-    put_as put _ (simp (append_assoc, append-nil))
+    let number = rw c.number.ensures at c.put_spaced.ensures.appended in
+    let first = rw c.first.ensures at c.put_spaced-2.ensures.appended in
+    let second = rw c.second.ensures at c.put_spaced-3.ensures.appended in
+    let put = appended_then c.put.ensures.appended (appended_then number (appended_then first (appended_then second c.put-2.ensures.appended))) in
+    put_left (appended_as put _ (simp (append_assoc, append-nil))) (λ e. search rules)

@@ -16,12 +16,13 @@ use Rattle.std.specs.Prelude.{None, Some}
 use Rattle.questions.specs.Text.{words}
 use Rattle.questions.specs.Line.{line_question, line_stored}
 use Rattle.questions.proofs.Words.{words_split, word_at, words_few}
-use Rattle.questions.proofs.Questions.{parsing_first, parsing_on, parsing_refused, parsing_end}
+use Rattle.questions.proofs.Questions.{question_default, parsing_first, parsing_on, parsing_refused, parsing_end}
 use Rattle.questions.proofs.parse_line.Goals.{In-Some, In-None}
+use Rattle.questions.proofs.parse_line.Goals.{else-rank-le4096-via-then-rank-le4096+else-count-rank, else-rank-le4096-via-else-rank-le4096}
 use Rattle.questions.proofs.parse_line.Goals as goal
 
 pub loop-i-init : goal.loop-i-init
-loop-i-init c = rw c.none-question.ensures (refl, parsing_first _ _)
+loop-i-init c = rw (question_default c.default-question.result c.default-question.ensures) (refl, parsing_first _ _)
 
 -- the word at hand, with its number
 here : (c : In-Some) → (c.in-Some.i ≡ c.loop-i.count) × (c.loop-i.count < length (words c.args.line.now))
@@ -75,13 +76,13 @@ returns-then-count-rank c =
     let told = end (goal.at.returns-then-count-rank c).In-None in
     record { value = rw (eq-eqb l.count (6 + 3 * l.question.rank) c.if-count-rank.true) at told.0; numbers_after = told.1 }
 
-pub returns-else-count-rank : goal.returns-else-count-rank
-returns-else-count-rank c =
-    let told = unread (goal.at.returns-else-count-rank c).In-None c.if-count-rank.false in
-    record { value = told.0; numbers_after = told.1 }
-
-pub returns-else-rank-le4096 : goal.returns-else-rank-le4096
-returns-else-rank-le4096 c =
-    let none = (goal.at.returns-else-rank-le4096 c).In-None in
-    let told = unread none (λ e. omega (arith, last none, words_few c.args.line.now, c.requires)) in
+pub returns : goal.returns
+returns c =
+    let none = (goal.at.returns c).In-None in
+    let told =
+    unread none (λ e.
+    elim c.else-rank-le4096.branch [
+      | else-rank-le4096-via-then-rank-le4096+else-count-rank w ↦ w.if-count-rank.false e
+      | else-rank-le4096-via-else-rank-le4096 w ↦ omega (arith, e, w.if-rank-le4096.false, last none, words_few c.args.line.now, c.requires)
+    ]) in
     record { value = told.0; numbers_after = told.1 }

@@ -1,5 +1,5 @@
 -- `records::write_elements` meets its contract. Assumes nothing.
-use Prim.Native.Nat.{◌-◌}
+use Prim.Native.Nat.{◌+◌, ◌*◌, ◌≤◌}
 use mathlib.Core.Path.{◌≡◌}
 use mathlib.Core.List.{List, []}
 use lib.ListN.{length}
@@ -8,14 +8,14 @@ use Rattle.element_form.specs.Form.{stride as stride_of}
 use Rattle.index.specs.Index.{Rec}
 use Rattle.elements.specs.Runs.{elements_from}
 use Rattle.elements.specs.Values.{elements_of}
-use Rattle.elements.proofs.Turns.{Within}
 use Rattle.records.proofs.Writing.{LeftOf}
 use Rattle.records.proofs.write_elements.Given as goal
 
-abbrev pub invariant-loop-i : goal.invariant-loop-i
-invariant-loop-i here = Within here.file (stride_of here.reader.form) here.left here.i here.from × (length here.out ≡ length here.initial.out) × (length here.offsets ≡ 32)
-    × ((l : List Rec) → elements_from (elements_of here.file here.reader) here.pos here.left here.slot (Ok []) ≡ Ok l
-    → LeftOf (elements_of here.file here.reader) here.left here.slot here.initial.out here.at l here.from here.i here.out here.to)
+abbrev pub invariant-loop-left : goal.invariant-loop-left
+invariant-loop-left l =
+    let es = elements_of l.file l.reader in
+    (l.from + l.left * stride_of l.reader.form ≤ length l.file) × (l.here + l.left ≡ l.slot + l.below) × (length l.out ≡ length l.initial.out)
+    × ((k : List Rec) → elements_from es l.pos l.below l.slot (Ok []) ≡ Ok k → LeftOf es l.initial.out l.at k l.from l.left l.here l.out l.to)
 
-abbrev pub decreases-loop-i : goal.decreases-loop-i
-decreases-loop-i l = l.left - l.i
+abbrev pub decreases-loop-left : goal.decreases-loop-left
+decreases-loop-left l = l.left

@@ -3,12 +3,9 @@ use Prim.Native.Nat.{ℕ, ◌≤◌}
 use mathlib.Core.Path.{◌≡◌, refl, sym, ◌∙◌}
 use mathlib.Core.List.{List}
 use native.Mathlib.Omega.{arith}
-use mir.Syntax.{w64}
-use mir.Val.{Fits}
-use lib.ListN.{length, get_or, take}
+use lib.ListN.{length, take}
 use lib.Seq.{length-take-le}
 use Rattle.std.specs.Prelude.{Ok}
-use Rattle.refusal.specs.Refusals.{largest64}
 use Rattle.std.specs.Option.{IfSome}
 use Rattle.chunk_grid.specs.Grid.{grid_test}
 use Rattle.chunk_grid.specs.Values.{grid_of}

@@ -1,5 +1,5 @@
 -- `ea_count::walk::count_walk` meets its contract. Assumes nothing.
-use Prim.Native.Nat.{ℕ, ◌+◌, ◌*◌, ◌≤◌}
+use Prim.Native.Nat.{ℕ, ◌+◌, ◌-◌, ◌*◌, ◌≤◌}
 use mathlib.Core.Path.{◌≡◌, sym, ap, subst, ◌∙◌}
 use mathlib.Core.Bool.{true}
 use mathlib.Core.List.{[]}
@@ -8,22 +8,25 @@ use native.Mathlib.Omega.{arith}
 use lib.ListN.{length}
 use Rattle.std.specs.Prelude.{Ok}
 use Rattle.refusal.specs.declared.Refusal.TheVariants.{OffsetSize}
-use Rattle.refusal.specs.Values.{counted_of}
+use Rattle.refusal.specs.Values.{plus, counted_of}
 use Rattle.refusal.proofs.Tests.{then_inv}
 use Rattle.fields.specs.Fields.{is_width}
 use Rattle.fields.proofs.Fields.{width_passed}
-use Rattle.fields.proofs.Widths.{width_le}
 use Rattle.element_form.specs.Form.{stride}
 use Rattle.elements.specs.Values.{elements_of}
 use Rattle.elements.specs.Runs.{elements_from}
 use Rattle.ea_header.specs.Values.{Served}
 use Rattle.ea_header.proofs.Served.{tested_serves}
-use Rattle.ea_geometry.specs.Extents.{element_stride, inline_element_at}
+use Rattle.ea_geometry.specs.Extents.{form_of, element_stride, inline_element_at}
+use Rattle.ea_geometry.specs.Sizes.{super_blocks}
+use Rattle.ea_geometry.specs.Slots.{first_slot}
 use Rattle.ea_geometry.proofs.Places.{first_slot_zero}
+use Rattle.ea_blocks.specs.Array.{Array}
 use Rattle.ea_blocks.specs.Values.{array_of}
 use Rattle.ea_blocks.specs.Structures.{index_block, test_of, array_test}
 use Rattle.ea_blocks.proofs.StructureTests.{index_in_file}
-use Rattle.ea_count.proofs.WalkStates.{count_few}
+use Rattle.ea_walk.specs.Walk.{supers_from}
+use Rattle.elements.proofs.Runs.{count_few}
 use Rattle.ea_count.proofs.Heads.{walk_refused, walk_passed, inline_refused, inline_counted, inline_room}
 use Rattle.ea_count.proofs.walk.count_walk.Goals.{After-count_elements, After-inline_element_at, Else-not-is_width, In_ok-test_array}
 use Rattle.ea_count.proofs.walk.count_walk.Goals as goal
@@ -45,6 +48,12 @@ passed c = let t = then_inv _ _ (tested c) in (tested_serves _ t.0, t.1)
 wide : (c : Else-not-is_width) → is_width c.args.array.geometry.offset_size ≡ true
 wide c = sym c.is_width.ensures ∙ c.if-not-is_width.false
 
+-- where the first inline element lies is the same in the array in the file
+moved : (c : After-inline_element_at)
+    → c.inline_element_at.result ≡ inline_element_at c.args.array.geometry.parameters c.args.array.geometry.offset_size 0
+moved c =
+    c.inline_element_at.ensures ∙ ap (λ (y : Array). inline_element_at y.parameters y.offset_size 0) c.in_file-pointed.ensures
+
 -- the inline elements lie in the file
 room : (c : After-inline_element_at)
     → let a = c.args in
@@ -52,7 +61,7 @@ room : (c : After-inline_element_at)
     + a.array.geometry.parameters.idx_blk_elmts * element_stride a.array.geometry.parameters a.array.geometry.offset_size
     ≤ length a.file.now
 room c =
-    inline_room (array_of c.args.file.now c.args.array) _ (passed (goal.at.After-inline_element_at c).In_ok-test_array).1 (ap (λ (n : ℕ). c.args.array.index_at + n) c.inline_element_at.ensures)
+    inline_room (array_of c.args.file.now c.args.array) _ (passed (goal.at.After-inline_element_at c).In_ok-test_array).1 (ap (λ (n : ℕ). c.args.array.index_at + n) (moved c))
 
 -- they are counted
 counts : (c : After-count_elements)
@@ -64,7 +73,7 @@ counts c =
     let a = c.args in
     c.count_elements.ensures
     ∙ ap (λ (x : ℕ). counted_of (elements_from (elements_of a.file.now a.reader.now) (a.array.index_at + x) a.array.geometry.parameters.idx_blk_elmts 0 (Ok [])))
-    c.inline_element_at.ensures
+    (moved (goal.at.After-count_elements c).After-inline_element_at)
 
 pub count_unreadable-requires : goal.count_unreadable-requires
 count_unreadable-requires c =
@@ -73,8 +82,10 @@ count_unreadable-requires c =
 pub returns-then-not-is_width : goal.returns-then-not-is_width
 returns-then-not-is_width c = c.count_unreadable.ensures _ ∙ walk_passed _ _ (tested (goal.at.returns-then-not-is_width c).In_ok-test_array)
 
-pub inline_element_at-requires : goal.inline_element_at-requires
-inline_element_at-requires c = (omega arith, record { served = (passed (goal.at.inline_element_at-requires c).In_ok-test_array).0; width = width_le _ (wide (goal.at.inline_element_at-requires c).Else-not-is_width) })
+pub in_file-pointed-requires : goal.in_file-pointed-requires
+in_file-pointed-requires c =
+    let p = passed (goal.at.in_file-pointed-requires c).In_ok-test_array in
+    index_in_file _ _ p.0 (wide (goal.at.in_file-pointed-requires c).Else-not-is_width) p.1
 
 pub overflow_add-pos : goal.overflow_add-pos
 overflow_add-pos c = omega (arith, room (goal.at.overflow_add-pos c).After-inline_element_at)
@@ -88,23 +99,22 @@ returns-in_err-n c =
     let h = inline_refused _ _ _ (sym c.in_err-n.was ∙ counts (goal.at.returns-in_err-n c).After-count_elements) ∙ walk_passed _ _ (tested (goal.at.returns-in_err-n c).In_ok-test_array) in
     search rules
 
-pub super_blocks-supers-requires : goal.super_blocks-supers-requires
-super_blocks-supers-requires c =
-    (passed (goal.at.super_blocks-supers-requires c).In_ok-test_array).0
-
 pub count_blocks-requires : goal.count_blocks-requires
 count_blocks-requires c =
-    let n = c.super_blocks-supers.ensures in
+    let n = c.super_blocks.ensures in
+    let e = c.in_file-pointed.ensures in
     record {
-      formed = c.requires;
-      index = index_in_file _ _ (passed (goal.at.count_blocks-requires c).In_ok-test_array).0 (wide (goal.at.count_blocks-requires c).Else-not-is_width) (passed (goal.at.count_blocks-requires c).In_ok-test_array).1;
-      few = omega (arith, first_slot_zero c.args.array.geometry.parameters, count_few (elements_of c.args.file.now c.args.reader.now) _ _ _ _ (sym c.in_ok-n.was ∙ counts (goal.at.count_blocks-requires c).After-count_elements));
+      formed = ap (λ (y : Array). form_of y.parameters y.offset_size) e ∙ c.requires;
+      few = omega (arith, ap (λ (y : Array). first_slot y.parameters 0) e, first_slot_zero c.args.array.geometry.parameters, count_few (elements_of c.args.file.now c.args.reader.now) _ _ _ _ (sym c.in_ok-n.was ∙ counts (goal.at.count_blocks-requires c).After-count_elements));
       ordered = omega arith;
       supers = omega (arith, n);
     }
 
 pub returns : goal.returns
 returns c =
+    let a = c.args in
+    let e = c.in_file-pointed.ensures in
     inline_counted _ _ _ (sym c.in_ok-n.was ∙ counts (goal.at.returns c).After-count_elements) (sym (width_passed (OffsetSize _) _ (wide (goal.at.returns c).Else-not-is_width)))
-    _ c.super_blocks-supers.ensures c.count_blocks.ensures
+    _ (c.super_blocks.ensures ∙ ap (λ (y : Array). super_blocks y.parameters) e)
+    (subst (λ (y : Array). c.count_blocks.result ≡ plus c.in_ok-n.n (supers_from y (elements_of y.file a.reader.now) (c.super_blocks.result - 0) 0 (first_slot y.parameters 0) (Ok []))) e c.count_blocks.ensures)
     ∙ walk_passed _ _ (tested (goal.at.returns c).In_ok-test_array)

@@ -9,7 +9,7 @@ pub put_list-requires : goal.put_list-requires
 unfolding records_counted
 put_list-requires c =
     let counted : c.args.counted ≡ Ok c.in-Ok.n = c.in-Ok.is in
-    (rw counted at c.requires.0, omega (arith, c.requires))
+    (rw counted at c.requires, omega arith)
 
 pub returns-in-Ok : goal.returns-in-Ok
 unfolding counted_text

@@ -1,31 +1,22 @@
 -- `element_runs::defined::undefined_run` meets its contract. Assumes nothing.
-use native.Mathlib.Omega.{arith}
-use mathlib.Core.Path.{◌∙◌}
-use Rattle.elements.proofs.Turns.{within_here}
-use Rattle.elements.proofs.Sized.{tested}
-use Rattle.element_runs.proofs.DefinedRuns.{stepping_first, stepping_done, stepping_stop, stepping_more}
+use Rattle.std.proofs.Common.{ℕ, length, ◌<◌, ◌≤◌, ◌≡◌, true, false, ◌+◌, ◌*◌, rules, tests}
+use Rattle.std.proofs.lemmas.Iterator.{first_from_Range, serves_from_Range}
+use Rattle.fields.specs.Fields.{undefined_at}
+use Rattle.element_runs.proofs.DefinedRuns.{place_lies, run_found}
 use Rattle.element_runs.proofs.defined.undefined_run.Goals as goal
 
-pub loop-i-init : goal.loop-i-init
-loop-i-init c = stepping_first _ _ _ _ _ c.requires.2
-
-pub read_address-address-requires : goal.read_address-address-requires
-read_address-address-requires c =
+pub find-requires-clause-callable : goal.find-requires-clause-callable
+find-requires-clause-callable c =
+    let a = c.args in
     let p = c.requires in
-    (omega (arith, p.1, within_here c.loop-i.invariant.lie c.loop-i-test.true), p.0)
-
-pub returns-then-not-is_undefined_addr : goal.returns-then-not-is_undefined_addr
-returns-then-not-is_undefined_addr c =
-    stepping_stop c.loop-i.invariant c.loop-i-test.true
-    (tested _ _ _ _ _ c.read_address-address.ensures c.is_undefined_addr.ensures ∙ c.if-not-is_undefined_addr.true)
-
-pub overflow_add-at : goal.overflow_add-at
-overflow_add-at c = omega (arith, within_here c.loop-i.invariant.lie c.loop-i-test.true)
-
-pub loop-i-preserved : goal.loop-i-preserved
-loop-i-preserved c =
-    stepping_more c.loop-i.invariant c.loop-i-test.true
-    (tested _ _ _ _ _ c.read_address-address.ensures c.is_undefined_addr.ensures ∙ c.if-not-is_undefined_addr.false)
+    let lies : (i : ℕ) → i < a.n → a.pos + i * a.stride + a.width ≤ length a.file.now = place_lies a.file.now a.stride a.width a.pos a.n p.1 p.2 in
+    serves_from_Range (λ x q k. search (rules, tests)) (λ i low high. let l = lies i high in search rules)
 
 pub returns : goal.returns
-returns c = stepping_done c.loop-i.invariant c.loop-i-test.false
+returns c =
+    let a = c.args in
+    let found =
+    first_from_Range _ _ _ c.find.result (λ i. undefined_at a.file.now (a.pos + i * a.stride) a.width ≡ false)
+    (λ i. undefined_at a.file.now (a.pos + i * a.stride) a.width ≡ true) c.find.ensures.ran
+    (λ x q k. search (rules, tests)) (λ x q k. search (rules, tests)) in
+    rw c.unwrap_or.ensures (run_found _ _ _ _ _ _ found)

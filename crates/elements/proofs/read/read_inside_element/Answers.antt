@@ -8,16 +8,16 @@ use Rattle.elements.proofs.read.read_inside_element.Goals as goal
 
 pub read_address-address-requires : goal.read_address-address-requires
 read_address-address-requires c =
-    let p = c.requires in
-    (omega (arith, p.1, sized-stride _ p.0), sized_width _ p.0)
+    let t = c.args.sized.now.sized in
+    (omega (arith, c.requires, sized-stride _ t), sized_width _ t)
 
 pub returns-then-is_undefined_addr : goal.returns-then-is_undefined_addr
 unfolding found_of
 returns-then-is_undefined_addr c = λ s i.
     let u = tested _ _ _ _ _ c.read_address-address.ensures c.is_undefined_addr.ensures ∙ c.if-is_undefined_addr.true in
-    sym (ap found_of (element-undefined _ _ s c.requires.0 u))
+    sym (ap found_of (element-undefined _ _ s c.args.sized.now.sized u))
 
 pub returns : goal.returns
 returns c = λ s i.
     let d = tested _ _ _ _ _ c.read_address-address.ensures c.is_undefined_addr.ensures ∙ c.if-is_undefined_addr.false in
-    c.read_entry.ensures _ ∙ sym (ap found_of (element_inside _ _ s c.requires.0 d i))
+    c.read_entry.ensures _ ∙ sym (ap found_of (element_inside _ _ s c.args.sized.now.sized d i))

@@ -4,19 +4,16 @@ use mathlib.Core.Path.{sym, ap, subst, ◌∙◌}
 use native.Mathlib.Omega.{arith}
 use Rattle.std.proofs.Common.{rules}
 use Rattle.std.specs.Prelude.{Ok, Some}
-use Rattle.fa_blocks.specs.Values.{fixed_of, EnteredFixedPage}
+use Rattle.fa_blocks.specs.Values.{fixed_in, EnteredFixedPage}
 use Rattle.fa_index.proofs.Counting.{pages-first, pages_end, page_begins, page_clear, page_refused, page_run, run_ends, total-fits, page_counted}
 use Rattle.fa_index.proofs.count.count_pages.Goals.{In-Some}
 use Rattle.fa_index.proofs.count.count_pages.Goals as goal
 
 pub pages-init : goal.pages-init
 pages-init c =
-    let r = c.requires in
     pages-first _
     (record {
-      by = r.0;
-      block = r.1;
-      paged = r.2;
+      by = c.requires;
       pages_are = c.pages-pages.ensures;
       page_is = c.page_elements-page.ensures.0;
     })
@@ -37,7 +34,7 @@ pages-preserved-in_default c =
     page_clear _ i c.pages-test.true (subst (EnteredFixedPage _ _) (c.in_ok-pos.was ∙ ap Ok c.in_default.is) e.0) e.1
 
 -- it has passed its test
-entered : (c : In-Some) → EnteredFixedPage (fixed_of c.args.file.now c.args.array) c.pages.p (Ok (Some c.in-Some.pos))
+entered : (c : In-Some) → EnteredFixedPage (fixed_in c.args.block.array) c.pages.p (Ok (Some c.in-Some.pos))
 entered c =
     subst (EnteredFixedPage _ _) (c.in_ok-pos.was ∙ ap Ok c.in-Some.is) (c.enter_page_in_turn-turn.ensures c.pages.invariant.ahead_is).0
 

@@ -4,4 +4,4 @@ use Rattle.fa_index.proofs.Counting.{InPages}
 use Rattle.fa_index.proofs.count.count_pages.Given as goal
 
 abbrev pub invariant-pages : goal.invariant-pages
-invariant-pages l = InPages (record { file = l.file; array = l.array; reader = l.reader; pages = l.pages; page = l.page }) l.total l.ahead l.p
+invariant-pages l = InPages (record { block = l.block; reader = l.reader; pages = l.pages; page = l.page }) l.total l.ahead l.p

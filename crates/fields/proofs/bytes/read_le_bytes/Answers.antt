@@ -1,31 +1,47 @@
--- `fields::bytes::read_le_bytes` meets its contract: after each turn v is the number in the bytes from at + i to at +
--- w. Assumes nothing.
+-- `fields::bytes::read_le_bytes` meets its contract: after each turn v is the number in the bytes behind those that are
+-- left. Assumes nothing.
+use mathlib.Core.Path.{◌≡◌}
 use Prim.Native.Nat.{◌+◌, ◌-◌}
 use native.Mathlib.Omega.{arith}
-use Rattle.fields.proofs.LittleEndian.{grown, whole_left, byte_room, all_read}
+use lib.ListN.{length, take, drop}
+use Rattle.fields.proofs.LittleEndian.{grown, whole_left, last_left, byte_room, all_read}
 use Rattle.fields.proofs.bytes.read_le_bytes.Goals as goal
 
-pub loop-i-init : goal.loop-i-init
-loop-i-init c = whole_left c.args.s.now c.args.pos c.args.width
+pub loop-byte-init : goal.loop-byte-init
+loop-byte-init c =
+    let a = c.args in
+    let r = c.into_iter-byte-iterator.result.iter.rest.now in
+    let e : r ≡ take (a.pos + a.width - a.pos) (drop a.pos a.s.now) = cc in
+    whole_left a.s.now r a.pos a.width c.requires.0 e
 
 pub overflow_mul-v : goal.overflow_mul-v
 overflow_mul-v c =
-    let l = c.loop-i in
-    omega (arith, byte_room c.args.width l.i l.v c.requires.1 c.loop-i-test.true l.invariant.2)
+    let l = c.loop-byte in
+    let r = l.byte-iterator.iter.rest.now in
+    let x = last_left c.args.s.now r _ c.args.pos _ l.invariant.1 c.in-Some.ensures.steps in
+    omega (arith, byte_room c.args.width (length r) l.v c.requires.1 (omega arith) l.invariant.3)
 
 pub overflow_add-v : goal.overflow_add-v
 overflow_add-v c =
-    let l = c.loop-i in
-    omega (arith, byte_room c.args.width l.i l.v c.requires.1 c.loop-i-test.true l.invariant.2, c.shared_slice_known-in-loop-i-1.given (c.args.pos + (l.i - 1)))
+    let l = c.loop-byte in
+    let r = l.byte-iterator.iter.rest.now in
+    let q = c.next.new.self.iter.rest.now in
+    let x = last_left c.args.s.now r q c.args.pos _ l.invariant.1 c.in-Some.ensures.steps in
+    omega (arith, byte_room c.args.width (length r) l.v c.requires.1 (omega arith) l.invariant.3, c.type_inv.s (c.args.pos + length q), x, c.from.ensures)
 
-pub loop-i-preserved : goal.loop-i-preserved
-loop-i-preserved c =
-    let l = c.loop-i in
-    let g = grown c.args.s.now c.args.pos c.args.width l.i l.v c.requires.0 c.loop-i-test.true l.invariant.0 l.invariant.1 l.invariant.2 (omega (arith, c.shared_slice_known-in-loop-i-1.given (c.args.pos + (l.i - 1)))) in
-    rw c.from.ensures (omega arith, g.0, g.1)
+pub loop-byte-preserved : goal.loop-byte-preserved
+loop-byte-preserved c =
+    let a = c.args in
+    let l = c.loop-byte in
+    let r = l.byte-iterator.iter.rest.now in
+    let q = c.next.new.self.iter.rest.now in
+    let x = last_left a.s.now r q a.pos _ l.invariant.1 c.in-Some.ensures.steps in
+    let g = grown a.s.now a.pos a.width (length q) l.v c.requires.0 (omega arith) (rw x.0 at l.invariant.2) (rw x.0 at l.invariant.3) (omega (arith, c.type_inv.s (a.pos + length q))) in
+    rw (c.from.ensures, x.2) (omega arith, x.1, g.0, g.1)
 
 pub returns : goal.returns
 returns c =
-    let l = c.loop-i in
     let a = c.args in
-    all_read a.s.now a.pos a.width l.i l.v c.loop-i-test.false l.invariant.1 l.invariant.2
+    let l = c.loop-byte in
+    let r = l.byte-iterator.iter.rest.now in
+    all_read a.s.now a.pos a.width (length r) l.v (omega (arith, c.in-None.ensures.steps)) l.invariant.2 l.invariant.3

@@ -1,8 +1,7 @@
 -- `fields::bytes::read_u64_le` meets its contract. Assumes nothing.
 use mathlib.Core.Path.{◌∙◌}
-use native.Mathlib.Omega.{arith}
-use Rattle.fields.proofs.LittleEndian.{halves}
+use Rattle.fields.proofs.LittleEndian.{eight}
 use Rattle.fields.proofs.bytes.read_u64_le.Goals as goal
 
 pub returns : goal.returns
-returns c = halves 4 _ _ _ _ (omega arith) (c.from-low.ensures ∙ c.read_u32_le.ensures) (c.from-high.ensures ∙ c.read_u32_le-2.ensures)
+returns c = c.from_le_bytes.ensures ∙ eight c.args.s.now c.args.pos c.requires

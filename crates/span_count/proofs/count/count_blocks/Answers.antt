@@ -1,28 +1,19 @@
 -- `span_count::count::count_blocks` meets its contract. Assumes nothing.
-use mathlib.Core.Path.{sym, ◌∙◌}
-use native.Mathlib.Omega.{arith}
-use Rattle.ea_blocks.proofs.Entering.{entered_super_room}
-use Rattle.span_count.proofs.SuperBlocks.{block_pointed, block_unpointed}
-use Rattle.span_count.proofs.Counting.{blocks_done, block_skip, block_counted}
-use Rattle.span_count.proofs.count.count_blocks.Goals.{then-is_some, else-is_some}
+use mathlib.Core.Path.{refl, ◌∙◌}
+use native.Mathlib.Nat.{sub-zero}
+use Rattle.std.proofs.Common.{rules, tests}
+use Rattle.std.proofs.lemmas.Iterator.{YieldsList-from_range}
+use Rattle.std.proofs.lemmas.Iterator.Consumers.{YieldsList-at, YieldsList-from_filter, count_from_yields_List}
+use Rattle.ea_blocks.specs.Values.{array_in}
+use Rattle.span_count.proofs.SuperBlocks.{is_pointed}
+use Rattle.span_count.proofs.Counting.{pointed, pointed_spans}
 use Rattle.span_count.proofs.count.count_blocks.Goals as goal
 
-pub block_pointer-requires : goal.block_pointer-requires
-block_pointer-requires c =
-    let e = c.blocks-blocks.ensures in
-    record { super = c.requires.0; block = omega arith; index = c.requires.1; inside = entered_super_room _ _ _ c.requires.2 }
-
-pub loop-k-preserved : goal.loop-k-preserved
-loop-k-preserved c =
-    let l = c.loop-k.invariant in
-    let e = c.requires.2 in
-    let q = c.block_pointer.ensures in
-    elim c.if-is_some.branch [
-      | then-is_some w ↦
-          rw w.total-is (block_counted _ _ _ l (omega arith) (block_pointed _ _ _ e _ q (sym c.is_some.ensures ∙ w.if-is_some.true)))
-      | else-is_some w ↦
-          rw w.total-is (block_skip _ _ _ l (omega arith) (block_unpointed _ _ _ e _ q (sym c.is_some.ensures ∙ w.if-is_some.false)))
-    ]
-
 pub returns : goal.returns
-returns c = rw (← c.blocks-blocks.ensures) (blocks_done _ _ _ c.loop-k.invariant (omega arith))
+returns c =
+    let row = c.args.row in
+    rw (← c.blocks-blocks.ensures) (count_from_yields_List _ _ c.count.ensures.ran
+    (YieldsList-from_filter _ (pointed (array_in row.array.array) row.u)
+    (YieldsList-at c.filter-pointed.ensures.source (YieldsList-from_range 0 c.blocks-blocks.result c.blocks-blocks.result refl (sub-zero _))) c.filter-pointed.ensures.closure
+    (λ x b q k. (search rules, search (rules, tests, is_pointed))))
+    ∙ pointed_spans _ _ _ 0)

@@ -9,40 +9,44 @@ use Rattle.refusal.proofs.Tests.{then_inv}
 use Rattle.refusal.proofs.Outcomes.{yields_passed, yields_refused}
 use Rattle.fields.specs.Fields.{undefined}
 use Rattle.ea_geometry.specs.Sizes.{super_blocks}
-use Rattle.ea_blocks.specs.Values.{array_of}
+use Rattle.ea_blocks.specs.Array.{Array}
+use Rattle.ea_blocks.specs.Values.{array_in}
 use Rattle.ea_blocks.specs.Structures.{index_block}
-use Rattle.ea_blocks.proofs.StructureTests.{index_in_file}
+use Rattle.ea_blocks.proofs.StructureTests.{index_inside}
 use Rattle.span_walk.specs.Spans.{span_of, spanned_test}
 use Rattle.span_walk.specs.Walk.{supers_from, index_spans}
 use Rattle.span_walk.proofs.Turns.{index_none, index_defined}
 use Rattle.span_count.proofs.Counting.{counted_more, refused_more, supers_bounded}
-use Rattle.span_count.proofs.count.count_index.Goals.{Else-index_undefined, In_ok-test_index}
+use Rattle.span_count.proofs.count.count_index.Goals.{After-index_undefined, Else-index_undefined, In_ok-test_index}
 use Rattle.span_count.proofs.count.count_index.Goals as goal
+
+-- whether the index block's address is undefined, which is tested of the array without its file
+tested : (c : After-index_undefined) → let a = array_in c.args.array in undefined a.offset_size a.index_at ≡ c.index_undefined.result
+tested c = sym (c.index_undefined.ensures ∙ ap (λ (a : Array). undefined a.offset_size a.index_at) c.array_alone.ensures)
 
 pub returns-then-index_undefined : goal.returns-then-index_undefined
 unfolding counted_of
-returns-then-index_undefined c = ap counted_of (sym (index_none _ (sym c.index_undefined.ensures ∙ c.if-index_undefined.true)))
+returns-then-index_undefined c =
+    ap counted_of (sym (index_none _ (tested (goal.at.returns-then-index_undefined c).After-index_undefined ∙ c.if-index_undefined.true)))
 
 -- there is an index block ..
-there : (c : Else-index_undefined) → let a = array_of c.args.file.now c.args.array in undefined a.offset_size a.index_at ≡ false
-there c = sym c.index_undefined.ensures ∙ c.if-index_undefined.false
+there : (c : Else-index_undefined) → let a = array_in c.args.array in undefined a.offset_size a.index_at ≡ false
+there c = tested (goal.at.Else-index_undefined c).After-index_undefined ∙ c.if-index_undefined.false
 
 -- .. and it has passed its tests
-passed : (c : In_ok-test_index) → let a = array_of c.args.file.now c.args.array in
+passed : (c : In_ok-test_index) → let a = array_in c.args.array in
     (spanned_test a index_block ≡ Ok tt) × (index_spans a ≡ also (span_of a index_block) (supers_from a (super_blocks a.parameters) 0))
 passed c =
     let p = sym c.test_index.ensures ∙ c.in_ok-test_index.was in
     (p, index_defined _ (there (goal.at.In_ok-test_index c).Else-index_undefined) ∙ yields_passed _ _ p)
 
-pub count_supers-requires : goal.count_supers-requires
+pub invariant_of-count_supers-clause-inside : goal.invariant_of-count_supers-clause-inside
 unfolding spanned_test
-count_supers-requires c =
-    let p = c.requires in
-    index_in_file _ _ p.0.served p.1 (then_inv _ _ (passed (goal.at.count_supers-requires c).In_ok-test_index).0).1
+invariant_of-count_supers-clause-inside c = index_inside _ (then_inv _ _ (passed (goal.at.invariant_of-count_supers-clause-inside c).In_ok-test_index).0).1
 
 pub overflow_add-result : goal.overflow_add-result
 overflow_add-result c =
-    omega (arith, supers_bounded (array_of c.args.file.now c.args.array) _ c.requires.0.served (sym c.in_ok-count_supers.was ∙ c.count_supers.ensures))
+    omega (arith, supers_bounded (array_in c.args.array) _ c.args.array.extents.sizes.served (sym c.in_ok-count_supers.was ∙ c.count_supers.ensures))
 
 pub returns-in_err-test_index : goal.returns-in_err-test_index
 unfolding counted_of

@@ -1,15 +1,16 @@
 -- `span_count::count::count_super` meets its contract. Assumes nothing.
-use mathlib.Core.Path.{◌≡◌, refl, sym, ap, ◌∙◌}
+use mathlib.Core.Path.{◌≡◌, sym, ap, ◌∙◌}
 use mathlib.Core.Bool.{true, false}
-use mathlib.Core.Logic.{inl}
 use native.Mathlib.Omega.{arith}
-use Rattle.std.proofs.Common.{rules, Ok, Err}
+use Rattle.std.proofs.Common.{rules, Ok, Err, Some}
 use Rattle.refusal.specs.Values.{counted_of}
 use Rattle.refusal.proofs.Outcomes.{yields_passed, yields_refused}
 use Rattle.ea_geometry.specs.Sizes.{blocks}
 use Rattle.ea_geometry.proofs.Counts.{blocks_few}
-use Rattle.ea_blocks.specs.Values.{array_of}
+use Rattle.ea_blocks.specs.Values.{array_in}
 use Rattle.ea_blocks.specs.Structures.{super_block, is_direct, super_block_at, super_undefined}
+use Rattle.ea_blocks.specs.Entered.{EnteredSuper}
+use Rattle.ea_blocks.proofs.Entering.{entered_at, entered_direct, entered_super_room}
 use Rattle.ea_blocks.proofs.PointerValues.{pointer_undefined, pointer_at_lem}
 use Rattle.ea_blocks.proofs.StructureTests.{is_direct_lem, not_direct}
 use Rattle.span_walk.specs.Spans.{spanned_test}
@@ -20,20 +21,17 @@ use Rattle.span_count.proofs.count.count_super.Goals.{Else-u-direct_super_blocks
 use Rattle.span_count.proofs.count.count_super.Goals as goal
 
 -- the index block names the data blocks, ..
-direct : (c : Then-u-direct_super_blocks) → let a = array_of c.args.file.now c.args.array in is_direct a c.args.u ≡ true
+direct : (c : Then-u-direct_super_blocks) → let a = array_in c.args.array.array in is_direct a c.args.u ≡ true
 direct c =
     let d = c.direct_super_blocks.ensures in
     is_direct_lem _ _ (omega arith)
-
-pub count_blocks-requires : goal.count_blocks-requires
-count_blocks-requires c = (c.requires.0, c.requires.1, inl (direct (goal.at.count_blocks-requires c).Then-u-direct_super_blocks, refl))
 
 pub returns-then-u-direct_super_blocks : goal.returns-then-u-direct_super_blocks
 unfolding counted_of
 returns-then-u-direct_super_blocks c = ap Ok c.count_blocks.ensures ∙ ap counted_of (sym (super_direct _ _ (direct (goal.at.returns-then-u-direct_super_blocks c).Then-u-direct_super_blocks)))
 
 -- .. or the super block
-beyond : (c : Else-u-direct_super_blocks) → let a = array_of c.args.file.now c.args.array in is_direct a c.args.u ≡ false
+beyond : (c : Else-u-direct_super_blocks) → let a = array_in c.args.array.array in is_direct a c.args.u ≡ false
 beyond c =
     let d = c.direct_super_blocks.ensures in
     not_direct _ _ (omega arith)
@@ -45,27 +43,36 @@ returns-in_default c =
 
 -- where it lies
 found : (c : In-Some)
-    → let a = array_of c.args.file.now c.args.array in (super_undefined a c.args.u ≡ false) × (c.in-Some.at ≡ super_block_at a c.args.u)
+    → let a = array_in c.args.array.array in (super_undefined a c.args.u ≡ false) × (c.in-Some.at ≡ super_block_at a c.args.u)
 found c = pointer_at_lem _ _ _ (sym c.in-Some.is ∙ c.super_pointer.ensures)
 
 -- it has passed its tests
 passed : (c : In_ok-test_super)
-    → let a = array_of c.args.file.now c.args.array in spanned_test a (super_block c.args.u) ≡ Ok tt
+    → let a = array_in c.args.array.array in spanned_test a (super_block c.args.u) ≡ Ok tt
 passed c =
     sym (c.test_super.ensures (found (goal.at.In_ok-test_super c).In-Some).1) ∙ c.in_ok-test_super.was
 
+-- .. so it lies in the file
+entered : (c : In_ok-test_super) → EnteredSuper (array_in c.args.array.array) c.args.u (Ok (Some (Some c.in-Some.at)))
+entered c =
+    let q = found (goal.at.In_ok-test_super c).In-Some in
+    entered_tested _ _ _ (beyond (goal.at.In_ok-test_super c).Else-u-direct_super_blocks) q.0 q.1 (passed c)
+
+pub invariant_of-count_blocks-2 : goal.invariant_of-count_blocks-2
+invariant_of-count_blocks-2 c =
+    let e = entered c in
+    record { below = c.requires; direct = entered_direct _ _ _ e; inside = entered_super_room _ _ _ e }
+
 pub count_blocks-requires-2 : goal.count_blocks-requires-2
-count_blocks-requires-2 c =
-    let q = found (goal.at.count_blocks-requires-2 c).In-Some in
-    (c.requires.0, c.requires.1, entered_tested _ _ _ (beyond (goal.at.count_blocks-requires-2 c).Else-u-direct_super_blocks) q.0 q.1 (passed (goal.at.count_blocks-requires-2 c).In_ok-test_super))
+count_blocks-requires-2 c = entered_at _ _ _ (entered (goal.at.count_blocks-requires-2 c).In_ok-test_super)
 
 pub overflow_add-result : goal.overflow_add-result
 overflow_add-result c =
     omega (
       arith,
       c.count_blocks-2.ensures,
-      block_spans_few (array_of c.args.file.now c.args.array) c.args.u (blocks c.args.u) 0,
-      blocks_few c.args.array.geometry.parameters c.requires.1.bounded.served c.args.u c.requires.0,
+      block_spans_few (array_in c.args.array.array) c.args.u (blocks c.args.u) 0,
+      blocks_few c.args.array.array.extents.sizes.parameters c.args.array.array.extents.sizes.served c.args.u c.requires,
     )
 
 pub returns : goal.returns

@@ -4,9 +4,9 @@ use Rattle.refusal.specs.Refusals.{◌then◌}
 use Rattle.structures.specs.Header.{sizes_test}
 use Rattle.structures.proofs.header.test_sizes.Goals as goal
 
-pub returns-in_err-ensure_width : goal.returns-in_err-ensure_width
+pub returns-in_err-ensure_length_size : goal.returns-in_err-ensure_length_size
 unfolding sizes_test ◌then◌
-returns-in_err-ensure_width c = search rules
+returns-in_err-ensure_length_size c = search rules
 
 pub returns : goal.returns
 unfolding sizes_test ◌then◌

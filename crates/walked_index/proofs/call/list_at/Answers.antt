@@ -14,22 +14,22 @@ unfolding grid_given grid_as
 returns-in_err-index g c =
     let i = g.I.WalkedIndex in
     let r : c.from_residual.result ≡ Err c.in_err-index.field-0.0 = search rules in
-    listed_refused i.form i.count i.entry i.walk i.located c.args.file.now c.args.numbers.element_bytes _ _ _ c.args.list.now _ _ r
-    (header_refused _ _ _ c.read_index.ensures c.in_err-index.was)
+    listed_refused i.form i.count i.entry i.walk i.located c.args.call.now.file.now c.args.call.now.element_bytes _ _ _ c.args.list.now _ _ r
+    (header_refused _ _ _ c.read.ensures c.in_err-index.was)
 
 pub returns-in_err-grid : goal.returns-in_err-grid
 unfolding grid_given grid_as
 returns-in_err-grid g c =
     let i = g.I.WalkedIndex in
     let r : c.from_residual-in_err-grid.result ≡ Err c.in_err-grid.field-0.0 = search rules in
-    listed_refused i.form i.count i.entry i.walk i.located c.args.file.now c.args.numbers.element_bytes _ _ _ c.args.list.now _ _ r
-    (grid_refused _ _ _ c.read_index.ensures c.in_ok-index.was c.in_err-grid.was c.read_grid.ensures)
+    listed_refused i.form i.count i.entry i.walk i.located c.args.call.now.file.now c.args.call.now.element_bytes _ _ _ c.args.list.now _ _ r
+    (grid_refused _ _ _ c.read.ensures c.in_ok-index.was c.in_err-grid.was c.read_grid.ensures)
 
 pub returns : goal.returns
 unfolding grid_given grid_as grid_of
 returns g c =
     let i = g.I.WalkedIndex in
-    let h = value_is _ _ _ (sym c.in_ok-index.was ∙ c.read_index.ensures) in
+    let h = value_is _ _ _ (sym c.in_ok-index.was ∙ c.read.ensures) in
     let k = grid_read _ c.in_ok-grid.was c.read_grid.ensures in
-    listed_passed i.form i.count i.entry i.walk i.located c.args.file.now c.args.numbers.element_bytes _ _ _ (sym h.0) h.1 k.1 c.args.list.now _ _
+    listed_passed i.form i.count i.entry i.walk i.located c.args.call.now.file.now c.args.call.now.element_bytes _ _ _ (sym h.0) h.1 k.1 c.args.list.now _ _
     c.list_chunks.ensures

@@ -18,17 +18,17 @@ pub returns-in_err-headed : goal.returns-in_err-headed
 returns-in_err-headed g c =
     let i = g.I.WalkedIndex in
     let r : c.from_residual.result ≡ Err c.in_err-headed.field-0.0 = search rules in
-    called_refused i.form i.count i.entry i.walk i.located c.args.file.now c.args.numbers.element_bytes _ _ _ _ _ _ r
-    (header_refused _ _ _ c.read_index.ensures c.in_err-headed.was)
+    called_refused i.form i.count i.entry i.walk i.located c.args.call.now.file.now c.args.call.now.element_bytes _ _ _ _ _ _ r
+    (header_refused _ _ _ c.read.ensures c.in_err-headed.was)
 
 pub returns-in_err-grid : goal.returns-in_err-grid
 returns-in_err-grid g c =
     let i = g.I.WalkedIndex in
     let r : c.from_residual-in_err-grid.result ≡ Err c.in_err-grid.field-0.0 = search rules in
-    called_refused i.form i.count i.entry i.walk i.located c.args.file.now c.args.numbers.element_bytes _ _ _ _ _ _ r
-    (grid_refused _ _ _ c.read_index.ensures c.in_ok-headed.was c.in_err-grid.was c.read_grid.ensures)
+    called_refused i.form i.count i.entry i.walk i.located c.args.call.now.file.now c.args.call.now.element_bytes _ _ _ _ _ _ r
+    (grid_refused _ _ _ c.read.ensures c.in_ok-headed.was c.in_err-grid.was c.read_grid.ensures)
 
-small : (g : given.Over) (c : In_ok-grid g) → c.args.numbers.rank ≤ 32
+small : (g : given.Over) (c : In_ok-grid g) → c.args.call.now.rank ≤ 32
 unfolding grid_given grid_as
 small g c = (accepted _ (grid_read _ c.in_ok-grid.was c.read_grid.ensures).0).small
 
@@ -38,15 +38,15 @@ read_shape-n-requires g c = (small g (goal.at.read_shape-n-requires g c).In_ok-g
 -- the corner, as it is read again
 shape : (g : given.Over) (c : After-read_shape-n g)
     → let a = c.args in
-    BeginsWith a.numbers.rank a.corner.now c.read_shape-n.new.shape c.read_shape-n.result
+    BeginsWith a.call.now.rank a.corner.now c.read_shape-n.new.shape c.read_shape-n.result
 shape g c = stored_shape _ _ _ _ _ (small g (goal.at.After-read_shape-n g c).In_ok-grid) (lit≤ tt) c.read_shape-n.ensures.0 c.read_shape-n.ensures.1
 
 pub returns : goal.returns
 returns g c =
     let i = g.I.WalkedIndex in
-    let h = value_is _ _ _ (sym c.in_ok-headed.was ∙ c.read_index.ensures) in
+    let h = value_is _ _ _ (sym c.in_ok-headed.was ∙ c.read.ensures) in
     let k = grid_read _ c.in_ok-grid.was c.read_grid.ensures in
-    called_passed i.form i.count i.entry i.walk i.located c.args.file.now c.args.numbers.element_bytes _ _ _ (sym h.0) h.1 k.1 _ _
+    called_passed i.form i.count i.entry i.walk i.located c.args.call.now.file.now c.args.call.now.element_bytes _ _ _ (sym h.0) h.1 k.1 _ _
     (shape g (goal.at.returns g c).After-read_shape-n).1 _ c.lookup_chunk.ensures
 
 pub slice_bounds-offsets-end : goal.slice_bounds-offsets-end

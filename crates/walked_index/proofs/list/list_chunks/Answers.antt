@@ -4,10 +4,10 @@ use mathlib.Core.Path.{◌≡◌, refl, sym, ap, ◌∙◌}
 use native.Mathlib.Omega.{arith}
 use lib.ListN.{length, get_or}
 use Rattle.std.proofs.Common.{rules}
-use Rattle.std.specs.Prelude.{Err, Ok}
+use Rattle.std.specs.Prelude.{Err}
 use Rattle.refusal.specs.Refusals.{largest64}
 use Rattle.refusal.specs.Values.{counted_of}
-use Rattle.chunk_grid.specs.Grid.{Grid, grid_test, given as grid_given}
+use Rattle.chunk_grid.specs.Grid.{given as grid_given}
 use Rattle.chunk_grid.specs.Values.{grid_of}
 use Rattle.chunk_grid.specs.declared.numbering.Numbering.{Numbering}
 use Rattle.index.specs.Index.{Listing}

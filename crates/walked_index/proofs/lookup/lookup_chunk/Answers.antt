@@ -1,8 +1,7 @@
 -- `walked_index::lookup::lookup_chunk` meets its contract. Assumes nothing.
-use Prim.Native.Nat.{ℕ, ◌≤◌}
-use mathlib.Core.Path.{◌≡◌, refl, sym, ap, subst, ◌∙◌}
+use Prim.Native.Nat.{◌≤◌}
+use mathlib.Core.Path.{◌≡◌, refl, sym, ap, ◌∙◌}
 use native.Mathlib.Omega.{arith}
-use lib.ListN.{length}
 use Rattle.std.proofs.Common.{rules}
 use Rattle.std.specs.Prelude.{Err, Ok, Option}
 use Rattle.index.specs.declared.Entry.{Entry}
@@ -66,28 +65,22 @@ returns-in_err-test g c =
     let at = goal.at.returns-in_err-test g c in
     found g at.After-slot_count-count _ (refused g at.After-slot_count-count (grid_stops _ _ _ (sym c.test.ensures ∙ c.in_err-test.was)) r)
 
--- the grid is numbered
 passed : (g : given.Over) (c : In_ok-test g) → grid_test (grid_of c.args.grid) ≡ Ok tt
 passed g c = sym c.test.ensures ∙ c.in_ok-test.was
 
-pub numbering-numbering-requires : goal.numbering-numbering-requires
-numbering-numbering-requires g c = passed g (goal.at.numbering-numbering-requires g c).In_ok-test
-
-own : (g : given.Over) (c : After-numbering-numbering g) → grid_of c.numbering-numbering.result.grid.now ≡ grid_of c.args.grid
-own g c = ap grid_of c.numbering-numbering.ensures
+pub corner_test-requires : goal.corner_test-requires
+corner_test-requires g c = passed g (goal.at.corner_test-requires g c).In_ok-test
 
 pub returns-in_err-corner_test : goal.returns-in_err-corner_test
 returns-in_err-corner_test g c =
     let r : c.from_residual-in_err-corner_test.result ≡ Err c.in_err-corner_test.field-0.0 = search rules in
     let at = goal.at.returns-in_err-corner_test g c in
-    let k = ap (λ (y : Grid). corner_test y c.args.corner.now) (sym (own g at.After-numbering-numbering)) ∙ sym c.corner_test.ensures ∙ c.in_err-corner_test.was in
+    let k = sym c.corner_test.ensures ∙ c.in_err-corner_test.was in
     found g at.After-slot_count-count _ (refused g at.After-slot_count-count (corner_stops _ _ _ (passed g at.In_ok-test) k) r)
 
 -- the corner is a chunk's
 cornered : (g : given.Over) (c : In_ok-corner_test g) → corner_test (grid_of c.args.grid) c.args.corner.now ≡ Ok tt
-cornered g c =
-    ap (λ (y : Grid). corner_test y c.args.corner.now) (sym (own g (goal.at.In_ok-corner_test g c).After-numbering-numbering))
-    ∙ sym c.corner_test.ensures ∙ c.in_ok-corner_test.was
+cornered g c = sym c.corner_test.ensures ∙ c.in_ok-corner_test.was
 
 pub returns-in_err-test_entry : goal.returns-in_err-test_entry
 returns-in_err-test_entry g c =
@@ -103,6 +96,13 @@ tested : (g : given.Over) (c : In_ok-test_entry g)
 tested g c =
     let at = goal.at.In_ok-test_entry g c in
     entry_decides _ _ _ (passed g at.In_ok-test) (cornered g at.In_ok-corner_test) (sym c.test_entry.ensures ∙ c.in_ok-test_entry.was)
+
+-- the grid is numbered
+pub numbering-numbering-requires : goal.numbering-numbering-requires
+numbering-numbering-requires g c = passed g (goal.at.numbering-numbering-requires g c).In_ok-test
+
+own : (g : given.Over) (c : After-numbering-numbering g) → grid_of c.numbering-numbering.result.grid.now ≡ grid_of c.args.grid
+own g c = ap grid_of c.numbering-numbering.ensures
 
 pub slot_of-slot-requires : goal.slot_of-slot-requires
 slot_of-slot-requires g c =

@@ -6,11 +6,13 @@ use Rattle.ea_blocks.proofs.Entering.{page_few, page_fits}
 use Rattle.ea_blocks.proofs.enter.PageRowRow.find.Goals as goal
 
 pub page_at-requires : goal.page_at-requires
-page_at-requires c = (page_few _ c.requires.0.bounded.served _ _ c.requires.0.super c.requires.0.page, c.requires.0.bounded)
+page_at-requires c = page_few _ c.args.self.array.extents.sizes.served _ _ c.args.self.super_below c.requires
 
 pub overflow_add-result : goal.overflow_add-result
 overflow_add-result c =
-    omega (arith, c.requires.1, c.page_at.ensures, page_fits _ c.requires.0.bounded (omega arith) _ c.args.p c.args.self.at c.requires.0.super c.requires.0.page (omega arith))
+    let r = c.args.self in
+    let e = r.array.extents in
+    omega (arith, r.begins, c.page_at.ensures, page_fits _ _ e.sizes.served e.legal (omega arith) _ c.args.p r.at r.super_below c.requires (omega arith))
 
 pub returns-then-page_set : goal.returns-then-page_set
 unfolding data_page_at

@@ -1,7 +1,0 @@
--- `ea_geometry::EaGeometry::capacity` meets its contract. Assumes nothing.
-use Rattle.ea_geometry.specs.Slots.{capacity}
-use Rattle.ea_geometry.proofs.EaGeometry.capacity.Goals as goal
-
-pub returns : goal.returns
-unfolding capacity
-returns c = rw (c.first_slot.ensures, c.super_blocks.ensures)

@@ -1,7 +1,0 @@
--- `ea_geometry::EaGeometry::direct_pointers_at` meets its contract. Assumes nothing.
-use Rattle.ea_geometry.specs.Extents.{direct_pointers_at}
-use Rattle.ea_geometry.proofs.EaGeometry.direct_pointers_at.Goals as goal
-
-pub returns : goal.returns
-unfolding direct_pointers_at
-returns c = c.inline_element_at.ensures

@@ -1,7 +1,0 @@
--- `ea_geometry::EaGeometry::over_page` meets its contract. Assumes nothing.
-use Rattle.ea_geometry.specs.Sizes.{over_page}
-use Rattle.ea_geometry.proofs.EaGeometry.over_page.Goals as goal
-
-pub returns : goal.returns
-unfolding over_page
-returns c = rw (c.page_elements.ensures, c.block_elements.ensures)
