@@ -2,7 +2,7 @@
 # the names in the contracts of the C calls and follows each definition to the names in its text. A file is named
 # crate.Module here. A file that is reached and is in no group is an error, and so is one that uses a later one.
 BEGIN {
-    group("Refusals and outcomes", "refusal.Values refusal.Refusals refusal.Outcome")
+    group("Refusals and outcomes", "refusal.Refusals refusal.Numbers refusal.Outcome")
     group("Fields", "fields.LittleEndian fields.Fields")
     group("Checksum, structures",
         "checksum.Lookup3 checksum.Trailing structures.Structures structures.PageBits structures.Header")

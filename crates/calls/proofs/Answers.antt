@@ -9,7 +9,8 @@ use Rattle.std.specs.Prelude.{Err, None, Ok, Option, Some}
 use Rattle.index.specs.declared.Entry.{Entry}
 use Rattle.refusal.specs.Refusals.{Outcome}
 use Rattle.refusal.specs.declared.Refusal.{Refusal}
-use Rattle.refusal.specs.Values.{number_of, counted_of}
+use Rattle.refusal.specs.Numbers.{number_of}
+use Rattle.refusal.specs.Values.{counted_of}
 use Rattle.refusal.proofs.Numbers.{number_above}
 use Rattle.index.specs.Index.{Rec}
 use Rattle.elements.specs.Values.{found_of}

@@ -2,7 +2,7 @@
 use Rattle.std.specs.Prelude.{ℕ, ◌≡◌, List, [], ◌∷◌, length, get_or, replicate, Err, None, Ok, Option, Some}
 use Rattle.index.specs.Index.{Rec}
 use Rattle.refusal.specs.Refusals.{Outcome}
-use Rattle.refusal.specs.Values.{number_of, first_of, second_of}
+use Rattle.refusal.specs.Numbers.{number_of, first_of, second_of}
 
 -- The numbers of an answer: those of the refusal (its number and two figures, all 0 where the call is accepted), then
 -- those that the call names. After a refusal the named numbers, this many, are 0.

@@ -4,7 +4,7 @@ use Rattle.std.specs.Prelude.{ℕ, List, [], ◌∷◌, replicate, None, Option,
 use Rattle.index.specs.declared.Entry.{Entry}
 use Rattle.refusal.specs.Refusals.{Outcome}
 use Rattle.refusal.specs.declared.Refusal.{Refusal}
-use Rattle.refusal.specs.Values.{number_of, first_of, second_of}
+use Rattle.refusal.specs.Numbers.{number_of, first_of, second_of}
 use Rattle.calls.specs.declared.Call.{Call as CallGiven}
 use Rattle.calls.specs.Answer.{answered, chunk_names}
 use Rattle.calls.specs.Call.{Call, grid_given, call_of}

@@ -23,8 +23,7 @@ pub fn print_first(rt: &impl Print, numbers: &[u64; 32], n: u64) -> io::Result<(
 
 // A refusal behind other words of its line.
 pub fn print_refusal(rt: &impl Print, r: Refusal) -> io::Result<()> {
-    print!(rt; " ")?;
-    begin_with_refusal(rt, r)
+    print!(rt; " refused {} {} {}", r.number(), r.first(), r.second())
 }
 
 // A refusal at the start of its line.
@@ -49,11 +48,15 @@ fn with_digit(value: u64, b: u8) -> Option<u64> {
 
 // The number of the digits from `from` on, as far as 64 bits hold it. One byte parts two numbers.
 pub fn number(s: &[u8], from: usize) -> Item {
+    let start = from.min(s.len());
     let mut value = 0u64;
-    // `value` is the number of the digits between `from` and i.
-    for (i, &b) in s.iter().enumerate().skip(from) {
+    // `value` is the number of the digits between `start` and `start + i`. (Of a part: `skip` would step to it.)
+    for (i, &b) in s[start..].iter().enumerate() {
         let Some(longer) = with_digit(value, b) else {
-            return Item { value, at: i + 1 };
+            return Item {
+                value,
+                at: start + i + 1,
+            };
         };
         value = longer;
     }

@@ -11,7 +11,7 @@ use borrow.Author.Tests.{eq-eqb}
 use lib.Dec.{eqb}
 use lib.ListN.{length, get_or, replicate}
 use Rattle.std.specs.Prelude.{Err, None, Ok, Some}
-use Rattle.refusal.specs.Values.{number_of}
+use Rattle.refusal.specs.Numbers.{number_of}
 use Rattle.refusal.specs.declared.Refusal.{Refusal}
 use Rattle.refusal.proofs.Tests.{false_true, neither}
 use Rattle.refusal.proofs.Outcomes.{never, yields_inv}

@@ -1,7 +1,14 @@
 -- Worked values, as one table: each row is what the definitions compute, and the value.
 use Rattle.std.specs.Prelude.{ℕ, ◌≡◌, Bool, true, false, List, [], ◌∷◌, ◌++◌, Err, Ok, Option, Some}
-use Rattle.refusal.specs.declared.Refusal.TheVariants.{ElementSize, SizeField, Unlimited}
+use Rattle.refusal.specs.declared.Refusal.TheVariants.{OffsetSize, LengthSize, Rank, PresentRank, MaximumRank}
+use Rattle.refusal.specs.declared.Refusal.TheVariants.{ChunkLength, Unlimited, TooManyChunks, ListTooSmall, Corner}
+use Rattle.refusal.specs.declared.Refusal.TheVariants.{PastEnd, HeaderSignature, HeaderVersion, IndexBlockSignature}
+use Rattle.refusal.specs.declared.Refusal.TheVariants.{DataBlockSignature, SuperBlockSignature, Checksum}
+use Rattle.refusal.specs.declared.Refusal.TheVariants.{HeaderNotServed, ElementSize, SizeField, Size, SpanOverflow}
+use Rattle.refusal.specs.declared.Refusal.TheVariants.{NumbersNothing, OffsetOverflow, FixedHeaderSignature}
+use Rattle.refusal.specs.declared.Refusal.TheVariants.{FixedDataBlockSignature}
 use Rattle.refusal.specs.Refusals.{largest64, Outcome}
+use Rattle.refusal.specs.Numbers.{told}
 use Rattle.fields.specs.LittleEndian.{le_bytes}
 use Rattle.chunk_grid.specs.Grid.{Grid, offsets, grid_test}
 use Rattle.structures.specs.PageBits.{bit_byte, bit_mask}
@@ -110,6 +117,7 @@ table =
     ∷ (bit_mask (bit_number (parameters 2) 13 3 1) is 0x01)
     -- Filtered, O = 8: element size 11 is 28,
     ∷ (read 11 is Err ElementSize)
+    ∷ (told ElementSize is 28 ∷ 0 ∷ 0 ∷ [])
     -- 12 reads size 0 (and the mask behind the address);
     ∷ (read 12 is chunk 1 0 2)
     -- 20 reads 8 bytes,
@@ -117,9 +125,39 @@ table =
     ∷ (read 20 is chunk 1 2 3)
     -- 21 is 29.
     ∷ (read 21 is Err SizeField)
+    ∷ (told SizeField is 29 ∷ 0 ∷ 0 ∷ [])
     -- Chunk 10 by 5, maximum 20 by unlimited: order U, slot 5 is corner (10, 10);
     ∷ (grid_test (twenty true) is (Ok tt))
     ∷ (offsets (twenty true) 5 is 10 ∷ 10 ∷ [])
     -- order R is 7.
     ∷ (grid_test (twenty false) is Err Unlimited)
+    ∷ (told Unlimited is 7 ∷ 0 ∷ 0 ∷ [])
+    ∷ []
+
+-- the other refusals as C and the documents name them, by figures of their own
+unfoldable pub refusals : List Row
+refusals =
+    (told (OffsetSize 3) is 1 ∷ 3 ∷ 0 ∷ [])
+    ∷ (told (LengthSize 3) is 2 ∷ 3 ∷ 0 ∷ [])
+    ∷ (told Rank is 3 ∷ 0 ∷ 0 ∷ [])
+    ∷ (told PresentRank is 4 ∷ 0 ∷ 0 ∷ [])
+    ∷ (told MaximumRank is 5 ∷ 0 ∷ 0 ∷ [])
+    ∷ (told ChunkLength is 6 ∷ 0 ∷ 0 ∷ [])
+    ∷ (told TooManyChunks is 8 ∷ 0 ∷ 0 ∷ [])
+    ∷ (told (ListTooSmall 5) is 9 ∷ 5 ∷ 0 ∷ [])
+    ∷ (told Corner is 10 ∷ 0 ∷ 0 ∷ [])
+    ∷ (told (PastEnd 383 382) is 20 ∷ 383 ∷ 382 ∷ [])
+    ∷ (told HeaderSignature is 21 ∷ 0 ∷ 0 ∷ [])
+    ∷ (told (HeaderVersion 1) is 22 ∷ 1 ∷ 0 ∷ [])
+    ∷ (told IndexBlockSignature is 23 ∷ 0 ∷ 0 ∷ [])
+    ∷ (told DataBlockSignature is 24 ∷ 0 ∷ 0 ∷ [])
+    ∷ (told SuperBlockSignature is 25 ∷ 0 ∷ 0 ∷ [])
+    ∷ (told (Checksum 309 308) is 26 ∷ 309 ∷ 308 ∷ [])
+    ∷ (told HeaderNotServed is 27 ∷ 0 ∷ 0 ∷ [])
+    ∷ (told (Size 4_294_967_296) is 30 ∷ 4_294_967_296 ∷ 0 ∷ [])
+    ∷ (told (SpanOverflow 18 17) is 31 ∷ 18 ∷ 17 ∷ [])
+    ∷ (told NumbersNothing is 32 ∷ 0 ∷ 0 ∷ [])
+    ∷ (told OffsetOverflow is 33 ∷ 0 ∷ 0 ∷ [])
+    ∷ (told FixedHeaderSignature is 34 ∷ 0 ∷ 0 ∷ [])
+    ∷ (told FixedDataBlockSignature is 35 ∷ 0 ∷ 0 ∷ [])
     ∷ []

@@ -23,8 +23,8 @@ pub const OUT_BYTES: usize = 4 * LIST_BYTES + 29;
 
 // Lists the chunks that a question asks for.
 fn list_chunks(
-    list: &mut [u8; LIST_BYTES],
-    numbers: &[u8; NUMBER_BYTES],
+    list: &mut [u8],
+    numbers: &[u8],
     file: &[u8],
     question: Question,
 ) -> Result<u64, Refusal>
@@ -57,12 +57,13 @@ fn list_chunks(
 
 // Puts the text of an answer into out, and answers where it ends.
 fn put_counted(
-    out: &mut [u8; OUT_BYTES],
-    list: &[u8; LIST_BYTES],
+    out: &mut [u8],
+    list: &[u8],
     counted: Result<u64, Refusal>,
     rank: usize,
 ) -> usize
-    requires { records_counted counted * record_length rank ≤ length list.now }
+    requires { (records_counted counted * record_length rank ≤ length list.now) × (length list.now ≡ 65536)
+        × (262173 ≤ length out.old) }
     ensures put { Put out.old 0 (counted_text rank counted list.now) out.new result }
     ensures upper_bound { result ≤ length out.old }
 {
@@ -73,12 +74,8 @@ fn put_counted(
 }
 
 // Puts what the program prints of an input into out, and answers where it ends.
-pub fn answer(
-    out: &mut [u8; OUT_BYTES],
-    list: &mut [u8; LIST_BYTES],
-    numbers: &mut [u8; NUMBER_BYTES],
-    input: &[u8],
-) -> usize
+pub fn answer(out: &mut [u8], list: &mut [u8], numbers: &mut [u8], input: &[u8]) -> usize
+    requires { (length list.old ≡ 65536) × (32768 ≤ length numbers.old) × (262173 ≤ length out.old) }
     ensures put { Put out.old 0
         (program_text input.now numbers.old list.old) out.new result }
     ensures prefix_len { IsPrefixLen result out.new }

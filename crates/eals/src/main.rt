@@ -14,9 +14,9 @@ fn main(rt: HostRuntime) -> io::Result<()> {
     let alloc = rt.alloc();
     let mut input = Vec::new(alloc);
     rt.reader().take(INPUT_BYTES).read_to_end(&mut input)?;
-    let mut numbers = [0u8; NUMBER_BYTES];
-    let mut list = [0u8; LIST_BYTES];
-    let mut out = [0u8; OUT_BYTES];
+    let mut numbers = vec![in alloc; 0u8; NUMBER_BYTES]?;
+    let mut list = vec![in alloc; 0u8; LIST_BYTES]?;
+    let mut out = vec![in alloc; 0u8; OUT_BYTES]?;
     let end = answer(&mut out, &mut list, &mut numbers, &input);
     rt.write_all(&out[..end])
 }

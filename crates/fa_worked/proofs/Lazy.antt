@@ -12,7 +12,7 @@ use lib.Dec.{eqb}
 use lib.ListN.{get_or, take, replicate}
 use Rattle.std.specs.Prelude.{Err, None, Ok, Some}
 use Rattle.refusal.specs.declared.Refusal.{Refusal}
-use Rattle.refusal.specs.Values.{number_of}
+use Rattle.refusal.specs.Numbers.{number_of}
 use Rattle.refusal.proofs.Tests.{false_true, neither}
 use Rattle.refusal.proofs.Outcomes.{never}
 use Rattle.chunk_grid.specs.Grid.{any}

@@ -2,7 +2,7 @@
 use Rattle.std.specs.Prelude.{ℕ, zero, suc, ◌+◌, ◌/◌, ◌%◌, ◌≡◌, cond, List, [], ◌∷◌, ◌++◌, ltb, length}
 use Rattle.std.proofs.lemmas.List.Edits.{sets}
 use Rattle.refusal.specs.declared.Refusal.{Refusal}
-use Rattle.refusal.specs.Values.{number_of, first_of, second_of}
+use Rattle.refusal.specs.Numbers.{number_of, first_of, second_of}
 use Rattle.index.specs.Index.{Rec}
 
 -- A text is put into a buffer at a place: where it ends, and what the buffer holds then.

@@ -9,7 +9,7 @@ use Rattle.refusal.specs.declared.Refusal.TheVariants.{DataBlockSignature, Super
 use Rattle.refusal.specs.declared.Refusal.TheVariants.{HeaderNotServed, ElementSize, SizeField, Size, SpanOverflow}
 use Rattle.refusal.specs.declared.Refusal.TheVariants.{NumbersNothing, OffsetOverflow, FixedHeaderSignature}
 use Rattle.refusal.specs.declared.Refusal.TheVariants.{FixedDataBlockSignature}
-use Rattle.refusal.specs.Values.{number_of}
+use Rattle.refusal.specs.Numbers.{number_of}
 
 pub number_above : (r : Refusal) → 0 < number_of r
 unfolding number_of

@@ -1,7 +1,7 @@
 #![tactic(auto)]
 // Refusals: why a call gives no result.
 ghost use Rattle.std.specs.Prelude.{◌≡◌};
-ghost use Rattle.refusal.specs.Values.{number_of, first_of, second_of};
+ghost use Rattle.refusal.specs.Numbers.{number_of, first_of, second_of};
 
 // Why a call gives no result, with the figures that its number names.
 #[derive(Clone, Copy)]
@@ -63,7 +63,7 @@ pub enum Refusal {
 
 impl Refusal {
     // The number by which C and the documents name it.
-    #[tactic(auto, unfolding(crate::specs::Values::number_of))]
+    #[tactic(auto, unfolding(crate::specs::Numbers::number_of))]
     pub fn number(self) -> u64
         ensures { result ≡ number_of self }
     {
@@ -98,7 +98,7 @@ impl Refusal {
     }
 
     // The first figure that its number names; 0 where it names none.
-    #[tactic(auto, unfolding(crate::specs::Values::first_of))]
+    #[tactic(auto, unfolding(crate::specs::Numbers::first_of))]
     pub fn first(self) -> u64
         ensures { result ≡ first_of self }
     {
@@ -115,7 +115,7 @@ impl Refusal {
     }
 
     // The second.
-    #[tactic(auto, unfolding(crate::specs::Values::second_of))]
+    #[tactic(auto, unfolding(crate::specs::Numbers::second_of))]
     pub fn second(self) -> u64
         ensures { result ≡ second_of self }
     {

@@ -14,6 +14,7 @@ use Rattle.fields.proofs.Fields.{inside, past_end, figure_in_file, figures_in_fi
 use Rattle.checksum.specs.Trailing.{trailing_test}
 use Rattle.structures.specs.declared.Kind.{Kind}
 use Rattle.structures.specs.Structures.{signature_test, structure_test}
+use Rattle.structures.specs.Header.{signed_header_test}
 
 -- what the tests before the checksum say of the structure
 module _ (kind : Kind) (f : List ℕ) (pos len : ℕ) where
@@ -71,3 +72,8 @@ module _ (sum : List ℕ → ℕ) (f : List ℕ) (pos len : ℕ) where
     pub figures_structure : length f < 2 ^ 63 → structure_test sum kind f (figure pos) (figure len) ≡ structure_test sum kind f pos len
     unfolding structure_test
     figures_structure short = figures_first f pos len (λ (i n : ℕ). signature_test kind f i then trailing_test sum (take n (drop i f))) short
+
+  pub figure-header : (wrong : Refusal) (signature o l : ℕ) → length f < 2 ^ 63
+      → signed_header_test wrong signature sum f pos (figure len) o l ≡ signed_header_test wrong signature sum f pos len o l
+  unfolding signed_header_test
+  figure-header wrong signature o l short = figure-first f pos len (λ (n : ℕ). _ then _ then trailing_test sum (take n (drop pos f))) short

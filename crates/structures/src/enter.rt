@@ -99,8 +99,15 @@ fn test_in_turn<R: Row>(
         }
     }
     if let Some(two) = row.test_pair(i, at) {
-        let (index, checked) = (i + 1, two.second);
-        return (two.first, Some(Ahead { index, checked }));
+        return keep_second(two, i + 1);
     }
     (row.test_one(i, at), None)
+}
+
+// The first of two results, and the second, kept for number `index`.
+pub fn keep_second(two: TwoChecked, index: u64) -> (Result<(), Refusal>, Option<Ahead>)
+    ensures { (result.0 ≡ two.first) × (result.1 ≡ Some (record { index = index; checked = two.second })) }
+{
+    let checked = two.second;
+    (two.first, Some(Ahead { index, checked }))
 }

@@ -56,13 +56,44 @@ pub fn parse<H: IndexHeader>(
         yields Ok (H.at file.now address offset_size length_size)) }
 {
     let size = H::serialized_size(offset_size, length_size);
+    let wrong = H::WRONG_SIGNATURE;
+    test_header(
+        file,
+        wrong,
+        H::SIGNATURE,
+        address,
+        size,
+        offset_size,
+        length_size,
+    )?;
+    Ok(H::read_at(
+        file,
+        address as usize,
+        offset_size as usize,
+        length_size as usize,
+    ))
+}
+
+// Tests a header of `size` bytes at an address of a file, in that order.
+pub fn test_header(
+    file: &[u8],
+    wrong: Refusal,
+    signature: u32,
+    address: u64,
+    size: u64,
+    offset_size: u64,
+    length_size: u64,
+) -> Result<(), Refusal>
+    requires { 5 ≤ size }
+    ensures { result
+        ≡ signed_header_test wrong signature lookup3 file.now address size offset_size length_size }
+{
     ensure_len(file, address, size)?;
     let pos = address as usize;
-    test_form(file, H::WRONG_SIGNATURE, H::SIGNATURE, pos)?;
+    test_form(file, wrong, signature, pos)?;
     test_sizes(offset_size, length_size)?;
     let end = pos + size as usize;
-    verify_trailing(&file[pos..end])?;
-    Ok(H::read_at(file, pos, offset_size as usize, length_size as usize))
+    verify_trailing(&file[pos..end])
 }
 
 // Tests signature and version of the header at pos.

@@ -9,16 +9,16 @@ pub put_list-requires : goal.put_list-requires
 unfolding records_counted
 put_list-requires c =
     let counted : c.args.counted ≡ Ok c.in-Ok.n = c.in-Ok.is in
-    (rw counted at c.requires, omega arith)
+    (rw counted at c.requires.0, omega (arith, c.requires))
 
 pub returns-in-Ok : goal.returns-in-Ok
 unfolding counted_text
 returns-in-Ok c =
     let told = c.put_list.ensures in
-    rw c.in-Ok.is (record { put = told.put; upper_bound = omega arith })
+    rw c.in-Ok.is (record { put = told.put; upper_bound = omega (arith, c.requires) })
 
 pub returns-in-Err : goal.returns-in-Err
 unfolding counted_text
 returns-in-Err c =
     let told = c.put_refusal.ensures in
-    rw c.in-Err.is (record { put = told.put; upper_bound = omega arith })
+    rw c.in-Err.is (record { put = told.put; upper_bound = omega (arith, c.requires) })
