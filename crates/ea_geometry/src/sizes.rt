@@ -6,6 +6,7 @@ ghost use Rattle.ea_geometry.specs.Sizes.{super_blocks, blocks, block_elements, 
 ghost use Rattle.ea_geometry.specs.Sizes.{pages, bitmap_bytes, bit_number};
 ghost use Rattle.ea_geometry.specs.Sizes.{direct_pointers, super_pointers, elements_before, page_elements, over_page};
 
+use crate::EaGeometry;
 use ea_header::Parameters;
 
 // How many of each there are, by parameters that are served.
@@ -15,12 +16,28 @@ pub struct Sizes {
     pub ghost served: { Served parameters },
 }
 
+// The elements of the smallest data block, of parameters that need not be served.
+fn least_elements(parameters: Parameters) -> u64
+    ensures { result ≡ parameters.min_dblk_nelmts }
+{
+    parameters.min_dblk_nelmts as u64
+}
+
+impl EaGeometry {
+    // The elements of the smallest data block.
+    pub fn least_block_elements(self) -> u64
+        ensures { result ≡ self.parameters.min_dblk_nelmts }
+    {
+        least_elements(self.parameters)
+    }
+}
+
 impl Sizes {
     // The elements of the smallest data block.
     pub fn least_block_elements(self) -> u64
         ensures { result ≡ self.parameters.min_dblk_nelmts }
     {
-        self.parameters.min_dblk_nelmts as u64
+        least_elements(self.parameters)
     }
 
     // log2 of the least block elements.
