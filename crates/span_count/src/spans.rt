@@ -1,9 +1,10 @@
 // The spans of an array's structures.
-ghost use Rattle.std.specs.Prelude.{◌≡◌, ◌<◌};
+ghost use Rattle.std.specs.Prelude.{◌≡◌, ◌<◌, List, ℕ};
 ghost use Rattle.ea_geometry.specs.Sizes.{super_blocks};
 ghost use Rattle.ea_blocks.specs.Values.{array_of, array_in};
 ghost use Rattle.ea_blocks.specs.Structures.{index_block, super_block, super_block_at};
 ghost use Rattle.span_walk.specs.Spans.{block_length, span_of};
+ghost use Rattle.span_count.specs.Values.{array_with};
 
 use ea_blocks::{BoundedArray, ExtensibleArray};
 use ea_geometry::EaGeometry;
@@ -23,9 +24,9 @@ pub fn array_alone(array: BoundedArray) -> ExtensibleArray
     }
 }
 
-// The index block's span.
+// The index block's span, whatever file it lies in.
 pub fn index_span(array: BoundedArray) -> Span
-    ensures { result ≡ span_of (array_in array.entry) index_block }
+    ensures { (f : List ℕ) → result ≡ span_of (array_with f array.entry) index_block }
 {
     Span {
         address: array.index_at,
@@ -33,11 +34,12 @@ pub fn index_span(array: BoundedArray) -> Span
     }
 }
 
-// The span of super block u, which lies at `at`.
+// The span of super block u, which lies at `at` in some file.
 #[tactic(auto, using(crate::proofs::SpanTests::super_span_is))]
 pub fn super_span(array: BoundedArray, u: u64, at: u64) -> Span
     requires { u < super_blocks array.extents.sizes.parameters }
-    ensures { let a = array_in array.entry in at ≡ super_block_at a u → result ≡ span_of a (super_block u) }
+    ensures { (f : List ℕ) → let a = array_with f array.entry in at ≡ super_block_at a u → result
+        ≡ span_of a (super_block u) }
 {
     Span {
         address: at,

@@ -40,7 +40,7 @@ spanned : (c : After-index_span)
     → let a = array_in c.args.array in
     Going (index_spans a) c.args.lists.now (also c.index_span.result (supers_from a (super_blocks a.parameters) 0)) c.args.lists.now
 spanned c =
-    rw c.index_span.ensures
+    rw (c.index_span.ensures c.args.array.file.now)
     (going_as (index_defined _ (there (goal.at.After-index_span c).Else-index_undefined) ∙ yields_passed _ _ (passed (goal.at.After-index_span c).Else-index_undefined)) (going_whole c.requires.1))
 
 pub push-requires : goal.push-requires

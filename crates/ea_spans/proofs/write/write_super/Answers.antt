@@ -73,7 +73,7 @@ spanned : (c : After-super_span)
     → Left (goal.at.After-super_span c).Start (also c.super_span.result (inner (goal.at.After-super_span c).Start))
 spanned c =
     let q = found (goal.at.After-super_span c).In-Some in
-    rw (c.super_span.ensures q.1)
+    rw (c.super_span.ensures c.args.array.array.file.now q.1)
     (going_as (super_defined _ _ (beyond (goal.at.After-super_span c).Else-u-direct_super_blocks) q.0 ∙ yields_passed _ _ q.2) (going_whole c.requires.1))
 
 pub push-requires : goal.push-requires

@@ -11,6 +11,6 @@ use Rattle.span_count.proofs.spans.index_span.Goals as goal
 
 pub returns : goal.returns
 unfolding start_of extent_of bytes_of
-returns c =
+returns c f =
     span_is _ _ _ _ refl (c.index_extent.ensures ∙ ap (λ (a : Array). figure (index_extent a.parameters a.offset_size)) c.array_alone.ensures
     ∙ index-exact c.args.array.extents (omega arith) (omega arith))
