@@ -18,7 +18,7 @@ use Rattle.span_walk.specs.declared.Span.{Span}
 use Rattle.span_walk.specs.Walk.{Spanning}
 use Rattle.ea_spans.specs.SpanList.{each, filled, address_of, length_of}
 use Rattle.ea_spans.proofs.Writing.{length-filled}
-use Rattle.span_records.specs.Stored.{span_at, stored, record_room, room_test, stored_number, recorded}
+use Rattle.span_records.specs.Stored.{span_at, stored, record_room, room_test, stored_number, stored_where, recorded}
 
 -- the test's two answers
 module _ (n room : ℕ) where
@@ -120,6 +120,10 @@ module _ (a : Spanning) (xs ls : List ℕ) (ys : List Span) where
         go : (l : List Span) (t : Spanning) → t ≡ Ok l → (m : ℕ) → m ≡ length l → length l ≤ length xs → length l ≤ length ls
             → stored m (filled address_of t 0 xs) (filled length_of t 0 ls) ys ≡ recorded t ys
         go l t p m q x y = rw (q, p) (spans-stored l xs ls ys x y)
+
+    -- so they are where that is tested again
+    pub listed_stored : stored_where n filled_addresses filled_lengths ys ≡ recorded listed ys
+    listed_stored = rw (number_all n (record_room filled_addresses filled_lengths ys) listed_fit) spans_recorded
 
   pub refused_kept : (r : Refusal) → Err r ≡ counted_of listed → ys ≡ recorded listed ys
   unfolding recorded

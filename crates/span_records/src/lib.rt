@@ -37,7 +37,8 @@ pub fn extensible_array_index_span_records(
         addresses,
         lengths,
     )?;
-    copy_spans(spans, addresses, lengths, n as usize);
+    // n spans have room in all three lists: this is not refused.
+    store_spans(spans, addresses, lengths, n as usize)?;
     Ok(n)
 }
 
