@@ -16,6 +16,8 @@ use ea_index::ArrayIndex;
 use refusal::Refusal;
 use walked_index::list::list_chunks;
 
+pub mod call;
+
 // Lists the chunks of a dataset: one record for each, in slot order, from the start of the lent list on. `header` is
 // the header of its index, element_bytes the bytes of one of its elements. A list that is too small, like every other
 // refusal, is left as it was.

@@ -15,6 +15,8 @@ use ea_index::ArrayIndex;
 use index::Entry;
 use refusal::Refusal;
 
+pub mod call;
+
 // Looks up the chunk at a corner. Its refusals come in this order: 3 to 8 of the grid, 10 of the corner, 27 of the
 // header, those of the index block and, for a slot below the published count, of the structures that lead to its place,
 // then of its element.
