@@ -14,9 +14,9 @@ ghost use Rattle.ea_lookup.specs.Call.{lookup_at};
 ghost use Rattle.fa_calls.specs.Call.{fixed_call_index, fixed_list_at, fixed_lookup_at};
 
 use calls::{CHUNK_NAMES, Call, counted_number, found_number};
-use ea_index::ArrayIndex;
+use ea_list::call::list_at;
+use ea_lookup::call::lookup_at;
 use fa_index::FixedIndex;
-use walked_index::call::{list_at, lookup_at};
 
 // HDF5's metadata checksum of some bytes.
 #[unsafe(no_mangle)]
@@ -68,7 +68,7 @@ pub extern "C" fn cellumaq_list(
         has_maximum,
         maximum,
     };
-    let counted = list_at::<ArrayIndex>(&call, list);
+    let counted = list_at(&call, list);
     counted_number(which, counted, CHUNK_NAMES)
 }
 
@@ -116,7 +116,7 @@ pub extern "C" fn cellumaq_lookup(
         has_maximum,
         maximum,
     };
-    let found = lookup_at::<ArrayIndex>(&call, corner);
+    let found = lookup_at(&call, corner);
     found_number(which, found)
 }
 
@@ -159,7 +159,7 @@ pub extern "C" fn cellumaq_fixed_list(
         has_maximum,
         maximum,
     };
-    let listed = list_at::<FixedIndex>(&call, list);
+    let listed = walked_index::call::list_at::<FixedIndex>(&call, list);
     counted_number(which, listed, CHUNK_NAMES)
 }
 
@@ -203,6 +203,6 @@ pub extern "C" fn cellumaq_fixed_lookup(
         has_maximum,
         maximum,
     };
-    let chunk_found = lookup_at::<FixedIndex>(&call, corner);
+    let chunk_found = walked_index::call::lookup_at::<FixedIndex>(&call, corner);
     found_number(which, chunk_found)
 }

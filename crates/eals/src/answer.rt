@@ -7,11 +7,10 @@ ghost use Rattle.list_text.specs.Printed.{Put};
 ghost use Rattle.eals.specs.Program.{listing_of, counted_text, records_counted, program_text};
 
 use calls::Call;
-use ea_index::ArrayIndex;
+use ea_list::call::list_at;
 use list_text::{put_list, put_refusal, put_text};
 use questions::{Question, file_of, parse};
 use refusal::Refusal;
-use walked_index::call::list_at;
 
 // A line of 4,095 bytes has 4,096 words at most, and their numbers have 8 bytes each.
 pub const NUMBER_BYTES: usize = 32768;
@@ -52,7 +51,7 @@ fn list_chunks(
         has_maximum: 1,
         maximum: &numbers[present_end..maximum_end],
     };
-    list_at::<ArrayIndex>(&call, list)
+    list_at(&call, list)
 }
 
 // Puts the text of an answer into out, and answers where it ends.

@@ -3,12 +3,10 @@ use mathlib.Core.Path.{◌≡◌, subst}
 use Rattle.refusal.specs.Values.{counted_of}
 use Rattle.index.specs.Index.{Listing}
 use Rattle.calls.proofs.Answers.{counted_picked, zero_accepts}
-use Rattle.ea_walk.specs.Walk.{list}
-use Rattle.ea_calls.specs.Call.{call_array, call_elements, call_answer}
 use Rattle.cellumaq.proofs.cellumaq_list.Goals as goal
 
 pub returns : goal.returns
-unfolding counted_of call_answer call_array call_elements list
+unfolding counted_of
 returns c =
     let e = c.list_at-counted.ensures in
     let number = counted_picked _ _ _ _ _ c.counted_number.ensures e.0 in

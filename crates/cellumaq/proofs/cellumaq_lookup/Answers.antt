@@ -2,13 +2,10 @@
 use Rattle.chunk_grid.specs.Grid.{given}
 use Rattle.calls.specs.Call.{grid_given}
 use Rattle.calls.proofs.Answers.{found_picked, zero_accepts}
-use Rattle.ea_walk.specs.Walk.{list}
-use Rattle.ea_calls.specs.Call.{call_array, call_elements, call_answer}
-use Rattle.ea_lookup.specs.Lookup.{lookup}
 use Rattle.cellumaq.proofs.cellumaq_lookup.Goals as goal
 
 pub returns : goal.returns
-unfolding grid_given given call_answer call_array call_elements list lookup
+unfolding grid_given given
 returns c =
     let e = c.lookup_at-found.ensures in
     let number = found_picked _ _ _ _ c.found_number.ensures e.0 in (
