@@ -7,3 +7,4 @@ pub mod Numbered
 pub mod Slots
 pub mod Worked
 pub mod Chunks
+pub mod Numberings

@@ -18,7 +18,7 @@ use Rattle.refusal.specs.Outcome.{◌yields◌}
 use Rattle.chunk_grid.specs.declared.ChunkGrid.{ChunkGrid}
 use Rattle.chunk_grid.specs.declared.GridOrder.{GridOrder}
 use Rattle.chunk_grid.specs.Grid.{Grid, pairwise, any, ceil_div, count_of, counts, leading_in, leading, to_front, ordered, multipliers, has_zero, numbers_nothing, overflows, shapes_test, multiplier_test, grid_test, is_unlimited_first, given}
-use Rattle.chunk_grid.specs.Values.{grid_of, grids, built, numbering_test, counts_test, Made, GridNumbers, GridCounts, Extents}
+use Rattle.chunk_grid.specs.Values.{grid_of, grids, built, numbering_test, counts_test, Made, Describes}
 use Rattle.chunk_grid.proofs.Grids.{shaped, accepted}
 use Rattle.chunk_grid.proofs.Building.{rank_over, shapes_agree}
 
@@ -122,13 +122,13 @@ made b limits present chunk counts bound down rotated numbers c d u m = record {
 -- what is made of a grid, in arrays
 made_of : (g : Grid) (chunk counted bound down : List ℕ) (rotated : ℕ) (numbers : Bool) → grid_test g ≡ Ok tt → take g.rank chunk ≡ g.chunk → overflows g.present ≡ false
     → Made g.unlimited_first (limits_of g) g.present g.chunk rotated numbers (take g.rank counted) (take g.rank bound) (take g.rank down)
-    → (GridNumbers g.rank rotated chunk down g) × (GridCounts g.rank counted g) × (Extents g.rank numbers bound g)
+    → Describes g.rank rotated numbers chunk counted bound down g
 unfolding counts leading ordered numbers_nothing
-made_of g chunk counted bound down rotated numbers t c fit m = (
-  record { built = t; ranked = refl; leads = m.leads; chunks = c; downs = m.downs ∙ rw m.leads refl },
-  m.counted,
-  record { numbering = m.numbering ∙ rw m.leads refl; bounds = m.bounds; fits = fit },
-)
+made_of g chunk counted bound down rotated numbers t c fit m = record {
+  numbered = record { built = t; ranked = refl; leads = m.leads; chunks = c; downs = m.downs ∙ rw m.leads refl };
+  counted = m.counted;
+  extended = record { numbering = m.numbering ∙ rw m.leads refl; bounds = m.bounds; fits = fit };
+}
 
 -- For a value of the code: 3 where its rank is over 32, ..
 pub over_32 : (k : ChunkGrid) → 32 < k.rank → Err Rank ≡ grid_test (grid_of k)
@@ -168,7 +168,7 @@ module _ (k : ChunkGrid) (small : k.rank ≤ 32) (sizes : (length k.chunk ≡ 32
   pub numbering_is : grid_test (grid_of k) ≡ Ok tt → (a b d x y z : List ℕ) (rotated : ℕ) (numbers : Bool) → length a ≡ k.rank → length b ≡ k.rank → length d ≡ k.rank
       → overflows (take k.rank k.present) ≡ false
       → Made (is_unlimited_first k.order) (take k.rank (unwrap_or k.maximum k.present)) (take k.rank k.present) (take k.rank k.chunk) rotated numbers a b d
-      → (GridNumbers k.rank rotated k.chunk (d ++ z) (grid_of k)) × (GridCounts k.rank (a ++ x) (grid_of k)) × (Extents k.rank numbers (b ++ y) (grid_of k))
+      → Describes k.rank rotated numbers k.chunk (a ++ x) (b ++ y) (d ++ z) (grid_of k)
   unfolding grid_of given
   numbering_is passed a b d x y z rotated numbers la lb ld fit m =
       made_of (grid_of k) k.chunk (a ++ x) (b ++ y) (d ++ z) rotated numbers passed refl fit

@@ -1,3 +1,4 @@
 pub mod Grid
 pub mod Chunks
 pub mod Values
+pub mod Numberings

@@ -70,6 +70,12 @@ pub record Extents (rank : ℕ) (numbers : Bool) (bound : List ℕ) (g : Grid) :
   pub bounds : take rank bound ≡ pairwise ceil_div g.present g.chunk
   pub fits : overflows g.present ≡ false
 
+-- All of them, of one grid.
+pub record Describes (rank rotated : ℕ) (numbers : Bool) (chunk counts bound down : List ℕ) (g : Grid) : Type 0 where
+  pub numbered : GridNumbers rank rotated chunk down g
+  pub counted : GridCounts rank counts g
+  pub extended : Extents rank numbers bound g
+
 -- What a slot's offsets come to: 32, 33, else the offsets where all of them lie below the present extents. A slot whose
 -- offsets don't is dropped, without refusal.
 unfoldable pub in_extent : Grid → ℕ → Outcome (Option (List ℕ))

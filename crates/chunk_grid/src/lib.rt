@@ -1,12 +1,14 @@
 #![tactic(auto)]
 // The chunk grid: which slot of a chunk index is which chunk's.
-ghost use Rattle.std.specs.Prelude.{◌≡◌, ℕ, false, not, cond, ◌-◌, ◌<◌, ◌≤◌, length, take, drop, [], Ok, get_or};
+ghost use Rattle.std.specs.Prelude.{◌≡◌, ℕ, false, not, cond, ◌-◌, ◌<◌, ◌≤◌, length, take, drop};
+ghost use Rattle.std.specs.Prelude.{replicate, [], Ok, get_or};
 ghost use Rattle.std.specs.Option.{IfSome, is_some, unwrap_or, option_copied};
 ghost use Rattle.refusal.specs.Refusals.{largest64};
 ghost use Rattle.chunk_grid.specs.Grid.{pairwise, ceil_div, count_of, leading_in, to_front, multipliers, has_zero};
 ghost use Rattle.chunk_grid.specs.Grid.{is_unlimited_first, given};
 ghost use Rattle.chunk_grid.specs.Grid.{shapes_test, multiplier_test, product_test, grid_test};
 ghost use Rattle.chunk_grid.specs.Values.{grid_of, grids, built, dim_at, numbering_test, counts_test, Made};
+ghost use Rattle.chunk_grid.specs.Numberings.{NumbersOf, CountsOf, ExtentsOf};
 
 use numbering::Numbering;
 use refusal::Refusal;
@@ -66,11 +68,15 @@ impl ChunkGrid {
         numbering_test(&limits[..rank], &self.chunk[..rank], self.order)
     }
 
-    // What the slots of a grid that has passed its test are numbered by. (The test is apart: an answer of this size in
-    // a Result is copied once more.)
+    // What the slots of a grid that has passed its test are numbered by; behind its `rank` numbers each array holds
+    // zeros. (The test is apart: an answer of this size in a Result is copied once more.)
     pub fn numbering<'a>(&'a self) -> Numbering<'a>
         requires { grid_test (grid_of self.now) ≡ Ok tt }
-        ensures { result.grid.now ≡ self.now }
+        ensures numbers { let g = grid_of self.now in
+            (result.grid.now ≡ self.now) × NumbersOf result g × CountsOf result g × ExtentsOf result g }
+        ensures kept { let zeros = replicate (32 - self.now.rank) 0 in
+            (drop self.now.rank result.counts ≡ zeros) × (drop self.now.rank result.bound ≡ zeros)
+            × (drop self.now.rank result.down ≡ zeros) }
     {
         let rank = self.rank as usize;
         let limits = self.limits();

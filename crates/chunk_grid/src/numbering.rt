@@ -1,9 +1,10 @@
 // What the slots of a chunk grid are numbered by.
-ghost use Rattle.chunk_grid.specs.Values.{grid_of, GridNumbers, GridCounts, Extents};
+ghost use Rattle.chunk_grid.specs.Grid.{Grid};
+ghost use Rattle.chunk_grid.specs.Values.{Describes};
 
 use crate::ChunkGrid;
 
-// A grid that has passed its test, and what its slots are numbered by. (Made once for many slots.)
+// A grid's chunk, and what the slots are numbered by. (Made once for many slots.)
 #[derive(Clone, Copy)]
 pub struct Numbering<'a> {
     pub grid: &'a ChunkGrid,
@@ -16,7 +17,7 @@ pub struct Numbering<'a> {
     pub bound: [u64; 32],
     // The multipliers, in the grid's order.
     pub down: [u64; 32],
-    pub ghost numbered: { GridNumbers grid.now.rank rotated grid.now.chunk down (grid_of grid.now) },
-    pub ghost counted: { GridCounts grid.now.rank counts (grid_of grid.now) },
-    pub ghost extended: { Extents grid.now.rank numbers bound (grid_of grid.now) },
+    // They are the numbers of some grid that passes its test, which may have extents that 64 bits don't hold.
+    pub ghost described: { ∥ ((g : Grid)
+        × Describes grid.now.rank rotated numbers grid.now.chunk counts bound down g) ∥₁ },
 }

@@ -1,17 +1,18 @@
 -- `chunk_grid::ChunkGrid::numbering` meets its contract. Assumes nothing.
 use Prim.Native.Nat.{ℕ, ◌≤◌}
 use mathlib.Core.Path.{◌≡◌, refl, sym, ◌∙◌}
-use mathlib.Core.List.{List}
+use mathlib.Core.List.{List, ◌++◌}
 use native.Mathlib.Omega.{arith}
-use lib.ListN.{length, take}
-use lib.Seq.{length-take-le}
+use lib.ListN.{length, take, drop, replicate}
+use lib.Seq.{length-take-le, drop_at}
+use Rattle.std.proofs.lemmas.List.{drop-replicate}
 use Rattle.std.specs.Prelude.{Ok}
 use Rattle.std.specs.Option.{IfSome}
 use Rattle.chunk_grid.specs.Grid.{grid_test}
-use Rattle.chunk_grid.specs.Values.{grid_of}
+use Rattle.chunk_grid.specs.Values.{grid_of, Describes}
 use Rattle.chunk_grid.proofs.Numbered.{none_over, rank_small, tests_of, numbering_is}
 use borrow.Author.Rules.{rules}
-use Rattle.chunk_grid.proofs.ChunkGrid.numbering.Goals.{After-limits-limits, Start}
+use Rattle.chunk_grid.proofs.ChunkGrid.numbering.Goals.{After-limits-limits, After-number-rotated, Start}
 use Rattle.chunk_grid.proofs.ChunkGrid.numbering.Goals as goal
 
 passed : (c : Start) → grid_test (grid_of c.args.self.now) ≡ Ok tt
@@ -70,19 +71,40 @@ number-rotated-requires c =
     let z = sym (p _ (omega arith)) ∙ e in
     (z, z, z, sym (p _ (limited before.After-limits-limits)) ∙ e, sym (p _ s.1) ∙ e, rw c.limits-limits.ensures.0 (tests_of c.args.self.now (small t) s ∙ passed t))
 
-pub invariant_of-result : goal.invariant_of-result
-invariant_of-result c =
-    let before = goal.at.invariant_of-result c in
+-- what is made describes the grid
+described : (c : After-number-rotated)
+    → let k = c.args.self.now in
+    let n = c.number-rotated in
+    let rest : List ℕ = drop k.rank (replicate 32 0) in
+    Describes k.rank n.result.0 n.result.1 k.chunk (n.new.counts ++ rest) (n.new.bound ++ rest) (n.new.down ++ rest) (grid_of k)
+described c =
+    let before = goal.at.After-number-rotated c in
     let t = before.Start in
     let p = part t in
     let k = c.args.self.now in
-    let a = numbering_is k (small t) (sizes before.After-limits-limits) (passed t) _ _ _ _ _ _ _ _ (c.number-rotated.auto.counts ∙ sym (p _ (omega arith)))
+    numbering_is k (small t) (sizes before.After-limits-limits) (passed t) _ _ _ _ _ _ _ _ (c.number-rotated.auto.counts ∙ sym (p _ (omega arith)))
     (c.number-rotated.auto.bound ∙ sym (p _ (omega arith))) (c.number-rotated.auto.down ∙ sym (p _ (omega arith)))
-    (none_over k.present k.rank c.limits-limits.ensures.2) (rw c.limits-limits.ensures.0 at c.number-rotated.ensures) in
-    record { numbered = a.0; counted = a.1; extended = a.2 }
+    (none_over k.present k.rank c.limits-limits.ensures.2) (rw c.limits-limits.ensures.0 at c.number-rotated.ensures)
 
-pub returns : goal.returns
-returns c = refl
+pub invariant_of-result : goal.invariant_of-result
+invariant_of-result c =
+    record { described = ∣ (grid_of c.args.self.now, described (goal.at.invariant_of-result c).After-number-rotated) ∣₁ }
+
+pub returns-clause-numbers : goal.returns-clause-numbers
+returns-clause-numbers c =
+    let d = described (goal.at.returns-clause-numbers c).After-number-rotated in
+    (refl, d.numbered, d.counted, d.extended)
+
+pub returns-clause-kept : goal.returns-clause-kept
+returns-clause-kept c =
+    let before = goal.at.returns-clause-kept c in
+    let p = part before.Start in
+    let n = c.number-rotated.auto in
+    let r = c.args.self.now.rank in (
+      drop_at _ _ r (n.counts ∙ sym (p _ (omega arith))) ∙ drop-replicate r 32 0,
+      drop_at _ _ r (n.bound ∙ sym (p _ (omega arith))) ∙ drop-replicate r 32 0,
+      drop_at _ _ r (n.down ∙ sym (p _ (omega arith))) ∙ drop-replicate r 32 0,
+    )
 
 pub shared_ref_as_front-number : goal.shared_ref_as_front-number
 shared_ref_as_front-number c = small (goal.at.shared_ref_as_front-number c).Start
