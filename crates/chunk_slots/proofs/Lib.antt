@@ -1,3 +1,4 @@
+pub mod AnyGrid
 pub mod Extents
 pub mod Every
 pub mod Corners

@@ -1,9 +1,10 @@
 #![tactic(auto)]
 // The slots of a chunk grid: a slot's offsets, the slots in a line, a corner's slot.
-ghost use Rattle.std.specs.Prelude.{◌≡◌, true, cond, ◌*◌, ◌/◌, ◌%◌, ◌<◌, ◌≤◌, ltb, length, Ok};
+ghost use Rattle.std.specs.Prelude.{◌≡◌, Bool, true, cond, List, ℕ, ◌*◌, ◌/◌, ◌%◌, ◌<◌, ◌≤◌, ltb, length, Ok};
 ghost use Rattle.refusal.specs.Refusals.{largest64};
-ghost use Rattle.chunk_grid.specs.Grid.{grid_test, aligned, below, corner_test, slot_of};
-ghost use Rattle.chunk_grid.specs.Values.{grid_of, in_extent, offsets_of};
+ghost use Rattle.chunk_grid.specs.Grid.{Grid, grid_test, aligned, below, corner_test, slot_of};
+ghost use Rattle.chunk_grid.specs.Values.{grid_of, GridNumbers, Extents, in_extent, offsets_of};
+ghost use Rattle.chunk_grid.specs.Numberings.{NumbersOf, CountsOf, ExtentsOf};
 ghost use Rattle.chunk_slots.specs.Values.{handed};
 ghost use Rattle.chunk_slots.specs.AllInside.{all_inside};
 ghost use Rattle.chunk_slots.specs.Lines.{InLine};
@@ -101,8 +102,8 @@ pub fn offsets_in_extent(
     slot: u64,
     numbering: &Numbering,
 ) -> Result<bool, Refusal>
-    ensures { let g = grid_of numbering.now.grid.now in
-        (result ≡ offsets_of (in_extent g slot)) × (offsets.new ≡ handed g slot offsets.old) }
+    ensures { (g : Grid) → NumbersOf numbering.now g → ExtentsOf numbering.now g
+        → (result ≡ offsets_of (in_extent g slot)) × (offsets.new ≡ handed g slot offsets.old) }
 {
     if !numbering.numbers {
         return Err(Refusal::NumbersNothing);
@@ -134,8 +135,13 @@ pub fn offsets_in_extent(
 // The line that a slot in the present extents begins. At the first place whose multiplier is 1 the quotient grows
 // from slot to slot, until it comes to its bound or the quotient of a place before it changes.
 pub fn line_from(slot: u64, numbering: &Numbering) -> Line
-    requires { offsets_of (in_extent (grid_of numbering.now.grid.now) slot) ≡ Ok true }
-    ensures { InLine (grid_of numbering.now.grid.now) numbering.now.grid.now.chunk slot result }
+    requires { let m = numbering.now in
+        ∥ ((g : Grid) × (chunk : List ℕ) × (numbers : Bool) × GridNumbers m.grid.now.rank m.rotated chunk m.down g
+        × Extents m.grid.now.rank numbers m.bound g × (offsets_of (in_extent g slot) ≡ Ok true)) ∥₁ }
+    ensures { let m = numbering.now in
+        (g : Grid) (chunk : List ℕ) (numbers : Bool) → GridNumbers m.grid.now.rank m.rotated chunk m.down g
+        → Extents m.grid.now.rank numbers m.bound g → offsets_of (in_extent g slot) ≡ Ok true
+        → InLine g chunk slot result }
 {
     let rank = numbering.grid.rank as usize;
     let rotated = numbering.rotated as usize;
@@ -166,7 +172,9 @@ pub fn line_from(slot: u64, numbering: &Numbering) -> Line
 // Whether the first n slots all lie in the present extents, from the largest quotient at each place. (Once for many
 // elements. Where an extent behind the leading one ends before its maximum, the answer is no.)
 pub fn all_inside(n: u64, numbering: &Numbering) -> bool
-    ensures { result ≡ all_inside (grid_of numbering.now.grid.now) n }
+    ensures { let m = numbering.now in
+        (g : Grid) (chunk : List ℕ) → GridNumbers m.grid.now.rank m.rotated chunk m.down g → ExtentsOf m g
+        → result ≡ all_inside g n }
 {
     if !numbering.numbers {
         return false;
@@ -188,7 +196,7 @@ pub fn all_inside(n: u64, numbering: &Numbering) -> bool
 // The slot of a corner, where it has one.
 pub fn slot_of(corner: &[u64], numbering: &Numbering) -> Option<u64>
     requires { length corner.now ≡ numbering.now.grid.now.rank }
-    ensures { result ≡ slot_of (grid_of numbering.now.grid.now) corner.now }
+    ensures { (g : Grid) → NumbersOf numbering.now g → CountsOf numbering.now g → result ≡ slot_of g corner.now }
 {
     let rotated = numbering.rotated as usize;
     let mut slot = 0u64;
