@@ -3,7 +3,9 @@
 ghost use Rattle.std.specs.Prelude.{◌≡◌, Err, Ok};
 ghost use Rattle.std.specs.Result.{MatchResult};
 ghost use Rattle.refusal.specs.Refusals.{figure};
+ghost use Rattle.chunk_grid.specs.Grid.{Grid};
 ghost use Rattle.chunk_grid.specs.Values.{grid_of, in_extent, offsets_of};
+ghost use Rattle.chunk_grid.specs.Numberings.{NumbersOf, ExtentsOf};
 ghost use Rattle.chunk_slots.specs.Values.{handed};
 ghost use Rattle.element_form.specs.Form.{element_size_test};
 ghost use Rattle.elements.specs.Elements.{chunk_bytes as whole_bytes};
@@ -62,8 +64,9 @@ impl<'a> ElementReader<'a> {
 
     // The offsets of a slot into the lent array, and whether they lie in the present extents.
     pub fn reach(&self, offsets: &mut [u64; 32], slot: u64) -> Result<bool, Refusal>
-        ensures { let grid = grid_of self.now.numbering.now.grid.now in
-            (result ≡ offsets_of (in_extent grid slot)) × (offsets.new ≡ handed grid slot offsets.old) }
+        ensures { let m = self.now.numbering.now in
+            (grid : Grid) → NumbersOf m grid → ExtentsOf m grid
+            → (result ≡ offsets_of (in_extent grid slot)) × (offsets.new ≡ handed grid slot offsets.old) }
     {
         offsets_in_extent(offsets, slot, self.numbering)
     }

@@ -2,10 +2,12 @@
 ghost use Rattle.std.specs.Prelude.{◌≡◌, List, ℕ, ◌+◌, ◌≤◌, length, Ok, true};
 ghost use Rattle.refusal.specs.Outcome.{◌yields◌};
 ghost use Rattle.fields.specs.Fields.{address_at, size_test};
-ghost use Rattle.chunk_grid.specs.Values.{grid_of, in_extent, offsets_of};
+ghost use Rattle.refusal.specs.Refusals.{figure};
+ghost use Rattle.chunk_grid.specs.Grid.{Grid};
+ghost use Rattle.chunk_grid.specs.Values.{in_extent, offsets_of};
 ghost use Rattle.element_form.specs.Form.{stride};
-ghost use Rattle.elements.specs.Elements.{entry_at, entry_test, element};
-ghost use Rattle.elements.specs.Values.{found_of, recorded, elements_of};
+ghost use Rattle.elements.specs.Elements.{chunk_bytes, entry_at, entry_test, element};
+ghost use Rattle.elements.specs.Values.{found_of, recorded, elements_of, Reads};
 
 use crate::{ElementReader, SizedReader};
 use fields::address::is_undefined_addr;
@@ -22,7 +24,8 @@ pub fn read_element(
     reader: &ElementReader,
 ) -> Result<Option<Entry>, Refusal>
     requires { pos + stride reader.now.form ≤ length file.now }
-    ensures { result ≡ found_of (element (elements_of file.now reader.now) pos slot) }
+    ensures { (grid : Grid) (n : ℕ) → Reads reader.now grid n
+        → result ≡ found_of (element (elements_of file.now reader.now grid n) pos slot) }
 {
     let sized = reader.sized()?;
     let width = reader.form.offset_size;
@@ -45,8 +48,10 @@ pub fn read_inside_element(
     sized: &SizedReader,
 ) -> Result<Option<Entry>, Refusal>
     requires { pos + stride sized.now.reader.form ≤ length file.now }
-    ensures { (s : ℕ) → offsets_of (in_extent (grid_of sized.now.reader.numbering.now.grid.now) s) ≡ Ok true
-        → result ≡ found_of (element (elements_of file.now sized.now.reader) pos s) }
+    ensures { let reader = sized.now.reader in
+        (grid : Grid) (n s : ℕ) → reader.chunk_bytes ≡ figure (chunk_bytes grid n)
+        → offsets_of (in_extent grid s) ≡ Ok true
+        → result ≡ found_of (element (elements_of file.now reader grid n) pos s) }
 {
     let width = sized.reader.form.offset_size;
     let address = read_address(file, pos, width as usize);
@@ -65,7 +70,9 @@ fn read_entry(
 ) -> Result<Option<Entry>, Refusal>
     requires { (pos + stride sized.now.reader.form ≤ length file.now)
         × (address ≡ address_at file.now pos sized.now.reader.form.offset_size) }
-    ensures { (corner : List ℕ) → (let e = elements_of file.now sized.now.reader in
+    ensures { let reader = sized.now.reader in
+        (grid : Grid) (n : ℕ) (corner : List ℕ) → reader.chunk_bytes ≡ figure (chunk_bytes grid n)
+        → (let e = elements_of file.now reader grid n in
         result ≡ found_of (entry_test e pos yields recorded corner (entry_at e pos))) }
 {
     let form = sized.reader.form;

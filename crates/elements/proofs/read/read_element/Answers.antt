@@ -5,7 +5,6 @@ use native.Mathlib.Omega.{arith}
 use Rattle.std.specs.Prelude.{Ok, false}
 use Rattle.fields.specs.Fields.{undefined_at}
 use Rattle.chunk_grid.specs.Grid.{offsets}
-use Rattle.chunk_grid.specs.Values.{grid_of}
 use Rattle.element_form.specs.Form.{element_size_test}
 use Rattle.element_form.proofs.Forms.{sized_width, sized-stride}
 use Rattle.elements.specs.Values.{found_of, elements_of}
@@ -15,8 +14,8 @@ use Rattle.elements.proofs.read.read_element.Goals as goal
 
 pub returns-in_err-sized : goal.returns-in_err-sized
 unfolding found_of
-returns-in_err-sized c =
-    let e = ap found_of (element_refused (elements_of c.args.file.now c.args.reader.now) c.args.pos c.args.slot _ c.in_err-sized.ensures) in
+returns-in_err-sized c = λ grid n x.
+    let e = ap found_of (element_refused (elements_of c.args.file.now c.args.reader.now grid n) c.args.pos c.args.slot _ c.in_err-sized.ensures) in
     search rules
 
 passed : (c : In_ok-sized) → element_size_test c.args.reader.now.form ≡ Ok tt
@@ -29,7 +28,7 @@ read_address-address-requires c =
 
 pub returns-then-is_undefined_addr : goal.returns-then-is_undefined_addr
 unfolding found_of
-returns-then-is_undefined_addr c =
+returns-then-is_undefined_addr c = λ grid n x.
     let u = tested _ _ _ _ _ c.read_address-address.ensures c.is_undefined_addr.ensures ∙ c.if-is_undefined_addr.true in
     sym (ap found_of (element-undefined _ _ _ (passed (goal.at.returns-then-is_undefined_addr c).In_ok-sized) u))
 
@@ -38,24 +37,24 @@ defined c = tested _ _ _ _ _ c.read_address-address.ensures c.is_undefined_addr.
 
 pub returns-in_err-reach : goal.returns-in_err-reach
 unfolding found_of
-returns-in_err-reach c =
+returns-in_err-reach c = λ grid n x.
     let at = goal.at.returns-in_err-reach c in
-    let e = ap found_of (element_unnumbered (elements_of c.args.file.now c.args.reader.now) c.args.pos c.args.slot (passed at.In_ok-sized) (defined at.Else-is_undefined_addr) _ (sym c.reach.ensures.0 ∙ c.in_err-reach.was)) in
+    let e = ap found_of (element_unnumbered (elements_of c.args.file.now c.args.reader.now grid n) c.args.pos c.args.slot (passed at.In_ok-sized) (defined at.Else-is_undefined_addr) _ (sym (c.reach.ensures grid x.numbered x.extended).0 ∙ c.in_err-reach.was)) in
     search rules
 
 -- outside the extents
 pub returns-then-not-branch : goal.returns-then-not-branch
 unfolding found_of
-returns-then-not-branch c =
+returns-then-not-branch c = λ grid n x.
     let at = goal.at.returns-then-not-branch c in
-    sym (ap found_of (element_dropped _ _ _ (passed at.In_ok-sized) (defined at.Else-is_undefined_addr) (sym c.reach.ensures.0 ∙ c.in_ok-reach.was ∙ ap Ok c.if-not-branch.true)))
+    sym (ap found_of (element_dropped _ _ _ (passed at.In_ok-sized) (defined at.Else-is_undefined_addr) (sym (c.reach.ensures grid x.numbered x.extended).0 ∙ c.in_ok-reach.was ∙ ap Ok c.if-not-branch.true)))
 
 pub read_entry-requires : goal.read_entry-requires
 read_entry-requires c = rw c.in_ok-sized.ensures (c.requires, c.read_address-address.ensures)
 
 pub returns : goal.returns
-returns c =
+returns c = λ grid n x.
     let at = goal.at.returns c in
-    let e = c.read_entry.ensures (offsets (grid_of c.args.reader.now.numbering.now.grid.now) c.args.slot) in
-    (rw c.in_ok-sized.ensures at e)
-    ∙ sym (ap found_of (element_inside _ _ _ (passed at.In_ok-sized) (defined at.Else-is_undefined_addr) (sym c.reach.ensures.0 ∙ c.in_ok-reach.was ∙ ap Ok c.if-not-branch.false)))
+    let e = c.read_entry.ensures grid n (offsets grid c.args.slot) in
+    (rw c.in_ok-sized.ensures at e) x.chunked
+    ∙ sym (ap found_of (element_inside _ _ _ (passed at.In_ok-sized) (defined at.Else-is_undefined_addr) (sym (c.reach.ensures grid x.numbered x.extended).0 ∙ c.in_ok-reach.was ∙ ap Ok c.if-not-branch.false)))

@@ -12,8 +12,8 @@ use Rattle.elements.proofs.read.read_entry.Goals.{Else-not-is_filtered, Else-wid
 use Rattle.elements.proofs.read.read_entry.Goals as goal
 
 pub returns-then-not-is_filtered : goal.returns-then-not-is_filtered
-returns-then-not-is_filtered c = λ corner.
-    c.entry_of.ensures corner ∙ ap found_of (entry_plain _ _ corner (sym c.is_filtered.ensures ∙ c.if-not-is_filtered.true) _ _ c.requires.1 c.args.sized.now.reader.chunked)
+returns-then-not-is_filtered c = λ grid n corner e.
+    c.entry_of.ensures corner ∙ ap found_of (entry_plain _ _ corner (sym c.is_filtered.ensures ∙ c.if-not-is_filtered.true) _ _ c.requires.1 e)
 
 is_filtered : (c : Else-not-is_filtered) → filtered c.args.sized.now.reader.form ≡ true
 is_filtered c = sym c.is_filtered.ensures ∙ c.if-not-is_filtered.false
@@ -23,7 +23,7 @@ size_bytes-width-requires c = (c.args.sized.now.sized, is_filtered (goal.at.size
 
 pub returns-then-width-gt8 : goal.returns-then-width-gt8
 unfolding found_of
-returns-then-width-gt8 c = λ corner.
+returns-then-width-gt8 c = λ grid n corner e.
     ap found_of (entry_wide _ _ corner (is_filtered (goal.at.returns-then-width-gt8 c).Else-not-is_filtered) _ c.size_bytes-width.ensures c.if-width-gt8.true)
 
 room : (c : Else-width-gt8)
@@ -47,6 +47,6 @@ pub read_u32_le-mask-requires : goal.read_u32_le-mask-requires
 read_u32_le-mask-requires c = omega (arith, room (goal.at.read_u32_le-mask-requires c).Else-width-gt8)
 
 pub returns : goal.returns
-returns c = λ corner.
+returns c = λ grid n corner e.
     c.entry_of-2.ensures corner
     ∙ ap found_of (entry_filtered _ _ corner (is_filtered (goal.at.returns c).Else-not-is_filtered) _ c.size_bytes-width.ensures c.if-width-gt8.false _ _ _ c.requires.1 c.read_le-size.ensures.0 c.read_u32_le-mask.ensures)

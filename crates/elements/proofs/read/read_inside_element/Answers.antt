@@ -13,11 +13,11 @@ read_address-address-requires c =
 
 pub returns-then-is_undefined_addr : goal.returns-then-is_undefined_addr
 unfolding found_of
-returns-then-is_undefined_addr c = λ s i.
+returns-then-is_undefined_addr c = λ grid n s e i.
     let u = tested _ _ _ _ _ c.read_address-address.ensures c.is_undefined_addr.ensures ∙ c.if-is_undefined_addr.true in
     sym (ap found_of (element-undefined _ _ s c.args.sized.now.sized u))
 
 pub returns : goal.returns
-returns c = λ s i.
+returns c = λ grid n s e i.
     let d = tested _ _ _ _ _ c.read_address-address.ensures c.is_undefined_addr.ensures ∙ c.if-is_undefined_addr.false in
-    c.read_entry.ensures _ ∙ sym (ap found_of (element_inside _ _ s c.args.sized.now.sized d i))
+    c.read_entry.ensures grid n _ e ∙ sym (ap found_of (element_inside _ _ s c.args.sized.now.sized d i))
