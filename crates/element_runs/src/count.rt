@@ -1,11 +1,13 @@
 // A run of elements tested, and its records counted.
 ghost use Rattle.std.specs.Prelude.{◌≡◌, true, [], ℕ, ◌+◌, ◌-◌, ◌*◌, ◌<◌, ◌≤◌, min, length, Ok};
-ghost use Rattle.refusal.specs.Refusals.{largest64};
+ghost use Rattle.refusal.specs.Refusals.{figure, largest64};
 ghost use Rattle.refusal.specs.Values.{counted_of};
-ghost use Rattle.chunk_grid.specs.Values.{grid_of, in_extent, offsets_of};
+ghost use Rattle.chunk_grid.specs.Grid.{Grid};
+ghost use Rattle.chunk_grid.specs.Values.{in_extent, offsets_of};
 ghost use Rattle.element_form.specs.Form.{stride};
+ghost use Rattle.elements.specs.Elements.{chunk_bytes};
 ghost use Rattle.elements.specs.Runs.{elements_from};
-ghost use Rattle.elements.specs.Values.{elements_of};
+ghost use Rattle.elements.specs.Values.{elements_of, Reads};
 ghost use Rattle.element_runs.specs.Defined.{sizes_fit, all_chunks};
 
 use crate::defined::count_defined;
@@ -24,7 +26,8 @@ pub fn count_elements(
     reader: &ElementReader,
 ) -> Result<u64, Refusal>
     requires { pos + n * stride reader.now.form ≤ length file.now }
-    ensures { result ≡ counted_of (elements_from (elements_of file.now reader.now) pos n slot (Ok [])) }
+    ensures { (grid : Grid) (m : ℕ) → Reads reader.now grid m
+        → result ≡ counted_of (elements_from (elements_of file.now reader.now grid m) pos n slot (Ok [])) }
 {
     let left = below_count(n, slot, reader.count);
     if left == 0 {
@@ -50,7 +53,7 @@ pub fn below_count(n: u64, slot: u64, count: u64) -> u64
 #[tactic(auto, unfolding(crate::specs::Defined::all_chunks))]
 fn all_chunks(n: u64, sized: &SizedReader) -> bool
     ensures { let r = sized.now.reader in
-        result ≡ all_chunks r.form (grid_of r.numbering.now.grid.now) r.element_bytes n }
+        (grid : Grid) (m : ℕ) → Reads r grid m → result ≡ all_chunks r.form grid m n }
 {
     sizes_fit(sized) && all_inside(n, sized.reader.numbering)
 }
@@ -58,7 +61,8 @@ fn all_chunks(n: u64, sized: &SizedReader) -> bool
 // Whether no size passes 2^32 - 1.
 #[tactic(auto, using(crate::proofs::AllChunks::fit_plain, crate::proofs::AllChunks::fit_filtered))]
 fn sizes_fit(sized: &SizedReader) -> bool
-    ensures { let r = sized.now.reader in result ≡ sizes_fit r.form (grid_of r.numbering.now.grid.now) r.element_bytes }
+    ensures { let r = sized.now.reader in
+        (grid : Grid) (m : ℕ) → r.chunk_bytes ≡ figure (chunk_bytes grid m) → result ≡ sizes_fit r.form grid m }
 {
     let form = sized.reader.form;
     if form.is_filtered() {
@@ -77,7 +81,9 @@ fn count_steps(
 ) -> Result<u64, Refusal>
     requires { (pos + n * stride sized.now.reader.form ≤ length file.now) × (slot + n ≤ sized.now.reader.count)
         × (slot + n ≤ largest64) }
-    ensures { result ≡ counted_of (elements_from (elements_of file.now sized.now.reader) pos n slot (Ok [])) }
+    ensures { let r = sized.now.reader in
+        (grid : Grid) (m : ℕ) → Reads r grid m
+        → result ≡ counted_of (elements_from (elements_of file.now r grid m) pos n slot (Ok [])) }
 {
     let stride = sized.reader.form.stride() as usize;
     let mut offsets = [0u64; 32];
@@ -106,10 +112,10 @@ fn count_steps(
 // Tests and counts n elements whose slots lie in the present extents, below the published count.
 fn count_line(file: &[u8], pos: usize, n: u64, sized: &SizedReader) -> Result<u64, Refusal>
     requires { pos + n * stride sized.now.reader.form ≤ length file.now }
-    ensures { let reader = sized.now.reader in
-        (s : ℕ) → s + n ≤ reader.count
-        → ((j : ℕ) → j < n → offsets_of (in_extent (grid_of reader.numbering.now.grid.now) (s + j)) ≡ Ok true)
-        → result ≡ counted_of (elements_from (elements_of file.now reader) pos n s (Ok [])) }
+    ensures { let r = sized.now.reader in
+        (grid : Grid) (m s : ℕ) → Reads r grid m → s + n ≤ r.count
+        → ((j : ℕ) → j < n → offsets_of (in_extent grid (s + j)) ≡ Ok true)
+        → result ≡ counted_of (elements_from (elements_of file.now r grid m) pos n s (Ok [])) }
 {
     let stride = sized.reader.form.stride() as usize;
     if sizes_fit(sized) {

@@ -17,14 +17,14 @@ use Rattle.element_runs.proofs.count.count_elements.Goals as goal
 
 pub returns-then-left-eq0 : goal.returns-then-left-eq0
 unfolding counted_of
-returns-then-left-eq0 c = sym (ap counted_of (left_none _ _ _ _ _ _ c.below_count-left.ensures c.if-left-eq0.true))
+returns-then-left-eq0 c = λ grid m x. sym (ap counted_of (left_none _ _ _ _ _ _ c.below_count-left.ensures c.if-left-eq0.true))
 
 pub returns-in_err-sized : goal.returns-in_err-sized
 unfolding counted_of
-returns-in_err-sized c =
+returns-in_err-sized c = λ grid m x.
     let n = c.if-left-eq0.false in
     let a = c.args in
-    let e = elements_of a.file.now a.reader.now in
+    let e = elements_of a.file.now a.reader.now grid m in
     let h = ap counted_of (left_refused e a.pos a.n a.slot _ (Ok []) c.below_count-left.ensures (pos_of_ne-zero n) _ c.in_err-sized.ensures) in
     search rules
 
@@ -47,14 +47,14 @@ count_steps-requires c =
     (left_inside at, left_below at, omega (arith, left_below at))
 
 pub returns-then-all_chunks : goal.returns-then-all_chunks
-returns-then-all_chunks c =
+returns-then-all_chunks c = λ grid m x.
     let sized = c.in_ok-sized.sized in
-    let m = sized.reader.numbering.now in
+    let y = rw (← c.in_ok-sized.ensures) at x in
     let e = ap Ok (rw c.stride.ensures at c.count_defined.ensures)
-    ∙ all_counted (elements_of c.args.file.now sized.reader) (λ i. omega (arith, c.type_inv.file i)) sized.sized m.numbered m.extended _ (sym c.all_chunks.ensures ∙ c.if-all_chunks.true) c.args.pos c.below_count-left.result c.args.slot (omega arith) (left_below (goal.at.returns-then-all_chunks c).In_ok-sized) in
+    ∙ all_counted (elements_of c.args.file.now sized.reader grid m) (λ i. omega (arith, c.type_inv.file i)) sized.sized y.numbered y.extended _ (sym (c.all_chunks.ensures grid m y) ∙ c.if-all_chunks.true) c.args.pos c.below_count-left.result c.args.slot (omega arith) (left_below (goal.at.returns-then-all_chunks c).In_ok-sized) in
     (rw c.in_ok-sized.ensures at e) ∙ sym (ap counted_of (left_run _ _ _ _ _ _ c.below_count-left.ensures))
 
 pub returns : goal.returns
-returns c =
-    let e = c.count_steps.ensures in
-    (rw c.in_ok-sized.ensures at e) ∙ sym (ap counted_of (left_run _ _ _ _ _ _ c.below_count-left.ensures))
+returns c = λ grid m x.
+    let e = c.count_steps.ensures grid m in
+    (rw c.in_ok-sized.ensures at e) x ∙ sym (ap counted_of (left_run _ _ _ _ _ _ c.below_count-left.ensures))
