@@ -5,16 +5,16 @@ use mathlib.Core.List.{List, []}
 use native.Mathlib.Omega.{arith}
 use lib.ListN.{get_or, set}
 use Rattle.std.specs.Prelude.{Ok, true}
-use Rattle.chunk_grid.specs.Grid.{offsets}
-use Rattle.chunk_grid.specs.Values.{grid_of, in_extent, offsets_of}
+use Rattle.chunk_grid.specs.Grid.{Grid, offsets}
+use Rattle.chunk_grid.specs.Values.{in_extent, offsets_of}
 use Rattle.chunk_slots.specs.declared.Line.{Line}
 use Rattle.index.specs.Index.{Rec}
 use Rattle.elements.specs.declared.ElementReader.{ElementReader}
 use Rattle.elements.specs.Runs.{elements_from}
-use Rattle.elements.specs.Values.{elements_of}
+use Rattle.elements.specs.Values.{elements_of, Reads}
 use Rattle.element_runs.specs.Steps.{ReadsLine}
 
-module _ {r : ElementReader} {corner : List ℕ} {line : Line} {s : ℕ} (q : ReadsLine r corner line s) where
+module _ {r : ElementReader} {corner : List ℕ} {line : Line} {grid : Grid} {m s : ℕ} (q : ReadsLine r corner line grid m s) where
   abbrev pub step_of : ℕ
   step_of = get_or r.numbering.now.grid.now.chunk line.dim 0
 
@@ -26,7 +26,7 @@ module _ {r : ElementReader} {corner : List ℕ} {line : Line} {s : ℕ} (q : Re
     pub line_fits : line.first * step_of + i * step_of < 2 ^ 64
     line_fits = omega (arith, together, q.lies.fits i h)
 
-    pub line_corner : set corner line.dim (line.first * step_of + i * step_of) ≡ offsets (grid_of r.numbering.now.grid.now) (s + i)
+    pub line_corner : set corner line.dim (line.first * step_of + i * step_of) ≡ offsets grid (s + i)
     line_corner = rw (q.begins, ← together) (sym (q.lies.corner i h))
 
   -- its first
@@ -35,16 +35,18 @@ module _ {r : ElementReader} {corner : List ℕ} {line : Line} {s : ℕ} (q : Re
 
 -- A run of slots that lie in a line, below the count, is accepted: their corners are the first one's, but for dimension
 -- `dim`, whose offset grows from `first` by `step`.
-pub record Lined (file : List ℕ) (r : ElementReader) (corner : List ℕ) (dim first step pos n : ℕ) (s : ℕ) (l : List Rec) : Type 0 where
-  pub is : elements_from (elements_of file r) pos n s (Ok []) ≡ Ok l
+pub record Lined (file : List ℕ) (r : ElementReader) (corner : List ℕ) (dim first step pos n : ℕ) (grid : Grid) (m s : ℕ) (l : List Rec) : Type 0 where
+  pub reads : Reads r grid m
+  pub is : elements_from (elements_of file r grid m) pos n s (Ok []) ≡ Ok l
   pub below : s + n ≤ r.count
-  pub inside : (i : ℕ) → i < n → offsets_of (in_extent (grid_of r.numbering.now.grid.now) (s + i)) ≡ Ok true
-  pub corners : (i : ℕ) → i < n → set corner dim (first + i * step) ≡ offsets (grid_of r.numbering.now.grid.now) (s + i)
+  pub inside : (i : ℕ) → i < n → offsets_of (in_extent grid (s + i)) ≡ Ok true
+  pub corners : (i : ℕ) → i < n → set corner dim (first + i * step) ≡ offsets grid (s + i)
 
-pub lined : {file : List ℕ} {r : ElementReader} {corner : List ℕ} {line : Line} {pos n : ℕ} → n ≤ line.slots → {s : ℕ} {l : List Rec}
-    → ReadsLine r corner line s → elements_from (elements_of file r) pos n s (Ok []) ≡ Ok l → s + n ≤ r.count
-    → Lined file r corner line.dim (line.first * get_or r.numbering.now.grid.now.chunk line.dim 0) (get_or r.numbering.now.grid.now.chunk line.dim 0) pos n s l
+pub lined : {file : List ℕ} {r : ElementReader} {corner : List ℕ} {line : Line} {pos n : ℕ} → n ≤ line.slots → {grid : Grid} {m s : ℕ} {l : List Rec}
+    → ReadsLine r corner line grid m s → elements_from (elements_of file r grid m) pos n s (Ok []) ≡ Ok l → s + n ≤ r.count
+    → Lined file r corner line.dim (line.first * get_or r.numbering.now.grid.now.chunk line.dim 0) (get_or r.numbering.now.grid.now.chunk line.dim 0) pos n grid m s l
 lined k q e b = record {
+  reads = q.reads;
   is = e;
   below = b;
   inside = λ i h. q.lies.inside i (omega arith);

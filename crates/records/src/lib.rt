@@ -2,10 +2,11 @@
 // Records written into a lent list.
 ghost use Rattle.std.specs.Prelude.{◌≡◌, List, [], ℕ, ◌+◌, ◌*◌, ◌≤◌, length, set, Ok};
 ghost use Rattle.std.proofs.lemmas.List.Edits.{sets};
+ghost use Rattle.chunk_grid.specs.Grid.{Grid};
 ghost use Rattle.element_form.specs.Form.{stride};
 ghost use Rattle.index.specs.Index.{Rec};
 ghost use Rattle.elements.specs.Runs.{elements_from};
-ghost use Rattle.elements.specs.Values.{elements_of};
+ghost use Rattle.elements.specs.Values.{elements_of, Reads};
 ghost use Rattle.element_runs.specs.Steps.{ReadsLine};
 ghost use Rattle.records.specs.Records.{record_length, offset_bytes, record_bytes, list_bytes};
 
@@ -57,12 +58,14 @@ fn write_line(
     corner: &[u64],
     line: Line,
 ) -> usize
-    requires { ((s : ℕ) × (l : List Rec) × ReadsLine sized.now.reader corner.now line s
-        × (elements_from (elements_of file.now sized.now.reader) pos n s (Ok []) ≡ Ok l)
+    requires { ((grid : Grid) × (m : ℕ) × (s : ℕ) × (l : List Rec)
+        × ReadsLine sized.now.reader corner.now line grid m s
+        × (elements_from (elements_of file.now sized.now.reader grid m) pos n s (Ok []) ≡ Ok l)
         × (at + length (list_bytes l) ≤ length out.old) × (s + n ≤ sized.now.reader.count))
         × (n ≤ line.slots) × (pos + n * stride sized.now.reader.form ≤ length file.now) }
-    ensures { (s : ℕ) (l : List Rec) → ReadsLine sized.now.reader corner.now line s
-        → elements_from (elements_of file.now sized.now.reader) pos n s (Ok []) ≡ Ok l
+    ensures { (grid : Grid) (m s : ℕ) (l : List Rec)
+        → ReadsLine sized.now.reader corner.now line grid m s
+        → elements_from (elements_of file.now sized.now.reader grid m) pos n s (Ok []) ≡ Ok l
         → s + n ≤ sized.now.reader.count
         → (out.new ≡ sets out.old at (list_bytes l)) × (result ≡ at + length (list_bytes l)) }
 {
@@ -95,10 +98,12 @@ pub fn write_elements(
     slot: u64,
     reader: &ElementReader,
 ) -> usize
-    requires { ((l : List Rec) × (elements_from (elements_of file.now reader.now) pos n slot (Ok []) ≡ Ok l)
+    requires { ((grid : Grid) × (m : ℕ) × (l : List Rec) × Reads reader.now grid m
+        × (elements_from (elements_of file.now reader.now grid m) pos n slot (Ok []) ≡ Ok l)
         × (at + length (list_bytes l) ≤ length out.old))
         × (pos + n * stride reader.now.form ≤ length file.now) }
-    ensures { (l : List Rec) → elements_from (elements_of file.now reader.now) pos n slot (Ok []) ≡ Ok l
+    ensures { (grid : Grid) (m : ℕ) (l : List Rec) → Reads reader.now grid m
+        → elements_from (elements_of file.now reader.now grid m) pos n slot (Ok []) ≡ Ok l
         → (out.new ≡ sets out.old at (list_bytes l)) × (result ≡ at + length (list_bytes l)) }
 {
     let below = below_count(n, slot, reader.count);

@@ -1,16 +1,18 @@
 -- `records::write_elements` meets its contract. Assumes nothing.
-use Prim.Native.Nat.{◌+◌, ◌-◌, ◌*◌, ◌<◌, ◌≤◌, min}
+use Prim.Native.Nat.{ℕ, ◌+◌, ◌-◌, ◌*◌, ◌<◌, ◌≤◌, min}
 use mathlib.Core.Path.{◌≡◌, refl, sym, ap, ◌∙◌}
 use mathlib.Core.List.{List, []}
+use native.Mathlib.Bridge.{le_prop}
 use native.Mathlib.Omega.{arith}
 use lib.ListN.{length, take, length-take}
 use Rattle.std.specs.Prelude.{Ok}
+use Rattle.chunk_grid.specs.Grid.{Grid}
 use Rattle.element_form.specs.Form.{stride as stride_of}
 use Rattle.index.specs.Index.{Rec, Listing}
 use Rattle.elements.specs.Elements.{Elements}
 use Rattle.elements.specs.Runs.{elements_from}
-use Rattle.elements.specs.Values.{elements_of}
-use Rattle.elements.proofs.Readers.{reads_rank}
+use Rattle.elements.specs.Values.{elements_of, Reads}
+use Rattle.elements.proofs.Readers.{reads_rank, reads_any}
 use Rattle.elements.proofs.Turns.{fewer_lie, lie_behind, left_run, left_none}
 use Rattle.records.specs.Records.{list_bytes}
 use Rattle.records.proofs.Writing.{LeftOf, left_first, left_length, left_done, left_same, left_sized, left_accepted, left_gap, part, part_is, part_fits, left_behind}
@@ -19,30 +21,31 @@ use Rattle.records.proofs.write_elements.Goals as goal
 
 pub returns-then-below-eq0 : goal.returns-then-below-eq0
 unfolding list_bytes
-returns-then-below-eq0 c = λ l h.
-    let none = left_none (elements_of c.args.file.now c.args.reader.now) c.args.pos c.args.n c.args.slot _ (Ok []) c.below_count-below.ensures c.if-below-eq0.true in
+returns-then-below-eq0 c = λ grid m l x h.
+    let none = left_none (elements_of c.args.file.now c.args.reader.now grid m) c.args.pos c.args.n c.args.slot _ (Ok []) c.below_count-below.ensures c.if-below-eq0.true in
     let q : ◌≡◌ {A = Listing} (Ok []) (Ok l) = sym none ∙ h in
     let e : l ≡ [] = cc in
     rw e (refl, omega arith)
 
 pub loop-left-init : goal.loop-left-init
 loop-left-init c =
-    (fewer_lie _ _ _ _ _ (omega (arith, c.below_count-below.ensures)) c.requires.1, refl, refl, λ k h. left_first h)
+    (fewer_lie _ _ _ _ _ (omega (arith, c.below_count-below.ensures)) c.requires.1, refl, refl, λ grid m k x h. left_first h)
 
 -- what the records are of the elements below the count
-abbrev elements_at : At-loop-left → Elements
-elements_at c = elements_of c.args.file.now c.args.reader.now
+abbrev elements_at : At-loop-left → Grid → ℕ → Elements
+elements_at c grid m = elements_of c.args.file.now c.args.reader.now grid m
 
-abbrev Listed : At-loop-left → List Rec → Type 0
-Listed c l = elements_from (elements_at c) c.args.pos c.below_count-below.result c.args.slot (Ok []) ≡ Ok l
+abbrev Listed : At-loop-left → Grid → ℕ → List Rec → Type 0
+Listed c grid m l = elements_from (elements_at c grid m) c.args.pos c.below_count-below.result c.args.slot (Ok []) ≡ Ok l
 
-listed : (c : At-loop-left) (l : List Rec)
-    → elements_from (elements_at c) c.args.pos c.args.n c.args.slot (Ok []) ≡ Ok l → Listed c l
-listed c l h = sym (left_run (elements_at c) _ _ _ _ (Ok []) c.below_count-below.ensures) ∙ h
+listed : (c : At-loop-left) (grid : Grid) (m : ℕ) (l : List Rec)
+    → elements_from (elements_at c grid m) c.args.pos c.args.n c.args.slot (Ok []) ≡ Ok l → Listed c grid m l
+listed c grid m l h = sym (left_run (elements_at c grid m) _ _ _ _ (Ok []) c.below_count-below.ensures) ∙ h
 
 given : (c : At-loop-left)
-    → (l : List Rec) × Listed c l × (c.args.at + length (list_bytes l) ≤ length c.args.out.now)
-given c = let p = c.requires.0 in (p.0, listed c _ p.1, p.2)
+    → (grid : Grid) × (m : ℕ) × (l : List Rec) × Reads c.args.reader.now grid m × Listed c grid m l
+    × (c.args.at + length (list_bytes l) ≤ length c.args.out.now)
+given c = let p = c.requires.0 in (p.0, p.1, p.2, p.3, listed c _ _ _ p.4, p.5)
 
 below : (c : At-loop-left) → c.args.slot + c.below_count-below.result ≤ c.args.reader.now.count
 below c = let n = c.if-below-eq0.false in omega (arith, c.below_count-below.ensures)
@@ -53,7 +56,7 @@ invariant_of-sized c =
     let at = (goal.at.invariant_of-sized c).At-loop-left in
     let d = given at in
     let n = c.if-below-eq0.false in
-    record { sized = left_sized (left_first {out = c.args.out.now} {at = c.args.at} d.1) (omega arith) (omega (arith, below at)) }
+    record { sized = left_sized (left_first {out = c.args.out.now} {at = c.args.at} d.4) (omega arith) (omega (arith, below at)) }
 
 pub step_from-requires : goal.step_from-requires
 step_from-requires c =
@@ -74,16 +77,18 @@ write_line-to-requires c =
     let at = (goal.at.write_line-to-requires c).At-loop-left in
     let d = given at in
     let v = c.loop-left.invariant in
-    let z = v.3 _ d.1 in
+    let z = v.3 _ _ _ d.3 d.4 in
     let m = c.min-slots.ensures in
     let h : c.min-slots.result ≤ c.loop-left.left = omega arith in
     let s = c.step_from.ensures in (
       (
+        d.0,
+        d.1,
         c.loop-left.here,
         part z _ h,
-        rw (c.in-Ok-Line.is ∙ ap Ok c.in-Ok-Line.field-0-is) at s,
+        (rw (c.in-Ok-Line.is ∙ ap Ok c.in-Ok-Line.field-0-is) at s) _ _ d.3,
         part_is z _ h,
-        omega (arith, part_fits z _ h, d.2, v.2),
+        omega (arith, part_fits z _ h, d.5, v.2),
         omega (arith, h, v.1, below at),
       ),
       omega arith,
@@ -99,24 +104,24 @@ passes c =
       | in-Ok-Line w ↦
           let q = rw (w.in-Ok-Line.is ∙ ap Ok w.in-Ok-Line.field-0-is) at s in
           let m = w.min-slots.ensures in
-          rw w.passed-is (omega (arith, q.lies.some, c.loop-left-test.true), omega arith)
+          rw w.passed-is (reads_any c.args.reader.now le_prop (λ grid k x. omega (arith, m, (q grid k x).lies.some, c.loop-left-test.true)), omega arith)
       | in-Err w ↦ rw w.passed-is (c.loop-left-test.true, omega arith)
     ]
 
-written : (c : Joined-step_from) (l : List Rec) → Listed (goal.at.Joined-step_from c).At-loop-left l
-    → LeftOf (elements_of c.args.file.now c.args.reader.now) c.args.out.now c.args.at l (c.loop-left.from + c.match-step_from.passed * stride_of c.args.reader.now.form)
+written : (c : Joined-step_from) (grid : Grid) (m : ℕ) (l : List Rec) → Reads c.args.reader.now grid m → Listed (goal.at.Joined-step_from c).At-loop-left grid m l
+    → LeftOf (elements_of c.args.file.now c.args.reader.now grid m) c.args.out.now c.args.at l (c.loop-left.from + c.match-step_from.passed * stride_of c.args.reader.now.form)
     (c.loop-left.left - c.match-step_from.passed) (c.loop-left.here + c.match-step_from.passed) c.match-step_from.out c.match-step_from.to
-written c l h =
+written c grid m l x h =
     let s = c.step_from.ensures in
-    let z = c.loop-left.invariant.3 l h in
+    let z = c.loop-left.invariant.3 grid m l x h in
     elim c.match-step_from.branch [
-      | in-Ok-Gap w ↦ let g = rw (w.in-Ok-Gap.is ∙ ap Ok w.in-Ok-Gap.field-0-is) at s in rw w.passed-is (left_same (left_gap z _ g.1 g.2) w.out-is w.to-is)
+      | in-Ok-Gap w ↦ let g = rw (w.in-Ok-Gap.is ∙ ap Ok w.in-Ok-Gap.field-0-is) at s in rw w.passed-is (left_same (left_gap z _ g.1 (g.2 grid m x)) w.out-is w.to-is)
       | in-Ok-Line w ↦
           let q = rw (w.in-Ok-Line.is ∙ ap Ok w.in-Ok-Line.field-0-is) at s in
           let i : w.min-slots.result ≤ c.loop-left.left = omega (arith, w.min-slots.ensures) in
-          let p = w.write_line-to.ensures _ _ q (part_is z _ i) (omega (arith, i, c.loop-left.invariant.1, below (goal.at.Joined-step_from c).At-loop-left)) in
+          let p = w.write_line-to.ensures _ _ _ _ (q grid m x) (part_is z _ i) (omega (arith, i, c.loop-left.invariant.1, below (goal.at.Joined-step_from c).At-loop-left)) in
           rw w.passed-is (left_same (left_behind z _ i) (w.out-is ∙ p.0) (w.to-is ∙ p.1))
-      | in-Err w ↦ absurd (left_accepted z _ (rw w.in-Err.is at s))
+      | in-Err w ↦ absurd (left_accepted z _ ((rw w.in-Err.is at s) grid m x))
     ]
 
 lies : (c : Joined-step_from)
@@ -147,9 +152,9 @@ loop-left-preserved c =
     rw c.stride-stride.ensures (
       lies at,
       omega (arith, c.loop-left.invariant.1, passes at),
-      left_length _ _ _ _ _ _ _ _ _ (w _ (given (goal.at.loop-left-preserved c).At-loop-left).1),
+      left_length _ _ _ _ _ _ _ _ _ (let d = given (goal.at.loop-left-preserved c).At-loop-left in w _ _ _ d.3 d.4),
       w,
     )
 
 pub returns : goal.returns
-returns c = λ l h. left_done (c.loop-left.invariant.3 l (listed (goal.at.returns c).At-loop-left l h)) (omega (arith, c.loop-left-test.false))
+returns c = λ grid m l x h. left_done (c.loop-left.invariant.3 grid m l x (listed (goal.at.returns c).At-loop-left grid m l h)) (omega (arith, c.loop-left-test.false))
