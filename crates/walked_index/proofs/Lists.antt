@@ -11,13 +11,12 @@ use Rattle.refusal.specs.Outcome.{in_room, ◌yields◌}
 use Rattle.refusal.specs.Values.{counted_of}
 use Rattle.refusal.proofs.Outcomes.{yields_inv, yields_passed, yields_refused, room_refused}
 use Rattle.chunk_grid.specs.Grid.{Grid, grid_test}
-use Rattle.chunk_grid.specs.Values.{grid_of}
 use Rattle.element_form.specs.declared.Form.{Form}
 use Rattle.index.specs.Index.{Rec, Listing}
 use Rattle.index.specs.ExactList.{ExactList}
 use Rattle.elements.specs.declared.ElementReader.{ElementReader}
 use Rattle.elements.specs.Elements.{Elements}
-use Rattle.elements.specs.Values.{elements_of}
+use Rattle.elements.specs.Values.{elements_of, Reads}
 use Rattle.records.specs.Records.{record_length, list_content, records_in}
 use Rattle.records.proofs.Contents.{answer_refused}
 use Rattle.located.specs.Located.{Located, index_of}
@@ -26,25 +25,21 @@ use Rattle.located.proofs.Lists.{delivered}
 use Rattle.walked_index.specs.Walked.{elements_read}
 use Rattle.walked_index.proofs.Walked.{Laws}
 
--- the elements of a reader that is made of this form, count and grid
+-- the elements of a reader that is made of this form and count
 pub elements_read_lem : (f : List ℕ) (form : Form) (count : ℕ) (r : ElementReader) (g : Grid) (m : ℕ)
-    → r.form ≡ form → r.count ≡ count → grid_of r.numbering.now.grid.now ≡ g → r.element_bytes ≡ m
-    → elements_of f r ≡ elements_read f form g m count
-elements_read_lem f form count r g m a b d e = rw (a, b, d, e) refl
+    → r.form ≡ form → r.count ≡ count → elements_of f r g m ≡ elements_read f form g m count
+elements_read_lem f form count r g m a b = rw (a, b) refl
 
 module _ (walk : Elements → Listing) where
   -- what an index is answered that is walked by such a reader, whose grid has passed its test
   pub walk-read : (f : List ℕ) (form : Form) (count : ℕ) (r : ElementReader) (g : Grid) (m n : ℕ)
-      → r.form ≡ form → r.count ≡ count → grid_of r.numbering.now.grid.now ≡ g → r.element_bytes ≡ m
-      → in_room (walk (elements_of f r)) (n / record_length r.numbering.now.grid.now.rank)
+      → r.form ≡ form → r.count ≡ count → Reads r g m
+      → in_room (walk (elements_of f r g m)) (n / record_length r.numbering.now.grid.now.rank)
       ≡ in_room (grid_test g yields walk (elements_read f form g m count)) (n / record_length g.rank)
-  walk-read f form count r g m n a b d e =
-      let k = r.numbering.now.numbered in
-      let rank : r.numbering.now.grid.now.rank ≡ g.rank = k.ranked ∙ ap (λ (y : Grid). y.rank) d in
-      let t : grid_test g ≡ Ok tt = subst (λ (y : Grid). grid_test y ≡ Ok tt) d k.built in
-      ap (λ (y : Elements). in_room (walk y) (n / record_length r.numbering.now.grid.now.rank)) (elements_read_lem f form count r g m a b d e)
-      ∙ ap (λ (y : ℕ). in_room (walk (elements_read f form g m count)) (n / record_length y)) rank
-      ∙ ap (λ (y : Listing). in_room y (n / record_length g.rank)) (sym (yields_passed _ _ t))
+  walk-read f form count r g m n a b x =
+      ap (λ (y : Elements). in_room (walk y) (n / record_length r.numbering.now.grid.now.rank)) (elements_read_lem f form count r g m a b)
+      ∙ ap (λ (y : ℕ). in_room (walk (elements_read f form g m count)) (n / record_length y)) x.numbered.ranked
+      ∙ ap (λ (y : Listing). in_room y (n / record_length g.rank)) (sym (yields_passed _ _ x.numbered.built))
 
   -- a grid's refusal is the list's
   pub list_refused : (e : Elements) (room : ℕ) (out : List ℕ) (r : Refusal) → grid_test e.grid ≡ Err r

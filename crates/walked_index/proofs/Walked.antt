@@ -30,11 +30,11 @@ with x e = record { elements = e; tests = x.tests; reached = x.reached; position
 module _ {walk : Elements → Listing} (located : Elements → Located) {form : Form} {count : ℕ} {f : List ℕ} {r : ElementReader} {l : List Rec}
     (w : Walked walk form count f r l) where
   abbrev e : Elements
-  e = elements_of f r
+  e = elements_of f r w.grid w.element_bytes
 
   -- where its elements lie
   abbrev pub walked_in : Located
-  walked_in = with (located (elements_of f r)) (elements_of f r)
+  walked_in = with (located e) e
 
   module _ (x : Laws walk located form count) where
     own : (P : Located → Type 0) → P (located e) → P walked_in
@@ -49,14 +49,14 @@ module _ {walk : Elements → Listing} (located : Elements → Located) {form : 
     -- records that have room for their number have room for their bytes
     pub walked_fits : (n : ℕ) → length l ≤ n / record_length r.numbering.now.grid.now.rank → length (list_bytes l) ≤ n
     walked_fits n le =
-        let b = r.numbering.now.numbered in
+        let b = w.reads.numbered in
         list-fits walked_in b.built l walked_right n (subst (λ (y : ℕ). length l ≤ n / record_length y) b.ranked le)
 
 -- a slot below the count
 pub walked_to : {walk : Elements → Listing} {form : Form} {count : ℕ} {f : List ℕ} {r : ElementReader} {l : List Rec}
     (w : Walked walk form count f r l) (s : ℕ) → s < r.count → WalkedTo walk form count f s
 walked_to {f = f} {r = r} {l = l} w s lt = record {
-  elements = elements_of f r;
+  elements = elements_of f r w.grid w.element_bytes;
   list = l;
   read = refl;
   formed = w.formed;

@@ -7,7 +7,7 @@ ghost use Rattle.chunk_grid.specs.Grid.{Grid};
 ghost use Rattle.element_form.specs.declared.Form.{Form as FormValue};
 ghost use Rattle.index.specs.Index.{Rec, Listing};
 ghost use Rattle.elements.specs.Elements.{Elements};
-ghost use Rattle.elements.specs.Values.{elements_of};
+ghost use Rattle.elements.specs.Values.{elements_of, Reads};
 ghost use Rattle.located.specs.Located.{Located};
 ghost use Rattle.located.specs.Values.{RunOf};
 ghost use Rattle.located.proofs.Walks.{Right};
@@ -49,7 +49,8 @@ pub trait WalkedIndex: Copy {
     // Tests its structures in slot order, and counts the records of its elements.
     fn count_walk(self, file: &[u8], reader: &ElementReader) -> Result<u64, Refusal>
         requires { (form self ≡ reader.now.form) × (count self ≡ reader.now.count) }
-        ensures { result ≡ counted_of (walk self file.now (elements_of file.now reader.now)) };
+        ensures { (grid : Grid) (n : ℕ) → Reads reader.now grid n
+            → result ≡ counted_of (walk self file.now (elements_of file.now reader.now grid n)) };
 
     // The run that a slot begins, where a walk that comes to it is accepted.
     fn run_of(self, file: &[u8], slot: u64) -> Run

@@ -7,7 +7,7 @@ ghost use Rattle.chunk_grid.specs.Grid.{Grid, grid_test};
 ghost use Rattle.chunk_grid.specs.Values.{grid_of};
 ghost use Rattle.index.specs.Index.{Rec};
 ghost use Rattle.index.specs.ExactList.{ExactList};
-ghost use Rattle.elements.specs.Values.{elements_of};
+ghost use Rattle.elements.specs.Values.{elements_of, Reads};
 ghost use Rattle.records.specs.Records.{record_length, list_bytes, list_content, records_in};
 ghost use Rattle.located.specs.Located.{index_of};
 ghost use Rattle.walked_index.specs.Walked.{elements_read, Walked};
@@ -53,8 +53,10 @@ fn list_walk<I: WalkedIndex>(
     index: I,
     reader: &ElementReader,
 ) -> Result<u64, Refusal>
-    requires { (I.form index ≡ reader.now.form) × (I.count index ≡ reader.now.count) }
-    ensures { let answer = in_room (I.walk index file.now (elements_of file.now reader.now))
+    requires { (I.form index ≡ reader.now.form) × (I.count index ≡ reader.now.count)
+        × ((grid : Grid) × (n : ℕ) × Reads reader.now grid n) }
+    ensures { (grid : Grid) (n : ℕ) → Reads reader.now grid n
+        → let answer = in_room (I.walk index file.now (elements_of file.now reader.now grid n))
         (length list.old / record_length reader.now.numbering.now.grid.now.rank) in
         (result ≡ counted_of answer) × (list.new ≡ list_content answer list.old) }
 {

@@ -4,7 +4,7 @@ ghost use Rattle.refusal.specs.Refusals.{◌then◌};
 ghost use Rattle.refusal.specs.Outcome.{◌yields◌};
 ghost use Rattle.chunk_grid.specs.Grid.{Grid, grid_test, corner_test, slot_of};
 ghost use Rattle.chunk_grid.specs.Values.{grid_of};
-ghost use Rattle.elements.specs.Values.{elements_of, found_of};
+ghost use Rattle.elements.specs.Values.{elements_of, found_of, Reads};
 ghost use Rattle.located.specs.Located.{index_of, slot_path};
 ghost use Rattle.walked_index.specs.Walked.{elements_read};
 ghost use Rattle.walked_index.specs.Answered.{Answered, Agreed};
@@ -55,7 +55,8 @@ fn slot_path<I: WalkedIndex>(
 ) -> Result<Option<Entry>, Refusal>
     requires { (I.entry index file.now ≡ Ok tt) × (I.form index ≡ reader.now.form)
         × (I.count index ≡ reader.now.count) }
-    ensures { result ≡ found_of (slot_path (I.located index file.now (elements_of file.now reader.now)) slot) }
+    ensures { (grid : Grid) (n : ℕ) → Reads reader.now grid n
+        → result ≡ found_of (slot_path (I.located index file.now (elements_of file.now reader.now grid n)) slot) }
 {
     let Some(s) = slot else {
         return Ok(None);

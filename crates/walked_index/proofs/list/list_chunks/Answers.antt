@@ -9,9 +9,10 @@ use Rattle.refusal.specs.Refusals.{largest64}
 use Rattle.refusal.specs.Values.{counted_of}
 use Rattle.chunk_grid.specs.Grid.{given as grid_given}
 use Rattle.chunk_grid.specs.Values.{grid_of}
-use Rattle.chunk_grid.specs.declared.numbering.Numbering.{Numbering}
 use Rattle.index.specs.Index.{Listing}
 use Rattle.elements.specs.Elements.{Elements}
+use Rattle.elements.specs.Values.{Reads}
+use Rattle.elements.proofs.Readers.{reads_made}
 use Rattle.records.specs.Records.{list_content}
 use Rattle.walked_index.specs.Walked.{elements_read}
 use Rattle.walked_index.proofs.Walked.{Laws}
@@ -44,10 +45,17 @@ formed g c = c.new-reader.ensures.0 ∙ c.element_form-form.ensures
 counted : (g : given.Over) (c : After-new-reader g) → c.new-reader.result.count ≡ g.I.WalkedIndex.count c.args.index
 counted g c = c.new-reader.ensures.1 ∙ c.slot_count.ensures
 
+-- it reads the call's grid
+reads : (g : given.Over) (c : After-new-reader g) → Reads c.new-reader.result (grid_of c.args.grid) c.args.element_bytes
+reads g c =
+    let n = c.numbering-numbering.ensures.numbers in
+    let x = c.new-reader.ensures in
+    reads_made c.new-reader.result x.2 x.3 n.1 n.3
+
 pub list_walk-requires : goal.list_walk-requires
 list_walk-requires g c =
     let n = (goal.at.list_walk-requires g c).After-new-reader in
-    (sym (formed g n), sym (counted g n))
+    (sym (formed g n), sym (counted g n), (grid_of c.args.grid, c.args.element_bytes, reads g n))
 
 pub returns : goal.returns
 unfolding grid_of grid_given
@@ -59,11 +67,9 @@ returns g c =
     let laws : Laws (i.walk a.index a.file.now) (i.located a.index a.file.now) (i.form a.index) (i.count a.index) =
     record { elements = m.elements_are a.index a.file.now; right = m.walk_right a.index a.file.now } in
     let n = at.After-new-reader in
-    let x = c.new-reader.ensures in
-    let grid = ap (λ (y : Numbering). grid_of y.grid.now) x.2 ∙ ap grid_of c.numbering-numbering.ensures in
-    let e = c.list_walk.ensures in
+    let e = c.list_walk.ensures (grid_of a.grid) a.element_bytes (reads g n) in
     let w = walk-read (i.walk a.index a.file.now) a.file.now _ _ c.new-reader.result (grid_of a.grid) a.element_bytes (length a.list.now)
-    (formed g n) (counted g n) grid x.3 in
+    (formed g n) (counted g n) (reads g n) in
     -- the file holds bytes, and the count is a 64-bit number
     let bytes : (j : ℕ) → get_or a.file.now j 0 < 256 = λ j. omega (arith, c.type_inv.file j) in
     let fits : i.count a.index ≤ largest64 = omega (arith, c.slot_count.ensures) in

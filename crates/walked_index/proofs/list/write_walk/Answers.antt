@@ -63,7 +63,7 @@ write_elements-at-requires g c =
     let at = goal.at.write_elements-at-requires g c in
     let k = found g at.After-run_of c.in-Elements.is _ p.1 in
     let f = written_fits (i.2 _ p.1) (min c.in-Elements.slots (c.args.reader.now.count - c.loop-slot.slot)) (omega arith) in
-    ((_, run_accepted (walked_right _ p.1 (laws g at.Start)) _ _ _ _ k refl, omega (arith, f, p.2, i.1)), k.1)
+    ((p.1.grid, p.1.element_bytes, _, p.1.reads, run_accepted (walked_right _ p.1 (laws g at.Start)) _ _ _ _ k refl, omega (arith, f, p.2, i.1)), k.1)
 
 pub loop-slot-smaller : goal.loop-slot-smaller
 loop-slot-smaller g c =
@@ -76,10 +76,10 @@ loop-slot-preserved g c =
     let i = c.loop-slot.invariant in
     let e = c.in-Elements.is in
     let at = goal.at.loop-slot-preserved g c in
-    let q = c.write_elements-at.ensures _ (run_accepted (walked_right _ p.1 (laws g at.Start)) _ _ _ _ (found g at.After-run_of e _ p.1) refl) in (
+    let q = c.write_elements-at.ensures _ _ _ p.1.reads (run_accepted (walked_right _ p.1 (laws g at.Start)) _ _ _ _ (found g at.After-run_of e _ p.1) refl) in (
       omega (arith, c.below_count-slot-in-Elements.ensures),
       rw q.0 (simp length-sets i.1),
-      λ l z. written_run (i.2 l z) (walked_right _ z (laws g at.Start)) _ _ _ c.below_count-slot-in-Elements.ensures (found g at.After-run_of e l z) _ _ (λ k h. c.write_elements-at.ensures k h),
+      λ l z. written_run (i.2 l z) (walked_right _ z (laws g at.Start)) _ _ _ c.below_count-slot-in-Elements.ensures (found g at.After-run_of e l z) _ _ (λ k h. c.write_elements-at.ensures _ _ k z.reads h),
     )
 
 pub returns : goal.returns

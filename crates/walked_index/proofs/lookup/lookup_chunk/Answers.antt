@@ -10,9 +10,9 @@ use Rattle.refusal.specs.Outcome.{◌yields◌}
 use Rattle.refusal.specs.declared.Refusal.{Refusal}
 use Rattle.chunk_grid.specs.Grid.{Grid, grid_test, corner_test, slot_of}
 use Rattle.chunk_grid.specs.Values.{grid_of}
-use Rattle.chunk_grid.specs.declared.numbering.Numbering.{Numbering}
 use Rattle.elements.specs.Elements.{Elements}
 use Rattle.elements.specs.Values.{found_of}
+use Rattle.elements.proofs.Readers.{reads_made}
 use Rattle.located.specs.Located.{index_of, slot_path}
 use Rattle.walked_index.specs.Answered.{Answered, Agreed}
 use Rattle.walked_index.specs.Walked.{elements_read}
@@ -101,13 +101,10 @@ tested g c =
 pub numbering-numbering-requires : goal.numbering-numbering-requires
 numbering-numbering-requires g c = passed g (goal.at.numbering-numbering-requires g c).In_ok-test
 
-own : (g : given.Over) (c : After-numbering-numbering g) → grid_of c.numbering-numbering.result.grid.now ≡ grid_of c.args.grid
-own g c = ap grid_of c.numbering-numbering.ensures
-
 pub slot_of-slot-requires : goal.slot_of-slot-requires
 slot_of-slot-requires g c =
     let at = goal.at.slot_of-slot-requires g c in
-    (tests_passed _ _ _ (tested g at.In_ok-test_entry)).1 ∙ ap (λ (y : Grid). y.rank) (sym (own g at.After-numbering-numbering)) ∙ sym c.numbering-numbering.result.numbered.ranked
+    (tests_passed _ _ _ (tested g at.In_ok-test_entry)).1 ∙ sym c.numbering-numbering.ensures.numbers.1.ranked
 
 -- the reader reads the index's elements
 formed : (g : given.Over) (c : After-new-reader g) → c.new-reader.result.form ≡ g.I.WalkedIndex.form c.args.index
@@ -128,9 +125,9 @@ returns g c =
     let i = g.I.WalkedIndex in
     let n = at.After-new-reader in
     let x = c.new-reader.ensures in
-    let grid = ap (λ (y : Numbering). grid_of y.grid.now) x.2 ∙ own g at.After-numbering-numbering in
-    let e = elements_read_lem a.file.now _ _ c.new-reader.result (grid_of a.grid) a.element_bytes (formed g n) (counted g n) grid x.3 in
+    let k = c.numbering-numbering.ensures.numbers in
+    let e = elements_read_lem a.file.now _ _ c.new-reader.result (grid_of a.grid) a.element_bytes (formed g n) (counted g n) in
     found g at.After-slot_count-count _
-    (c.slot_path.ensures
+    (c.slot_path.ensures (grid_of a.grid) a.element_bytes (reads_made c.new-reader.result x.2 x.3 k.1 k.3)
     ∙ ap (λ (y : Elements). found_of (slot_path (i.located a.index a.file.now y) c.slot_of-slot.result)) e
-    ∙ lookup_passed _ _ _ _ _ (c.slot_of-slot.ensures ∙ ap (λ (y : Grid). slot_of y a.corner.now) (own g at.After-numbering-numbering)) (tested g at.In_ok-test_entry))
+    ∙ lookup_passed _ _ _ _ _ (c.slot_of-slot.ensures _ k.1 k.2) (tested g at.In_ok-test_entry))
