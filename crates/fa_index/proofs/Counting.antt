@@ -5,6 +5,7 @@ use Prim.Native.Nat.{ℕ, ◌+◌, ◌-◌, ◌*◌, ◌<◌, ◌≤◌, min}
 use mathlib.Core.Path.{◌≡◌, refl, sym, ap, ◌∙◌}
 use mathlib.Core.List.{[]}
 use mathlib.Core.Logic.{⊎_elim}
+use native.Mathlib.Bridge.{le_prop}
 use native.Mathlib.Omega.{arith}
 use lib.ListN.{length}
 use Rattle.std.specs.Prelude.{Err, None, Ok, Option, Some}
@@ -20,7 +21,9 @@ use Rattle.elements.specs.declared.ElementReader.{ElementReader}
 use Rattle.element_form.specs.Form.{stride}
 use Rattle.elements.specs.Elements.{Elements}
 use Rattle.elements.specs.Runs.{elements_from, pages_from}
-use Rattle.elements.specs.Values.{elements_of}
+use Rattle.chunk_grid.specs.Grid.{Grid}
+use Rattle.elements.specs.Values.{elements_of, Reads}
+use Rattle.elements.proofs.Readers.{reads_any}
 use Rattle.elements.proofs.Runs.{run_count, run_refused, run_clamp, count_few}
 use Rattle.elements.proofs.Pages.{pages_none, pages_clear, pages_refused, pages_last, pages_set}
 use Rattle.fa_header.specs.declared.FixedArrayHeader.{FixedArrayHeader}
@@ -47,23 +50,27 @@ module _ (w : Setting) where
   abbrev h : FixedArrayHeader
   h = w.block.array.layout.array.header
 
-  abbrev es : Elements
-  es = elements_of w.block.array.file.now w.reader
+  -- the elements of a grid and element size, and what holds of those of each that the reader is made of
+  abbrev read : Grid → ℕ → Elements
+  read grid n = elements_of w.block.array.file.now w.reader grid n
+
+  abbrev Every : (Elements → Type 0) → Type 0
+  Every P = (grid : Grid) (n : ℕ) → Reads w.reader grid n → P (read grid n)
 
   -- the walk from page p on, and the whole
-  abbrev left : ℕ → Listing
-  left p = pages_from es (fixed_pages_of a) (fixed_pages h - p) p (p * fixed_page_elements h) (Ok [])
+  abbrev left : ℕ → Elements → Listing
+  left p es = pages_from es (fixed_pages_of a) (fixed_pages h - p) p (p * fixed_page_elements h) (Ok [])
 
-  abbrev whole : Outcome ℕ
-  whole = counted_of (pages_from es (fixed_pages_of a) (fixed_pages h) 0 0 (Ok []))
+  abbrev whole : Elements → Outcome ℕ
+  whole es = counted_of (pages_from es (fixed_pages_of a) (fixed_pages h) 0 0 (Ok []))
 
   -- this answer is the whole's
   abbrev pub Done : Outcome ℕ → Type 0
-  Done x = x ≡ whole
+  Done x = Every (λ es. x ≡ whole es)
 
   -- n elements from pos on, of the slots from s on, are counted, or refused
   abbrev pub Run : ℕ → ℕ → ℕ → Outcome ℕ → Type 0
-  Run pos j s x = x ≡ counted_of (elements_from es pos j s (Ok []))
+  Run pos j s x = Every (λ es. x ≡ counted_of (elements_from es pos j s (Ok [])))
 
   -- what doesn't change
   pub record Fixed : Type 0 where
@@ -76,18 +83,18 @@ module _ (w : Setting) where
     pub fixed : Fixed
     pub few : total ≤ p * w.page
     pub ahead_is : TestedBy (fixed_page_test a) ahead
-    pub rest : Done (plus total (left p))
+    pub rest : Every (λ es. plus total (left p es) ≡ whole es)
 
   pub pages-first : Fixed → InPages 0 None 0
   pages-first x = record {
     fixed = x;
     few = omega arith;
     ahead_is = tt;
-    rest = plus_zero _ ∙ ap counted_of first;
+    rest = λ grid n r. plus_zero _ ∙ ap counted_of (first (read grid n));
   }
     where
-      first : left 0 ≡ pages_from es (fixed_pages_of a) (fixed_pages h) 0 0 (Ok [])
-      first =
+      first : (es : Elements) → left 0 es ≡ pages_from es (fixed_pages_of a) (fixed_pages h) 0 0 (Ok [])
+      first es =
           let y : fixed_pages h - 0 ≡ fixed_pages h = omega arith in
           let z : 0 * fixed_page_elements h ≡ 0 = omega arith in
           rw (y, z) refl
@@ -95,9 +102,9 @@ module _ (w : Setting) where
   module _ {total : ℕ} {ahead : Option Ahead} {p : ℕ} (i : InPages total ahead p) where
     -- behind the last page
     pub pages_end : w.pages ≤ p → Done (Ok total)
-    pages_end le =
+    pages_end le = λ grid n r.
         let e = i.fixed.pages_are in
-        sym (plus_none total _ (pages_none es (fixed_pages_of a) (fixed_pages h) p _ (Ok []) (omega arith))) ∙ i.rest
+        sym (plus_none total _ (pages_none (read grid n) (fixed_pages_of a) (fixed_pages h) p _ (Ok []) (omega arith))) ∙ i.rest grid n r
 
     module _ (lt : p < w.pages) where
       page_of_lem : p < fixed_pages h
@@ -110,8 +117,8 @@ module _ (w : Setting) where
       next_slot : (p + 1) * fixed_page_elements h ≡ p * fixed_page_elements h + fixed_page_elements h
       next_slot = omega arith
 
-      next_left : pages_from es (fixed_pages_of a) (fixed_pages h - (p + 1)) (p + 1) (p * fixed_page_elements h + fixed_page_elements h) (Ok []) ≡ left (p + 1)
-      next_left = rw next_slot refl
+      next_left : (es : Elements) → pages_from es (fixed_pages_of a) (fixed_pages h - (p + 1)) (p + 1) (p * fixed_page_elements h + fixed_page_elements h) (Ok []) ≡ left (p + 1) es
+      next_left es = rw next_slot refl
 
       -- its bit is clear
       pub page_clear : {next : Option Ahead} → EnteredFixedPage a p (Ok None) → TestedBy (fixed_page_test a) next → InPages total next (p + 1)
@@ -119,15 +126,16 @@ module _ (w : Setting) where
         fixed = i.fixed;
         few = let x = i.few in omega arith;
         ahead_is = t;
-        rest =
-            ap (plus total) (sym (pages_clear es (fixed_pages_of a) (fixed_pages h) p _ (Ok []) page_of_lem e ∙ next_left)) ∙ i.rest;
+        rest = λ grid n r.
+            let es = read grid n in
+            ap (plus total) (sym (pages_clear es (fixed_pages_of a) (fixed_pages h) p _ (Ok []) page_of_lem e ∙ next_left es)) ∙ i.rest grid n r;
       }
 
       -- it is refused
       pub page_refused : (x : Refusal) → EnteredFixedPage a p (Err x) → Done (Err x)
       unfolding plus
-      page_refused x e =
-          ap (plus total) (sym (pages_refused es (fixed_pages_of a) (fixed_pages h) p _ (Ok []) page_of_lem e.0 x e.1)) ∙ i.rest
+      page_refused x e = λ grid n r.
+          ap (plus total) (sym (pages_refused (read grid n) (fixed_pages_of a) (fixed_pages h) p _ (Ok []) page_of_lem e.0 x e.1)) ∙ i.rest grid n r
 
       -- it has passed its test
       module _ {pos entries : ℕ} (e : EnteredFixedPage a p (Ok (Some pos))) (are : entries ≡ page_entries h p) where
@@ -141,8 +149,11 @@ module _ (w : Setting) where
             (lt_or_ge (p + 1) (fixed_pages h))
 
         -- its elements in front of what is left: those of a full page, ..
-        full : left p ≡ elements_from es (fixed_page_position a p) (fixed_page_elements h) (p * fixed_page_elements h) (left (p + 1))
-        full =
+        full : (grid : Grid) (n : ℕ)
+            → let es = read grid n in
+            left p es ≡ elements_from es (fixed_page_position a p) (fixed_page_elements h) (p * fixed_page_elements h) (left (p + 1) es)
+        full grid n =
+            let es = read grid n in
             let run = elements_from es (fixed_page_position a p) (fixed_page_elements h) (p * fixed_page_elements h) in
             let c = i.fixed.by.entries in
             ⊎_elim
@@ -150,23 +161,24 @@ module _ (w : Setting) where
             pages_last es (fixed_pages_of a) (fixed_pages h) p _ (Ok []) page_of_lem e.0 e.1 past
             ∙ ap run (sym (pages_none es (fixed_pages_of a) (fixed_pages h) (p + 1) _ (Ok []) (last (omega arith)))))
             (λ (le : p * fixed_page_elements h + fixed_page_elements h ≤ w.reader.count).
-            pages_set es (fixed_pages_of a) (fixed_pages h) p _ (Ok []) page_of_lem e.0 e.1 le ∙ ap run next_left)
+            pages_set es (fixed_pages_of a) (fixed_pages h) p _ (Ok []) page_of_lem e.0 e.1 le ∙ ap run (next_left es))
             (lt_or_ge w.reader.count (p * fixed_page_elements h + fixed_page_elements h))
 
         -- .. of which only its own lie below the count
-        turn : left p ≡ elements_from es pos entries (p * w.page) (left (p + 1))
+        turn : (grid : Grid) (n : ℕ) → let es = read grid n in left p es ≡ elements_from es pos entries (p * w.page) (left (p + 1) es)
         unfolding page_entries
-        turn =
+        turn grid n =
             let y : min (fixed_page_elements h) (w.reader.count - p * fixed_page_elements h) ≡ entries = rw i.fixed.by.entries (sym are) in
-            full ∙ run_clamp es _ _ _ _ ∙ rw (y, e.2, i.fixed.page_is) refl
+            full grid n ∙ run_clamp (read grid n) _ _ _ _ ∙ rw (y, e.2, i.fixed.page_is) refl
 
         pub run_ends : (x : Refusal) → Run pos entries (p * w.page) (Err x) → Done (Err x)
-        run_ends x c =
-            sym (run_refused es pos entries (p * w.page) x (sym c) total (left (p + 1))) ∙ ap (plus total) (sym turn) ∙ i.rest
+        run_ends x c = λ grid n r.
+            let es = read grid n in
+            sym (run_refused es pos entries (p * w.page) x (sym (c grid n r)) total (left (p + 1) es)) ∙ ap (plus total) (sym (turn grid n)) ∙ i.rest grid n r
 
         module _ {m : ℕ} (c : Run pos entries (p * w.page) (Ok m)) where
           few : m ≤ entries
-          few = count_few es pos entries (p * w.page) m c
+          few = reads_any w.reader le_prop (λ grid n r. count_few (read grid n) pos entries (p * w.page) m (c grid n r))
 
           pub total-fits : total + m ≤ h.num_elements
           unfolding page_entries
@@ -178,6 +190,7 @@ module _ (w : Setting) where
             fixed = i.fixed;
             few = let x = few in let y = i.few in let z = i.fixed.page_is in omega arith;
             ahead_is = t;
-            rest =
-                sym (run_count es pos entries (p * w.page) m (sym c) total (left (p + 1))) ∙ ap (plus total) (sym turn) ∙ i.rest;
+            rest = λ grid n r.
+                let es = read grid n in
+                sym (run_count es pos entries (p * w.page) m (sym (c grid n r)) total (left (p + 1) es)) ∙ ap (plus total) (sym (turn grid n)) ∙ i.rest grid n r;
           }

@@ -1,8 +1,9 @@
 // The walk of a fixed array that tests and counts.
-ghost use Rattle.std.specs.Prelude.{◌≡◌, [], Ok};
+ghost use Rattle.std.specs.Prelude.{◌≡◌, [], ℕ, Ok};
 ghost use Rattle.refusal.specs.Values.{counted_of};
+ghost use Rattle.chunk_grid.specs.Grid.{Grid};
 ghost use Rattle.elements.specs.Runs.{pages_from};
-ghost use Rattle.elements.specs.Values.{elements_of};
+ghost use Rattle.elements.specs.Values.{elements_of, Reads};
 ghost use Rattle.fa_geometry.specs.Layout.{fixed_pages};
 ghost use Rattle.fa_blocks.specs.Blocks.{fixed_pages_of};
 ghost use Rattle.fa_blocks.specs.Values.{fixed_of, fixed_in};
@@ -19,7 +20,8 @@ use refusal::Refusal;
 #[tactic(auto, using(fa_header::proofs::Served::tested_serves))]
 pub fn count_walk(file: &[u8], array: FixedArray, reader: &ElementReader) -> Result<u64, Refusal>
     requires { ReadsAll array reader.now }
-    ensures { result ≡ counted_of (fixed_walk (fixed_of file.now array) (elements_of file.now reader.now)) }
+    ensures { (grid : Grid) (n : ℕ) → Reads reader.now grid n
+        → result ≡ counted_of (fixed_walk (fixed_of file.now array) (elements_of file.now reader.now grid n)) }
 {
     array.header.served_test()?;
     let layout = Layout { array };
@@ -38,7 +40,9 @@ pub fn count_walk(file: &[u8], array: FixedArray, reader: &ElementReader) -> Res
 // The same of the pages of a data block that is tested.
 fn count_pages(block: PagedBlock, reader: &ElementReader) -> Result<u64, Refusal>
     requires { ReadsAll block.array.layout.array reader.now }
-    ensures { let a = fixed_in block.entry.array in result ≡ counted_of (pages_from (elements_of a.file reader.now)
+    ensures { let a = fixed_in block.entry.array in
+        (grid : Grid) (n : ℕ) → Reads reader.now grid n
+        → result ≡ counted_of (pages_from (elements_of a.file reader.now grid n)
         (fixed_pages_of a) (fixed_pages a.header) 0 0 (Ok [])) }
 {
     let layout = block.array.layout;

@@ -20,10 +20,10 @@ pages-init c =
 
 -- the page is refused
 pub returns-in_err-pos : goal.returns-in_err-pos
-returns-in_err-pos c =
+returns-in_err-pos c = λ grid n r.
     let i = c.pages.invariant in
     let e = c.enter_page_in_turn-turn.ensures i.ahead_is in
-    let x = page_refused _ i c.pages-test.true _ (subst (EnteredFixedPage _ _) c.in_err-pos.was e.0) in
+    let x = page_refused _ i c.pages-test.true _ (subst (EnteredFixedPage _ _) c.in_err-pos.was e.0) grid n r in
     search rules
 
 -- its bit is clear
@@ -46,8 +46,8 @@ count_elements-requires c =
     page_run _ c.pages.invariant c.pages-test.true (entered (goal.at.count_elements-requires c).In-Some) c.page_entries-entries.ensures.0
 
 pub returns-in_err-total : goal.returns-in_err-total
-returns-in_err-total c =
-    let x = run_ends _ c.pages.invariant c.pages-test.true (entered (goal.at.returns-in_err-total c).In-Some) c.page_entries-entries.ensures.0 _ (sym c.in_err-total.was ∙ c.count_elements.ensures) in
+returns-in_err-total c = λ grid n r.
+    let x = run_ends _ c.pages.invariant c.pages-test.true (entered (goal.at.returns-in_err-total c).In-Some) c.page_entries-entries.ensures.0 _ (λ g m y. sym c.in_err-total.was ∙ c.count_elements.ensures g m y) grid n r in
     search rules
 
 pub overflow_add-total : goal.overflow_add-total
@@ -55,14 +55,14 @@ overflow_add-total c =
     omega (
       arith,
       total-fits _ c.pages.invariant c.pages-test.true (entered (goal.at.overflow_add-total c).In-Some) c.page_entries-entries.ensures.0
-          (sym c.in_ok-total.was ∙ c.count_elements.ensures),
+          (λ g m y. sym c.in_ok-total.was ∙ c.count_elements.ensures g m y),
     )
 
 pub pages-preserved : goal.pages-preserved
 pages-preserved c =
     let i = c.pages.invariant in
     page_counted _ i c.pages-test.true (entered (goal.at.pages-preserved c).In-Some) c.page_entries-entries.ensures.0
-    (sym c.in_ok-total.was ∙ c.count_elements.ensures) (c.enter_page_in_turn-turn.ensures i.ahead_is).1
+    (λ g m y. sym c.in_ok-total.was ∙ c.count_elements.ensures g m y) (c.enter_page_in_turn-turn.ensures i.ahead_is).1
 
 pub returns : goal.returns
 returns c = pages_end _ c.pages.invariant c.pages-test.false
