@@ -4,6 +4,7 @@ use Prim.Native.Nat.{ℕ, ◌+◌, ◌*◌, ◌^◌, ◌<◌, ◌≤◌}
 use mathlib.Core.Path.{◌≡◌, refl, sym, ap, subst, ◌∙◌}
 use mathlib.Core.Bool.{true, false}
 use mathlib.Core.Logic.{◌⊎◌, inl, inr, ⊎_elim}
+use native.Mathlib.Bridge.{le_prop}
 use native.Mathlib.Omega.{arith}
 use lib.ListN.{length}
 use Rattle.std.specs.Prelude.{Err, None, Ok, Option, Some}
@@ -29,6 +30,7 @@ use Rattle.ea_blocks.specs.Structures.{super_block_at, data_block, data_page, bl
 use Rattle.ea_blocks.specs.Values.{NamedAt, array_in}
 use Rattle.ea_blocks.specs.Entered.{EnteredSuper, EnteredBlock, EnteredPage, TestedAhead}
 use Rattle.ea_blocks.proofs.Entering.{entered_at, entered_direct, paged_named, entered_super_room, entered_block_room, entered_head_room, entered_page_room}
+use Rattle.elements.proofs.Readers.{reads_any}
 use Rattle.elements.proofs.Runs.{count_few}
 use Rattle.ea_count.specs.Values.{WalkFrom}
 use Rattle.ea_count.proofs.WalkStates.{AtSuper, AtBlock, AtPage, BehindBlock, Done, Counts, at_first, supers_done, super_ended, super_skip, super_refused, super_in, blocks_done, block-behind, block_ended, block_skip, block_refused, block_run, block_run_refused, block-pages, pages_done, page_skip, page_refused, page_run_refused, page_run_last, page_run_on, slot_few, block_few, page_ends, unpaged_room}
@@ -117,7 +119,7 @@ module _ {w : Setting} where
 
   run_few : Fixed w → (pos j s m : ℕ) → Run w pos j s (Ok m) → m ≤ j
   run_few x pos j s m c =
-      count_few (elements_of w.array.file.now w.reader) pos j s m c
+      reads_any w.reader le_prop (λ grid n r. count_few (elements_of w.array.file.now w.reader grid n) pos j s m (c grid n r))
 
   own_stride : Fixed w → element_stride (h_of w) (a_of w).offset_size ≡ stride w.reader.form
   own_stride x = ap stride x.walk.formed

@@ -3,7 +3,7 @@
 ghost use Rattle.std.specs.Prelude.{◌≡◌, [], ℕ, ◌-◌, Ok};
 ghost use Rattle.refusal.specs.Values.{plus};
 ghost use Rattle.chunk_grid.specs.Grid.{Grid};
-ghost use Rattle.elements.specs.Values.{elements_of};
+ghost use Rattle.elements.specs.Values.{elements_of, Reads};
 ghost use Rattle.ea_geometry.specs.Slots.{first_slot};
 ghost use Rattle.ea_blocks.specs.Values.{array_in};
 ghost use Rattle.ea_walk.specs.Walk.{supers_from};
@@ -27,8 +27,9 @@ pub fn count_blocks(
     end: u64,
 ) -> Result<u64, Refusal>
     requires { WalkFrom array.array reader.now first begin end }
-    ensures { let a = array_in array.entry.array in result
-        ≡ plus first (supers_from a (elements_of a.file reader.now) (end - begin) begin
+    ensures { let a = array_in array.entry.array in
+        (grid : Grid) (n : ℕ) → Reads reader.now grid n
+        → result ≡ plus first (supers_from a (elements_of a.file reader.now grid n) (end - begin) begin
         (first_slot a.parameters begin) (Ok [])) }
 {
     let file = array.array.file;

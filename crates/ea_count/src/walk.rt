@@ -3,7 +3,7 @@ ghost use Rattle.std.specs.Prelude.{◌≡◌, false, List, ℕ};
 ghost use Rattle.refusal.specs.Values.{counted_of};
 ghost use Rattle.fields.specs.Fields.{is_width};
 ghost use Rattle.chunk_grid.specs.Grid.{Grid};
-ghost use Rattle.elements.specs.Values.{elements_of};
+ghost use Rattle.elements.specs.Values.{elements_of, Reads};
 ghost use Rattle.ea_geometry.specs.Extents.{form_of};
 ghost use Rattle.ea_blocks.specs.Values.{array_of};
 ghost use Rattle.ea_walk.specs.Walk.{from_inline, walk};
@@ -23,7 +23,8 @@ pub fn count_walk(
     reader: &ElementReader,
 ) -> Result<u64, Refusal>
     requires { form_of array.geometry.parameters array.geometry.offset_size ≡ reader.now.form }
-    ensures { result ≡ counted_of (walk (array_of file.now array) (elements_of file.now reader.now)) }
+    ensures { (grid : Grid) (n : ℕ) → Reads reader.now grid n
+        → result ≡ counted_of (walk (array_of file.now array) (elements_of file.now reader.now grid n)) }
 {
     test_array(file, array)?;
     if !is_width(array.geometry.offset_size) {
@@ -42,7 +43,8 @@ pub fn count_walk(
 fn count_unreadable(array: ExtensibleArray, reader: &ElementReader) -> Result<u64, Refusal>
     requires { (form_of array.geometry.parameters array.geometry.offset_size ≡ reader.now.form)
         × (is_width array.geometry.offset_size ≡ false) }
-    ensures { (file : List ℕ) → result ≡ counted_of (from_inline (array_of file array) (elements_of file reader.now)) }
+    ensures { (file : List ℕ) (grid : Grid) (n : ℕ)
+        → result ≡ counted_of (from_inline (array_of file array) (elements_of file reader.now grid n)) }
 {
     if reader.count == 0 {
         return Ok(0);

@@ -25,8 +25,8 @@ supers-init c =
     c.first_slot-slot.ensures
 
 pub returns-in_err-super_at : goal.returns-in_err-super_at
-returns-in_err-super_at c =
-    let h = super_ends c.supers.invariant c.supers-test.true c.if-count-slot.false _ (subst (EnteredSuper _ _) c.in_err-super_at.was c.enter_super.ensures) in
+returns-in_err-super_at c = λ grid n x.
+    let h = (super_ends c.supers.invariant c.supers-test.true c.if-count-slot.false _ (subst (EnteredSuper _ _) c.in_err-super_at.was c.enter_super.ensures)) grid n x in
     search rules
 
 pub overflow_mul-slot : goal.overflow_mul-slot
@@ -58,11 +58,11 @@ opens c = elim c.if-u-directs.branch [
 ]
 
 pub returns-in_err-at : goal.returns-in_err-at
-returns-in_err-at c =
+returns-in_err-at c = λ grid n x.
     let i = c.blocks-2.invariant in
-    let x = c.enter_block_in_turn-turn in
-    let e = block_found i c.blocks-2-test.true x.result.found x.result.ahead x.ensures in
-    let h = block_ends i c.blocks-2-test.true (opens (goal.at.returns-in_err-at c).Joined-u-directs) _ (subst (EnteredBlock _ _ _) c.in_err-at.was e.0) in
+    let y = c.enter_block_in_turn-turn in
+    let e = block_found i c.blocks-2-test.true y.result.found y.result.ahead y.ensures in
+    let h = (block_ends i c.blocks-2-test.true (opens (goal.at.returns-in_err-at c).Joined-u-directs) _ (subst (EnteredBlock _ _ _) c.in_err-at.was e.0)) grid n x in
     search rules
 
 pub overflow_add-slot-in_default-2 : goal.overflow_add-slot-in_default-2
@@ -90,11 +90,11 @@ pub enter_page_in_turn-turn-requires : goal.enter_page_in_turn-turn-requires
 enter_page_in_turn-turn-requires c = page_there c.pages.invariant c.pages-test.true
 
 pub returns-in_err-pos : goal.returns-in_err-pos
-returns-in_err-pos c =
+returns-in_err-pos c = λ grid n x.
     let i = c.pages.invariant in
-    let x = c.enter_page_in_turn-turn in
-    let e = page_found i c.pages-test.true c.unwrap.ensures x.result.found x.result.ahead x.ensures in
-    let h = page_ends_walk i c.pages-test.true _ (subst (EnteredPage _ _ _ _) c.in_err-pos.was e.0) in
+    let y = c.enter_page_in_turn-turn in
+    let e = page_found i c.pages-test.true c.unwrap.ensures y.result.found y.result.ahead y.ensures in
+    let h = (page_ends_walk i c.pages-test.true _ (subst (EnteredPage _ _ _ _) c.in_err-pos.was e.0)) grid n x in
     search rules
 
 pub overflow_add-from : goal.overflow_add-from
@@ -116,11 +116,11 @@ count_elements-requires c =
     page_run i c.pages-test.true (subst (EnteredPage _ _ _ _) (c.in_ok-pos.was ∙ ap Ok c.in-Some-3.is) e.0)
 
 pub returns-in_err-total : goal.returns-in_err-total
-returns-in_err-total c =
+returns-in_err-total c = λ grid n x.
     let i = c.pages.invariant in
-    let x = c.enter_page_in_turn-turn in
-    let e = page_found i c.pages-test.true c.unwrap.ensures x.result.found x.result.ahead x.ensures in
-    let h = page_run_ends i c.pages-test.true (subst (EnteredPage _ _ _ _) (c.in_ok-pos.was ∙ ap Ok c.in-Some-3.is) e.0) _ (sym c.in_err-total.was ∙ c.count_elements.ensures) in
+    let y = c.enter_page_in_turn-turn in
+    let e = page_found i c.pages-test.true c.unwrap.ensures y.result.found y.result.ahead y.ensures in
+    let h = (page_run_ends i c.pages-test.true (subst (EnteredPage _ _ _ _) (c.in_ok-pos.was ∙ ap Ok c.in-Some-3.is) e.0) _ (λ g k z. sym c.in_err-total.was ∙ c.count_elements.ensures g k z)) grid n x in
     search rules
 
 pub overflow_add-total : goal.overflow_add-total
@@ -131,7 +131,7 @@ overflow_add-total c =
     omega (
       arith,
       page_total_fits i c.pages-test.true (subst (EnteredPage _ _ _ _) (c.in_ok-pos.was ∙ ap Ok c.in-Some-3.is) e.0)
-          (sym c.in_ok-total.was ∙ c.count_elements.ensures),
+          (λ g k z. sym c.in_ok-total.was ∙ c.count_elements.ensures g k z),
     )
 
 pub overflow_add-from-in-pages : goal.overflow_add-from-in-pages
@@ -144,7 +144,7 @@ pages-preserved c =
     let x = c.enter_page_in_turn-turn in
     let e = page_found i c.pages-test.true c.unwrap.ensures x.result.found x.result.ahead x.ensures in
     pages_on i c.pages-test.true (subst (EnteredPage _ _ _ _) (c.in_ok-pos.was ∙ ap Ok c.in-Some-3.is) e.0)
-    (sym c.in_ok-total.was ∙ c.count_elements.ensures) c.if-count-from.false e.1
+    (λ g k z. sym c.in_ok-total.was ∙ c.count_elements.ensures g k z) c.if-count-from.false e.1
 
 pub overflow_add-pos : goal.overflow_add-pos
 overflow_add-pos c =
@@ -166,13 +166,13 @@ count_elements-requires-else-in_pages c =
     (subst (EnteredBlock _ _ _) (c.in_ok-at.was ∙ ap Ok c.in-Some-2.is) e.0) (sym c.in_pages.ensures ∙ c.if-in_pages.false) c.block_element_at.ensures
 
 pub returns-in_err-total-2 : goal.returns-in_err-total-2
-returns-in_err-total-2 c =
+returns-in_err-total-2 c = λ grid n x.
     let i = c.blocks-2.invariant in
-    let x = c.enter_block_in_turn-turn in
-    let e = block_found i c.blocks-2-test.true x.result.found x.result.ahead x.ensures in
-    let h = unpaged_ends i c.blocks-2-test.true (opens (goal.at.returns-in_err-total-2 c).Joined-u-directs)
+    let y = c.enter_block_in_turn-turn in
+    let e = block_found i c.blocks-2-test.true y.result.found y.result.ahead y.ensures in
+    let h = (unpaged_ends i c.blocks-2-test.true (opens (goal.at.returns-in_err-total-2 c).Joined-u-directs)
     (subst (EnteredBlock _ _ _) (c.in_ok-at.was ∙ ap Ok c.in-Some-2.is) e.0) (sym c.in_pages.ensures ∙ c.if-in_pages.false) c.block_element_at.ensures _
-    (sym c.in_err-total-2.was ∙ c.count_elements-else-in_pages.ensures) in
+    (λ g k z. sym c.in_err-total-2.was ∙ c.count_elements-else-in_pages.ensures g k z)) grid n x in
     search rules
 
 pub overflow_add-total-else-in_pages : goal.overflow_add-total-else-in_pages
@@ -184,7 +184,7 @@ overflow_add-total-else-in_pages c =
       arith,
       unpaged_fits i c.blocks-2-test.true (opens (goal.at.overflow_add-total-else-in_pages c).Joined-u-directs)
           (subst (EnteredBlock _ _ _) (c.in_ok-at.was ∙ ap Ok c.in-Some-2.is) e.0) (sym c.in_pages.ensures ∙ c.if-in_pages.false) c.block_element_at.ensures
-          (sym c.in_ok-total-2.was ∙ c.count_elements-else-in_pages.ensures),
+          (λ g k z. sym c.in_ok-total-2.was ∙ c.count_elements-else-in_pages.ensures g k z),
     )
 
 pub overflow_add-slot-in-blocks-2 : goal.overflow_add-slot-in-blocks-2
@@ -204,11 +204,11 @@ blocks-2-preserved c =
           let y = w.enter_page_in_turn-turn in
           let d = page_found w.pages.invariant w.pages-test.true w.unwrap.ensures y.result.found y.result.ahead y.ensures in
           blocks_next i lt w.total-is
-          (page_last w.pages.invariant w.pages-test.true (subst (EnteredPage _ _ _ _) (w.in_ok-pos.was ∙ ap Ok w.in-Some-3.is) d.0) (sym w.in_ok-total.was ∙ w.count_elements.ensures) w.if-count-from.true) e.1
+          (page_last w.pages.invariant w.pages-test.true (subst (EnteredPage _ _ _ _) (w.in_ok-pos.was ∙ ap Ok w.in-Some-3.is) d.0) (λ g k z. sym w.in_ok-total.was ∙ w.count_elements.ensures g k z) w.if-count-from.true) e.1
       | else-in_pages+in_ok-total-2 w ↦
           blocks_next i lt w.total-is
           (unpaged_behind i lt (opens (goal.at.blocks-2-preserved c).Joined-u-directs) (subst (EnteredBlock _ _ _) (c.in_ok-at.was ∙ ap Ok c.in-Some-2.is) e.0)
-          (sym c.in_pages.ensures ∙ w.if-in_pages.false) w.block_element_at.ensures (sym w.in_ok-total-2.was ∙ w.count_elements-else-in_pages.ensures)) e.1
+          (sym c.in_pages.ensures ∙ w.if-in_pages.false) w.block_element_at.ensures (λ g k z. sym w.in_ok-total-2.was ∙ w.count_elements-else-in_pages.ensures g k z)) e.1
     ]
 
 pub supers-preserved : goal.supers-preserved

@@ -4,6 +4,7 @@ use mathlib.Core.Path.{◌≡◌, sym, ap, subst, ◌∙◌}
 use mathlib.Core.Bool.{true}
 use mathlib.Core.List.{[]}
 use Rattle.std.proofs.Common.{rules}
+use native.Mathlib.Bridge.{le_prop}
 use native.Mathlib.Omega.{arith}
 use lib.ListN.{length}
 use Rattle.std.specs.Prelude.{Ok}
@@ -13,7 +14,9 @@ use Rattle.refusal.proofs.Tests.{then_inv}
 use Rattle.fields.specs.Fields.{is_width}
 use Rattle.fields.proofs.Fields.{width_passed}
 use Rattle.element_form.specs.Form.{stride}
-use Rattle.elements.specs.Values.{elements_of}
+use Rattle.chunk_grid.specs.Grid.{Grid}
+use Rattle.elements.specs.Values.{elements_of, Reads}
+use Rattle.elements.proofs.Readers.{reads_any}
 use Rattle.elements.specs.Runs.{elements_from}
 use Rattle.ea_header.specs.Values.{Served}
 use Rattle.ea_header.proofs.Served.{tested_serves}
@@ -32,9 +35,9 @@ use Rattle.ea_count.proofs.walk.count_walk.Goals.{After-count_elements, After-in
 use Rattle.ea_count.proofs.walk.count_walk.Goals as goal
 
 pub returns-in_err-test_array : goal.returns-in_err-test_array
-returns-in_err-test_array c =
+returns-in_err-test_array c = λ grid n x.
     let a = c.args in
-    let h = walk_refused (array_of a.file.now a.array) (elements_of a.file.now a.reader.now) _ (sym c.test_array.ensures ∙ c.in_err-test_array.was) in
+    let h = walk_refused (array_of a.file.now a.array) (elements_of a.file.now a.reader.now grid n) _ (sym c.test_array.ensures ∙ c.in_err-test_array.was) in
     search rules
 
 tested : (c : In_ok-test_array) → array_test (array_of c.args.file.now c.args.array) ≡ Ok tt
@@ -64,15 +67,16 @@ room c =
     inline_room (array_of c.args.file.now c.args.array) _ (passed (goal.at.After-inline_element_at c).In_ok-test_array).1 (ap (λ (n : ℕ). c.args.array.index_at + n) (moved c))
 
 -- they are counted
-counts : (c : After-count_elements)
+counts : (c : After-count_elements) (grid : Grid) (n : ℕ)
     → let a = c.args in
-    c.count_elements.result
-    ≡ counted_of (elements_from (elements_of a.file.now a.reader.now) (a.array.index_at + inline_element_at a.array.geometry.parameters a.array.geometry.offset_size 0)
+    Reads a.reader.now grid n
+    → c.count_elements.result
+    ≡ counted_of (elements_from (elements_of a.file.now a.reader.now grid n) (a.array.index_at + inline_element_at a.array.geometry.parameters a.array.geometry.offset_size 0)
     a.array.geometry.parameters.idx_blk_elmts 0 (Ok []))
-counts c =
+counts c grid n r =
     let a = c.args in
-    c.count_elements.ensures
-    ∙ ap (λ (x : ℕ). counted_of (elements_from (elements_of a.file.now a.reader.now) (a.array.index_at + x) a.array.geometry.parameters.idx_blk_elmts 0 (Ok [])))
+    c.count_elements.ensures grid n r
+    ∙ ap (λ (x : ℕ). counted_of (elements_from (elements_of a.file.now a.reader.now grid n) (a.array.index_at + x) a.array.geometry.parameters.idx_blk_elmts 0 (Ok [])))
     (moved (goal.at.After-count_elements c).After-inline_element_at)
 
 pub count_unreadable-requires : goal.count_unreadable-requires
@@ -80,7 +84,7 @@ count_unreadable-requires c =
     (c.requires, sym c.is_width.ensures ∙ c.if-not-is_width.true)
 
 pub returns-then-not-is_width : goal.returns-then-not-is_width
-returns-then-not-is_width c = c.count_unreadable.ensures _ ∙ walk_passed _ _ (tested (goal.at.returns-then-not-is_width c).In_ok-test_array)
+returns-then-not-is_width c = λ grid n x. c.count_unreadable.ensures _ grid n ∙ walk_passed _ _ (tested (goal.at.returns-then-not-is_width c).In_ok-test_array)
 
 pub in_file-pointed-requires : goal.in_file-pointed-requires
 in_file-pointed-requires c =
@@ -95,26 +99,28 @@ count_elements-requires c =
     subst (λ (n : ℕ). c.args.array.index_at + c.inline_element_at.result + c.args.array.geometry.parameters.idx_blk_elmts * n ≤ length c.args.file.now) (ap stride c.requires) (room (goal.at.count_elements-requires c).After-inline_element_at)
 
 pub returns-in_err-n : goal.returns-in_err-n
-returns-in_err-n c =
-    let h = inline_refused _ _ _ (sym c.in_err-n.was ∙ counts (goal.at.returns-in_err-n c).After-count_elements) ∙ walk_passed _ _ (tested (goal.at.returns-in_err-n c).In_ok-test_array) in
+returns-in_err-n c = λ grid n x.
+    let h = inline_refused _ _ _ (sym c.in_err-n.was ∙ counts (goal.at.returns-in_err-n c).After-count_elements grid n x) ∙ walk_passed _ _ (tested (goal.at.returns-in_err-n c).In_ok-test_array) in
     search rules
 
 pub count_blocks-requires : goal.count_blocks-requires
 count_blocks-requires c =
     let n = c.super_blocks.ensures in
     let e = c.in_file-pointed.ensures in
+    let few = reads_any c.args.reader.now le_prop (λ grid m x.
+    count_few (elements_of c.args.file.now c.args.reader.now grid m) _ _ _ _ (sym c.in_ok-n.was ∙ counts (goal.at.count_blocks-requires c).After-count_elements grid m x)) in
     record {
       formed = ap (λ (y : Array). form_of y.parameters y.offset_size) e ∙ c.requires;
-      few = omega (arith, ap (λ (y : Array). first_slot y.parameters 0) e, first_slot_zero c.args.array.geometry.parameters, count_few (elements_of c.args.file.now c.args.reader.now) _ _ _ _ (sym c.in_ok-n.was ∙ counts (goal.at.count_blocks-requires c).After-count_elements));
+      few = omega (arith, ap (λ (y : Array). first_slot y.parameters 0) e, first_slot_zero c.args.array.geometry.parameters, few);
       ordered = omega arith;
       supers = omega (arith, n);
     }
 
 pub returns : goal.returns
-returns c =
+returns c = λ grid n x.
     let a = c.args in
     let e = c.in_file-pointed.ensures in
-    inline_counted _ _ _ (sym c.in_ok-n.was ∙ counts (goal.at.returns c).After-count_elements) (sym (width_passed (OffsetSize _) _ (wide (goal.at.returns c).Else-not-is_width)))
+    inline_counted _ _ _ (sym c.in_ok-n.was ∙ counts (goal.at.returns c).After-count_elements grid n x) (sym (width_passed (OffsetSize _) _ (wide (goal.at.returns c).Else-not-is_width)))
     _ (c.super_blocks.ensures ∙ ap (λ (y : Array). super_blocks y.parameters) e)
-    (subst (λ (y : Array). c.count_blocks.result ≡ plus c.in_ok-n.n (supers_from y (elements_of y.file a.reader.now) (c.super_blocks.result - 0) 0 (first_slot y.parameters 0) (Ok []))) e c.count_blocks.ensures)
+    (subst (λ (y : Array). c.count_blocks.result ≡ plus c.in_ok-n.n (supers_from y (elements_of y.file a.reader.now grid n) (c.super_blocks.result - 0) 0 (first_slot y.parameters 0) (Ok []))) e (c.count_blocks.ensures grid n x))
     ∙ walk_passed _ _ (tested (goal.at.returns c).In_ok-test_array)
