@@ -3,7 +3,7 @@ use Prim.Native.Nat.{ℕ, ◌≤◌}
 use mathlib.Core.Path.{◌≡◌, refl, sym, ◌∙◌}
 use mathlib.Core.List.{List, ◌++◌}
 use native.Mathlib.Omega.{arith}
-use lib.ListN.{length, take, drop, replicate}
+use lib.ListN.{length, take}
 use lib.Seq.{length-take-le, drop_at}
 use Rattle.std.proofs.lemmas.List.{drop-replicate}
 use Rattle.std.specs.Prelude.{Ok}
@@ -68,31 +68,29 @@ number-rotated-requires c =
     let p = part t in
     let s = sizes before.After-limits-limits in
     let e = p c.args.self.now.chunk s.0 in
-    let z = sym (p _ (omega arith)) ∙ e in
-    (z, z, z, sym (p _ (limited before.After-limits-limits)) ∙ e, sym (p _ s.1) ∙ e, rw c.limits-limits.ensures.0 (tests_of c.args.self.now (small t) s ∙ passed t))
+    (sym (p _ (omega arith)) ∙ e, sym (p _ (omega arith)) ∙ e, sym (p _ (omega arith)) ∙ e, sym (p _ (limited before.After-limits-limits)) ∙ e, sym (p _ s.1) ∙ e, rw c.limits-limits.ensures.0 (tests_of c.args.self.now (small t) s ∙ passed t))
 
--- what is made describes the grid
-described : (c : After-number-rotated)
+-- what is made describes the grid, whatever lies behind it
+described : (c : After-number-rotated) (x y z : List ℕ)
     → let k = c.args.self.now in
     let n = c.number-rotated in
-    let rest : List ℕ = drop k.rank (replicate 32 0) in
-    Describes k.rank n.result.0 n.result.1 k.chunk (n.new.counts ++ rest) (n.new.bound ++ rest) (n.new.down ++ rest) (grid_of k)
-described c =
+    Describes k.rank n.result.0 n.result.1 k.chunk (n.new.counts ++ x) (n.new.bound ++ y) (n.new.down ++ z) (grid_of k)
+described c x y z =
     let before = goal.at.After-number-rotated c in
     let t = before.Start in
     let p = part t in
     let k = c.args.self.now in
-    numbering_is k (small t) (sizes before.After-limits-limits) (passed t) _ _ _ _ _ _ _ _ (c.number-rotated.auto.counts ∙ sym (p _ (omega arith)))
+    numbering_is k (small t) (sizes before.After-limits-limits) (passed t) _ _ _ x y z _ _ (c.number-rotated.auto.counts ∙ sym (p _ (omega arith)))
     (c.number-rotated.auto.bound ∙ sym (p _ (omega arith))) (c.number-rotated.auto.down ∙ sym (p _ (omega arith)))
     (none_over k.present k.rank c.limits-limits.ensures.2) (rw c.limits-limits.ensures.0 at c.number-rotated.ensures)
 
 pub invariant_of-result : goal.invariant_of-result
 invariant_of-result c =
-    record { described = ∣ (grid_of c.args.self.now, described (goal.at.invariant_of-result c).After-number-rotated) ∣₁ }
+    record { described = ∣ (grid_of c.args.self.now, described (goal.at.invariant_of-result c).After-number-rotated _ _ _) ∣₁ }
 
 pub returns-clause-numbers : goal.returns-clause-numbers
 returns-clause-numbers c =
-    let d = described (goal.at.returns-clause-numbers c).After-number-rotated in
+    let d = described (goal.at.returns-clause-numbers c).After-number-rotated _ _ _ in
     (refl, d.numbered, d.counted, d.extended)
 
 pub returns-clause-kept : goal.returns-clause-kept
