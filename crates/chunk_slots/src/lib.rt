@@ -59,7 +59,7 @@ fn is_below(corner: &[u64], extents: &[u64]) -> bool
         .all(|(member, extent)| member < extent)
 }
 
-// n / m. (The last multipliers are 1, and a division costs.)
+// n / m. (The last multipliers are 1, behind the place of a slot the rests are small, and a division costs.)
 fn quotient(n: u64, m: u64) -> u64
     requires { 0 < m }
     ensures { result ≡ n / m }
@@ -71,7 +71,13 @@ fn remainder(n: u64, m: u64) -> u64
     requires { 0 < m }
     ensures { result ≡ n % m }
 {
-    if m == 1 { 0 } else { n % m }
+    if n < m {
+        n
+    } else if m == 1 {
+        0
+    } else {
+        n % m
+    }
 }
 
 // The offset of quotient q; 0 where q isn't below its bound.
@@ -159,7 +165,7 @@ pub fn line_from(slot: u64, numbering: &Numbering) -> Line
                 first: rest,
             };
         }
-        rest = rest % *multiplier;
+        rest = remainder(rest, *multiplier);
         slots = slots.min(*multiplier - rest);
     }
     Line {

@@ -48,17 +48,19 @@ returns-then-multiplier-eq1 c = λ g chunk numbers n x h.
     rw (c.min.ensures, c.dim_at-d.ensures)
     (line_at g _ _ chunk _ n numbers _ x _ h c.loop-i.invariant.1 (place d) (one d))
 
-pub nonzero_rem-rest : goal.nonzero_rem-rest
-nonzero_rem-rest c = rw (multiplier_at c.args.numbering.now _ c.loop-i-test.true) (divides c)
+pub remainder-rest-requires : goal.remainder-rest-requires
+remainder-rest-requires c = rw (multiplier_at c.args.numbering.now _ c.loop-i-test.true) (divides (goal.at.remainder-rest-requires c).Else-multiplier-eq1)
 
 pub overflow_sub-multiplier : goal.overflow_sub-multiplier
-overflow_sub-multiplier c = omega (arith, mod-lt c.loop-i.rest (nonzero_rem-rest c))
+overflow_sub-multiplier c =
+    let d = divides (goal.at.overflow_sub-multiplier c).Else-multiplier-eq1 in
+    rw (c.remainder-rest.ensures, multiplier_at c.args.numbering.now _ c.loop-i-test.true) (omega (arith, mod-lt c.loop-i.rest d))
 
 pub loop-i-preserved : goal.loop-i-preserved
 loop-i-preserved c =
     let m = c.args.numbering.now in
     let e = multiplier_at m _ c.loop-i-test.true in
-    rw (c.min-slots.ensures, e) (
+    rw (c.min-slots.ensures, c.remainder-rest.ensures, e) (
       c.loop-i.invariant.0,
       lining_more _ _ _ (arrays_room m).2 c.loop-i.invariant.1 (place_at m _ c.loop-i-test.true) (divides (goal.at.loop-i-preserved c).Else-multiplier-eq1) (λ q. c.if-multiplier-eq1.false (e ∙ q)),
     )
