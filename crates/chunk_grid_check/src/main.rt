@@ -2,7 +2,9 @@
 // Prints what the grids of its input answer: refusals, the numbers of a grid, the offsets of slots, and the slot of a
 // corner. The input is numbers in decimal: how many cases, and each case. A case begins with 0 where its shapes are
 // numbers, else they are bytes; a list is its length and its members.
-ghost use Rattle.std.specs.Prelude.{◌≤◌, length};
+ghost use Rattle.std.specs.Prelude.{◌≡◌, ◌≤◌, length, Ok};
+ghost use Rattle.chunk_grid.specs.Grid.{grid_test};
+ghost use Rattle.chunk_grid.specs.Values.{grid_of};
 
 use check_lines::{list, number, print_first, print_numbers, print_refusal};
 use chunk_grid::numbering::Numbering;
@@ -52,7 +54,9 @@ fn print_slots(rt: &impl Print, from: u64, to: u64, numbering: &Numbering) -> io
 }
 
 // A corner's refusal, its slot, or none.
-fn print_corner(rt: &impl Print, corner: &[u64], numbering: &Numbering) -> io::Result<()> {
+fn print_corner(rt: &impl Print, corner: &[u64], numbering: &Numbering) -> io::Result<()>
+    requires { grid_test (grid_of numbering.now.grid.now) ≡ Ok tt }
+{
     print!(rt; "  corner")?;
     print_numbers(rt, corner)?;
     print!(rt; ":")?;
