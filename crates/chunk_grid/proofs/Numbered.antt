@@ -6,7 +6,7 @@ use mathlib.Core.List.{List, [], ◌∷◌, ◌++◌}
 use native.Mathlib.Omega.{arith}
 use borrow.Author.Tests.{le-ltb}
 use lib.ListN.{length, get_or, take, drop}
-use lib.Seq.{length-take-le, take_all, take_at}
+use lib.Seq.{length-take-le, take_all, take_at, drop_at}
 use Rattle.std.specs.Prelude.{Err, None, Ok, Option, Some}
 use Rattle.std.specs.Option.{IfSome, IsSomeAnd, MatchOption, is_some, unwrap_or, option_copied}
 use Rattle.std.proofs.Common.{Bor}
@@ -169,10 +169,13 @@ module _ (k : ChunkGrid) (small : k.rank ≤ 32) (sizes : (length k.chunk ≡ 32
       → overflows (take k.rank k.present) ≡ false
       → Made (is_unlimited_first k.order) (take k.rank (unwrap_or k.maximum k.present)) (take k.rank k.present) (take k.rank k.chunk) rotated numbers a b d
       → Describes k.rank rotated numbers k.chunk (a ++ x) (b ++ y) (d ++ z) (grid_of k)
+      × ((drop k.rank (a ++ x) ≡ x) × (drop k.rank (b ++ y) ≡ y) × (drop k.rank (d ++ z) ≡ z))
   unfolding grid_of given
-  numbering_is passed a b d x y z rotated numbers la lb ld fit m =
-      made_of (grid_of k) k.chunk (a ++ x) (b ++ y) (d ++ z) rotated numbers passed refl fit
-      (rw (take_at a x k.rank la, take_at b y k.rank lb, take_at d z k.rank ld) (rw (← limits_are) at m))
+  numbering_is passed a b d x y z rotated numbers la lb ld fit m = (
+    made_of (grid_of k) k.chunk (a ++ x) (b ++ y) (d ++ z) rotated numbers passed refl fit
+        (rw (take_at a x k.rank la, take_at b y k.rank lb, take_at d z k.rank ld) (rw (← limits_are) at m)),
+    (drop_at a x k.rank la, drop_at b y k.rank lb, drop_at d z k.rank ld),
+  )
 
 -- For the shapes that are given.
 module _ (rank : ℕ) (chunk present : List ℕ) (m : Option (List ℕ)) (o : GridOrder) (e : Ok tt ≡ shapes_test (given rank chunk present (is_some m) (unwrap_or m []) o)) where

@@ -4,7 +4,7 @@ ghost use Rattle.chunk_grid.specs.Values.{Describes};
 
 use crate::ChunkGrid;
 
-// A grid's chunk, and what the slots are numbered by. (Made once for many slots.)
+// What the slots of a grid are numbered by. Its rank and its chunk are those of `grid`. (Made once for many slots.)
 #[derive(Clone, Copy)]
 pub struct Numbering<'a> {
     pub grid: &'a ChunkGrid,
@@ -17,7 +17,7 @@ pub struct Numbering<'a> {
     pub bound: [u64; 32],
     // The multipliers, in the grid's order.
     pub down: [u64; 32],
-    // They are the numbers of some grid that passes its test, which may have extents that 64 bits don't hold.
+    // Some grid that passes its test has these numbers. (Its extents may be such that 64 bits don't hold.)
     pub ghost described: { ∥ ((g : Grid)
         × Describes grid.now.rank rotated numbers grid.now.chunk counts bound down g) ∥₁ },
 }

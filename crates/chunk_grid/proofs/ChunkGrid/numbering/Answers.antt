@@ -3,8 +3,8 @@ use Prim.Native.Nat.{ℕ, ◌≤◌}
 use mathlib.Core.Path.{◌≡◌, refl, sym, ◌∙◌}
 use mathlib.Core.List.{List, ◌++◌}
 use native.Mathlib.Omega.{arith}
-use lib.ListN.{length, take}
-use lib.Seq.{length-take-le, drop_at}
+use lib.ListN.{length, take, drop}
+use lib.Seq.{length-take-le}
 use Rattle.std.proofs.lemmas.List.{drop-replicate}
 use Rattle.std.specs.Prelude.{Ok}
 use Rattle.std.specs.Option.{IfSome}
@@ -70,11 +70,12 @@ number-rotated-requires c =
     let e = p c.args.self.now.chunk s.0 in
     (sym (p _ (omega arith)) ∙ e, sym (p _ (omega arith)) ∙ e, sym (p _ (omega arith)) ∙ e, sym (p _ (limited before.After-limits-limits)) ∙ e, sym (p _ s.1) ∙ e, rw c.limits-limits.ensures.0 (tests_of c.args.self.now (small t) s ∙ passed t))
 
--- what is made describes the grid, whatever lies behind it
+-- what is made describes the grid, whatever lies behind it, and that is kept
 described : (c : After-number-rotated) (x y z : List ℕ)
     → let k = c.args.self.now in
     let n = c.number-rotated in
     Describes k.rank n.result.0 n.result.1 k.chunk (n.new.counts ++ x) (n.new.bound ++ y) (n.new.down ++ z) (grid_of k)
+    × ((drop k.rank (n.new.counts ++ x) ≡ x) × (drop k.rank (n.new.bound ++ y) ≡ y) × (drop k.rank (n.new.down ++ z) ≡ z))
 described c x y z =
     let before = goal.at.After-number-rotated c in
     let t = before.Start in
@@ -86,23 +87,18 @@ described c x y z =
 
 pub invariant_of-result : goal.invariant_of-result
 invariant_of-result c =
-    record { described = ∣ (grid_of c.args.self.now, described (goal.at.invariant_of-result c).After-number-rotated _ _ _) ∣₁ }
+    record { described = ∣ (grid_of c.args.self.now, (described (goal.at.invariant_of-result c).After-number-rotated _ _ _).0) ∣₁ }
 
 pub returns-clause-numbers : goal.returns-clause-numbers
 returns-clause-numbers c =
-    let d = described (goal.at.returns-clause-numbers c).After-number-rotated _ _ _ in
+    let d = (described (goal.at.returns-clause-numbers c).After-number-rotated _ _ _).0 in
     (refl, d.numbered, d.counted, d.extended)
 
 pub returns-clause-kept : goal.returns-clause-kept
 returns-clause-kept c =
-    let before = goal.at.returns-clause-kept c in
-    let p = part before.Start in
-    let n = c.number-rotated.auto in
-    let r = c.args.self.now.rank in (
-      drop_at _ _ r (n.counts ∙ sym (p _ (omega arith))) ∙ drop-replicate r 32 0,
-      drop_at _ _ r (n.bound ∙ sym (p _ (omega arith))) ∙ drop-replicate r 32 0,
-      drop_at _ _ r (n.down ∙ sym (p _ (omega arith))) ∙ drop-replicate r 32 0,
-    )
+    let k = (described (goal.at.returns-clause-kept c).After-number-rotated _ _ _).1 in
+    let r = c.args.self.now.rank in
+    (k.0 ∙ drop-replicate r 32 0, k.1 ∙ drop-replicate r 32 0, k.2 ∙ drop-replicate r 32 0)
 
 pub shared_ref_as_front-number : goal.shared_ref_as_front-number
 shared_ref_as_front-number c = small (goal.at.shared_ref_as_front-number c).Start
