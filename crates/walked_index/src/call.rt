@@ -49,7 +49,11 @@ pub fn list_at<I: HeadedIndex>(call: &Call, list: &mut [u8]) -> Result<u64, Refu
         × ((n : ℕ) → result ≡ Ok n → 0 < call.now.rank
         → ExactList (index_of (I.located i given.file e)) (records_in call.now.rank n list.new) n) }
 {
-    let index = I::read(call.file, call.address, call.offset_size, call.length_size)?;
+    // (By match: what a refused header is answered stands by itself.)
+    let index = match I::read(call.file, call.address, call.offset_size, call.length_size) {
+        Ok(index) => index,
+        Err(refusal) => return Err(refusal),
+    };
     let grid = call.read_grid()?;
     list_chunks(call.file, index, grid, call.element_bytes, list)
 }
