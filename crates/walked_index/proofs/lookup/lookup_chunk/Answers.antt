@@ -8,7 +8,7 @@ use Rattle.index.specs.declared.Entry.{Entry}
 use Rattle.refusal.specs.Refusals.{largest64, Outcome}
 use Rattle.refusal.specs.Outcome.{◌yields◌}
 use Rattle.refusal.specs.declared.Refusal.{Refusal}
-use Rattle.chunk_grid.specs.Grid.{Grid, grid_test, corner_test, slot_of}
+use Rattle.chunk_grid.specs.Grid.{grid_test, corner_test, slot_of}
 use Rattle.chunk_grid.specs.Values.{grid_of}
 use Rattle.elements.specs.Elements.{Elements}
 use Rattle.elements.specs.Values.{found_of}
