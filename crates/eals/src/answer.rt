@@ -55,12 +55,7 @@ fn list_chunks(
 }
 
 // Puts the text of an answer into out, and answers where it ends.
-fn put_counted(
-    out: &mut [u8],
-    list: &[u8],
-    counted: Result<u64, Refusal>,
-    rank: usize,
-) -> usize
+fn put_counted(out: &mut [u8], list: &[u8], counted: Result<u64, Refusal>, rank: usize) -> usize
     requires { (records_counted counted * record_length rank ≤ length list.now) × (length list.now ≡ 65536)
         × (262173 ≤ length out.old) }
     ensures put { Put out.old 0 (counted_text rank counted list.now) out.new result }
