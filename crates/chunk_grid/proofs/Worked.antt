@@ -1,13 +1,15 @@
--- Worked examples of a grid: chunk 10 by 5, maximum 20 by unlimited, whatever the present extents. Assumes nothing.
-use Prim.Native.Nat.{ℕ}
+-- Worked examples of grids. Assumes nothing.
+use Prim.Native.Nat.{ℕ, ◌^◌}
 use mathlib.Core.Path.{◌≡◌, refl}
 use mathlib.Core.Bool.{Bool, true, false}
-use mathlib.Core.List.{[], ◌∷◌}
+use mathlib.Core.List.{List, [], ◌∷◌}
 use Rattle.std.specs.Prelude.{Err, Ok, Some}
 use Rattle.refusal.specs.declared.Refusal.TheVariants.{Unlimited}
 use Rattle.refusal.specs.Refusals.{largest64, refuse, ◌then◌}
-use Rattle.chunk_grid.specs.Grid.{Grid, pairwise, every, any, ceil_div, count_of, counts, first_unlimited, leading_in, leading, to_front, from_front, ordered, multiplier, multipliers, has_zero, quotients, offsets, below, total, slot_from, slot_of, shapes_test, multiplier_test, product_test, grid_test}
+use Rattle.chunk_grid.specs.Grid.{Grid, pairwise, every, any, ceil_div, count_of, counts, first_unlimited, leading_in, leading, to_front, from_front, ordered, multiplier, multipliers, has_zero, numbers_nothing, quotients, offsets, overflows, below, total, slot_from, slot_of, shapes_test, multiplier_test, product_test, grid_test}
+use Rattle.chunk_grid.specs.Values.{Describes}
 
+-- chunk 10 by 5, maximum 20 by unlimited, whatever the present extents
 abbrev pub twenty : Bool → ℕ → ℕ → Grid
 twenty unlimited_first rows columns = record {
   rank = 2;
@@ -28,3 +30,26 @@ order_U rows columns = (refl, refl, refl)
 pub order_R : (rows columns : ℕ) → grid_test (twenty false rows columns) ≡ Err Unlimited
 unfolding refuse ◌then◌ pairwise any ceil_div count_of counts first_unlimited leading_in leading to_front ordered multiplier has_zero shapes_test multiplier_test product_test grid_test
 order_R rows columns = refl
+
+-- A maximum that 64 bits don't hold: they hold the numbers of this grid all the same, and a numbering may be of it.
+abbrev pub tall : Grid
+tall = record {
+  rank = 2;
+  chunk = 1 ∷ (2 ^ 40) ∷ [];
+  present = 1 ∷ (2 ^ 41) ∷ [];
+  has_maximum = true;
+  maximum = 1 ∷ (2 ^ 70) ∷ [];
+  unlimited_first = false;
+}
+
+pub tall_numbers : (c n b d : List ℕ) → Describes 2 0 true (1 ∷ (2 ^ 40) ∷ c) (1 ∷ (2 ^ 30) ∷ n) (1 ∷ 2 ∷ b) ((2 ^ 30) ∷ 1 ∷ d) tall
+unfolding refuse ◌then◌ pairwise every any ceil_div count_of counts first_unlimited leading_in leading to_front ordered multiplier multipliers has_zero numbers_nothing overflows shapes_test multiplier_test product_test grid_test
+tall_numbers c n b d = record {
+  numbered = record { built = refl; ranked = refl; leads = refl; chunks = refl; downs = refl };
+  counted = refl;
+  extended = record { numbering = refl; bounds = refl; fits = refl };
+}
+
+pub tall_slot : slot_of tall (0 ∷ (2 ^ 40) ∷ []) ≡ Some 1
+unfolding pairwise every ceil_div count_of counts first_unlimited leading_in leading to_front ordered multiplier multipliers below total slot_from slot_of
+tall_slot = refl
