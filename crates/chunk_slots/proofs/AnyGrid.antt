@@ -2,12 +2,12 @@
 use Prim.Native.Nat.{ℕ, ◌-◌, ◌*◌, ◌<◌, ◌≤◌}
 use mathlib.Core.Path.{◌≡◌}
 use native.Mathlib.Bridge.{le_prop}
+use native.Mathlib.Nat.{ℕ_set}
 use lib.ListN.{length, get_or, take}
-use lib.Seq.{get_or-take}
 use Rattle.refusal.specs.Refusals.{largest64}
 use Rattle.chunk_grid.specs.declared.numbering.Numbering.{Numbering}
 use Rattle.chunk_grid.proofs.Numberings.{of_any}
-use Rattle.chunk_slots.proofs.Extents.{small, leads, rooms, bound_room, chunk_pos, down_pos, offset_fits, place_at as at_place, place_end as at_end}
+use Rattle.chunk_slots.proofs.Extents.{small, leads, rooms, bound_room, chunk_pos, down_pos, offset_fits, place_at as at_place, place_end as at_end, down_at}
 
 module _ (m : Numbering) where
   abbrev rank : ℕ
@@ -43,4 +43,4 @@ module _ (m : Numbering) where
   place_end i h = of_any m le_prop (λ g n k x. at_end g _ _ _ _ n i h)
 
   pub multiplier_at : (i : ℕ) → i < length (take rank m.down) → get_or (take rank m.down) i 0 ≡ get_or m.down i 0
-  multiplier_at i h = get_or-take rank m.down i 0 (place_at i h)
+  multiplier_at i h = of_any m (ℕ_set _ _) (λ g n k x. down_at g _ _ _ _ n i h)
