@@ -17,6 +17,7 @@ pub enum Step {
 
 // What n elements from pos on begin with, whose slots, from `slot` on, lie below the published count. (The array is
 // lent for the offsets of a line's first slot.)
+#[inline(always)]
 pub fn step_from(
     offsets: &mut [u64; 32],
     file: &[u8],

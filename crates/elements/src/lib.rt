@@ -63,6 +63,7 @@ impl<'a> ElementReader<'a> {
     }
 
     // The offsets of a slot into the lent array, and whether they lie in the present extents.
+    #[inline(always)]
     pub fn reach(&self, offsets: &mut [u64; 32], slot: u64) -> Result<bool, Refusal>
         ensures { let m = self.now.numbering.now in
             (grid : Grid) → NumbersOf m grid → ExtentsOf m grid
