@@ -59,7 +59,7 @@ fn is_below(corner: &[u64], extents: &[u64]) -> bool
         .all(|(member, extent)| member < extent)
 }
 
-// n / m. (The last multipliers are 1, behind the place of a slot the rests are small, and a division costs.)
+// n / m. (The last multipliers are 1, and a division costs.)
 fn quotient(n: u64, m: u64) -> u64
     requires { 0 < m }
     ensures { result ≡ n / m }
@@ -67,6 +67,7 @@ fn quotient(n: u64, m: u64) -> u64
     if m == 1 { n } else { n / m }
 }
 
+// n % m. (Behind the leading places a rest is mostly below the multiplier already.)
 fn remainder(n: u64, m: u64) -> u64
     requires { 0 < m }
     ensures { result ≡ n % m }
