@@ -104,6 +104,7 @@ fn offset_overflows(q: u64, length: u64, bound: u64) -> bool
 // The offsets of a slot into the lent array, and whether they lie in the present extents: 32 where the grid numbers
 // nothing, 33 where one passes 2^64 - 1. (For every element: an array is lent, and quotients are compared with bounds
 // that are made once.)
+#[inline(always)]
 pub fn offsets_in_extent(
     offsets: &mut [u64; 32],
     slot: u64,
